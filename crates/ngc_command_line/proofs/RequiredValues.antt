@@ -289,7 +289,8 @@ report_sound =
     let margin = set_is_sound FitsCuts _ refl refl refl (λ v none. no_cuts (codes "margin") v refl) in
     let from_travel = set_is_sound FitsCuts _ refl refl refl (λ v none. no_cuts (codes "travel-margin") v refl) in
     let rapids = set_is_sound FitsCuts _ refl refl refl (λ v none. no_cuts (codes "rapids") v refl) in
-    (machine, (tools, (program, (cuts, (all, (json, (origin, (margin, (from_travel, (rapids, (help_is_sound FitsCuts _ refl refl, tt)))))))))))
+    let dialect = set_is_sound FitsCuts _ refl refl refl (λ v none. no_cuts (codes "dialect") v refl) in
+    (machine, (tools, (program, (cuts, (all, (json, (origin, (margin, (from_travel, (rapids, (dialect, (help_is_sound FitsCuts _ refl refl, tt))))))))))))
 
 report_values : (words : List Text) → level_fault report_shape [] nothing_held words false [] ≡ [] → HasReportValues (rows_after report_shape.rules [] words)
 report_values words none =

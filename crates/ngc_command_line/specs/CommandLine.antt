@@ -127,13 +127,13 @@ show_app = fold with_rule (new_app (codes "show"))
     (required_file (codes "machine") ∷ file_option (codes "tools") ∷ flag (codes "warnings") ∷ [])
 
 -- `report --machine FILE --tools FILE [--program FILE] [--cuts N] [--all] [--json]
--- [--origin SYSTEM=X,Y,Z].. ..`
+-- [--origin SYSTEM=X,Y,Z].. .. [--dialect NAME]`
 abbrev pub report_app : App
 report_app = fold with_rule (new_app (codes "report"))
     (required_file (codes "machine") ∷ required_file (codes "tools")
     ∷ file_option (codes "program") ∷ cuts_option ∷ flag (codes "all") ∷ flag (codes "json")
     ∷ origin_option ∷ margin_option
-    ∷ travel_margin_option ∷ rapids_option ∷ [])
+    ∷ travel_margin_option ∷ rapids_option ∷ dialect_option ∷ [])
 
 -- `place --machine FILE --tools FILE [--program FILE] [--system SYSTEM] [--cuts N] [--json]
 -- [--origin SYSTEM=X,Y,Z].. ..`

@@ -231,6 +231,7 @@ pub record AreReportOptions (rows : List Row) (options : ReportOptions) : Type 0
   pub cuts : AreCuts (first_of (codes "cuts") rows) options.cuts
   pub all : options.all ≡ is_set (codes "all") rows
   pub json : options.json ≡ is_set (codes "json") rows
+  pub dialect : option_map (λ name. name.now) options.dialect ≡ first_of (codes "dialect") rows
   pub changes : changes_in rows ≡ Some options.changes
 
 -- each option of `place` by the first value that was found under its own name
@@ -460,7 +461,7 @@ IsReportRequest machine tools program cuts all json (ToReport report) =
     (report.machine.now ≡ machine) × (report.tools.now ≡ tools)
     × (option_map (λ name. name.now) report.program ≡ program)
     × (report.cuts ≡ unwrap_or cuts 8) × (report.all ≡ all) × (report.json ≡ json)
-    × (report.changes ≡ no_changes)
+    × (report.changes ≡ no_changes) × (option_map (λ name. name.now) report.dialect ≡ None)
 IsReportRequest machine tools program cuts all json other = ⊥
 
 -- `place` is requested, with these options, by default 8 cuts, and no key is replaced

@@ -5,8 +5,8 @@ ghost use Rattle.clap.specs.Words.{found_of, rows_of};
 ghost use Rattle.ngc_command_line.specs.Meant.{AreReportOptions, HasReportValues, changes_in};
 
 use crate::arguments::{
-    CUTS, MARGIN, ORIGIN, PROGRAM, RAPIDS, REQUIRED_MACHINE, REQUIRED_TOOLS, TRAVEL_MARGIN,
-    flag_is_set, help_end, required,
+    CUTS, DIALECT, MARGIN, ORIGIN, PROGRAM, RAPIDS, REQUIRED_MACHINE, REQUIRED_TOOLS,
+    TRAVEL_MARGIN, flag_is_set, help_end, required,
 };
 use crate::certify::cuts_of;
 use crate::options::ReportOptions;
@@ -48,6 +48,7 @@ pub(crate) static REPORT: SubcommandRow<'static> = SubcommandRow {
         MARGIN,
         TRAVEL_MARGIN,
         RAPIDS,
+        DIALECT,
     ],
 };
 
@@ -64,5 +65,6 @@ pub(crate) fn report_options<'a>(found: &ArgMatches<'a>, changes: Changes) -> Re
         all: flag_is_set(found, "all"),
         json: flag_is_set(found, "json"),
         changes,
+        dialect: found.get_str("dialect"),
     }
 }

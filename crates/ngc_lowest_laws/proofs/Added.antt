@@ -278,25 +278,25 @@ from_none : (x : LowestTip) (more : List LowestTip) → IsAmong x [] ⊎ IsAmong
 from_none x more (inl h) = absurd h
 from_none x more (inr h) = h
 
-tips_next : (tools : List Tool) (start : Frame) (changes : List FrameChange) (tool : Option Tool) (tips : List LowestTip) (o : Option LowestTip) (cs : List Command)
-    → ((ts : List LowestTip) → tips_from tools start changes tool ts cs ≡ all_added ts (heights_from tools start changes tool cs))
-    → tips_from tools start changes tool (with_tip tips o) cs ≡ all_added tips (cons_option o (heights_from tools start changes tool cs))
-tips_next tools start changes tool tips None cs f = f tips
-tips_next tools start changes tool tips (Some new) cs f =
-    ap (λ (ts : List LowestTip). tips_from tools start changes tool ts cs) (with_is tips new) ∙ f (added tips new)
+tips_next : (tools : List Tool) (start : Frame) (changes : List FrameChange) (k : ℕ) (tool : Option Tool) (tips : List LowestTip) (o : Option LowestTip) (cs : List Command)
+    → ((ts : List LowestTip) → tips_from tools start changes k tool ts cs ≡ all_added ts (heights_from tools start changes k tool cs))
+    → tips_from tools start changes k tool (with_tip tips o) cs ≡ all_added tips (cons_option o (heights_from tools start changes k tool cs))
+tips_next tools start changes k tool tips None cs f = f tips
+tips_next tools start changes k tool tips (Some new) cs f =
+    ap (λ (ts : List LowestTip). tips_from tools start changes k tool ts cs) (with_is tips new) ∙ f (added tips new)
 
-tips_are : (tools : List Tool) (start : Frame) (changes : List FrameChange) (cs : List Command) (tool : Option Tool) (tips : List LowestTip)
-    → tips_from tools start changes tool tips cs ≡ all_added tips (heights_from tools start changes tool cs)
-tips_are tools start changes [] tool tips = refl
-tips_are tools start changes (c ∷ cs) tool tips =
-    tips_next tools start changes (tool_after tool c.action) tips (tip_of tools (frame_at start changes c.line) tool c.line c.action) cs
-    (λ ts. tips_are tools start changes cs (tool_after tool c.action) ts)
+tips_are : (tools : List Tool) (start : Frame) (changes : List FrameChange) (cs : List Command) (k : ℕ) (tool : Option Tool) (tips : List LowestTip)
+    → tips_from tools start changes k tool tips cs ≡ all_added tips (heights_from tools start changes k tool cs)
+tips_are tools start changes [] k tool tips = refl
+tips_are tools start changes (c ∷ cs) k tool tips =
+    tips_next tools start changes (k + 1) (tool_after tool c.action) tips (tip_of tools (frame_at start changes k) tool c.line c.action) cs
+    (λ ts. tips_are tools start changes cs (k + 1) (tool_after tool c.action) ts)
 
 -- the lowest heights of a program
 pub lowest_of_each : LowestOfEach
 lowest_of_each tools start changes commands =
-    let heights = heights_from tools start changes None commands in
-    let e : lowest_tips tools start changes commands ≡ all_added [] heights = tips_are tools start changes commands None [] in
+    let heights = heights_from tools start changes 0 None commands in
+    let e : lowest_tips tools start changes commands ≡ all_added [] heights = tips_are tools start changes commands 0 None [] in
     record {
       found = λ l h. from_none l heights (all_found l heights [] (subst (IsAmong l) e h));
       least = λ t h. ap (λ (ts : List LowestTip). reaches ts t) e ∙ all_reached heights [] t h;

@@ -1,5 +1,5 @@
 -- What the lowest heights of a program are, without the order in which they are found. Our own.
-use Rattle.std.specs.Prelude.{◌≡◌, ◌⊎◌, ℕ, ◌&&◌, not, int_lt, Bool, true, List, [], ◌∷◌, Option, None}
+use Rattle.std.specs.Prelude.{◌≡◌, ◌⊎◌, ℕ, ◌+◌, ◌&&◌, not, int_lt, Bool, true, List, [], ◌∷◌, Option, None}
 use Rattle.std.specs.List.{list_any, cons_option}
 use Rattle.ngc_commands.specs.declared.command.Command.{Command}
 use Rattle.ngc_frames.specs.InForce.{frame_at}
@@ -9,13 +9,13 @@ use Rattle.ngc_machine_files.specs.declared.tools.Tool.{Tool}
 use Rattle.ngc_lowest_tips.specs.Tips.{tool_after, tip_of, is_same_pair, lowest_tips}
 use Rattle.ngc_lowest_tips.specs.declared.tip.LowestTip.{LowestTip}
 
--- the lowest height of each motion, with its coordinate system, tool and line
-abbrev pub heights_from : List Tool → Frame → List FrameChange → Option Tool → List Command →
+-- the lowest height of each motion from command k on, with its coordinate system, tool and line
+abbrev pub heights_from : List Tool → Frame → List FrameChange → ℕ → Option Tool → List Command →
     List LowestTip
-heights_from tools start changes tool [] = []
-heights_from tools start changes tool (c ∷ cs) =
-    cons_option (tip_of tools (frame_at start changes c.line) tool c.line c.action)
-    (heights_from tools start changes (tool_after tool c.action) cs)
+heights_from tools start changes k tool [] = []
+heights_from tools start changes k tool (c ∷ cs) =
+    cons_option (tip_of tools (frame_at start changes k) tool c.line c.action)
+    (heights_from tools start changes (k + 1) (tool_after tool c.action) cs)
 
 -- x is in a list
 abbrev pub IsAmong : LowestTip → List LowestTip → Type 0
@@ -41,5 +41,5 @@ pub record AreLowest (heights lowest : List LowestTip) : Type 0 where
 abbrev pub LowestOfEach : Type 0
 LowestOfEach =
     (tools : List Tool) (start : Frame) (changes : List FrameChange) (commands : List Command)
-    → AreLowest (heights_from tools start changes None commands)
+    → AreLowest (heights_from tools start changes 0 None commands)
     (lowest_tips tools start changes commands)

@@ -1,6 +1,6 @@
 -- The lowest heights of a program's commands, one for each coordinate system and mounted tool. Our
 -- own.
-use Rattle.std.specs.Prelude.{ℕ, ◌==◌, nat_lt, ℤ, pos, ◌-ℤ◌, int_lt, unsigned_abs, List, [], ◌∷◌}
+use Rattle.std.specs.Prelude.{ℕ, ◌+◌, ◌==◌, nat_lt, ℤ, pos, ◌-ℤ◌, int_lt, unsigned_abs, List, [], ◌∷◌}
 use Rattle.std.specs.Prelude.{◌++◌, find, slice_index_or, slice_set}
 use Rattle.std.specs.Prelude.{Option, Some, None, Bool, true, false, ◌&&◌, ◌||◌, if◌then◌else◌}
 use Rattle.std.specs.List.{position}
@@ -86,14 +86,15 @@ with_tip tips (Some new) = with_new tips new
 
 -- ---- of all commands
 
--- the lowest after more commands, where this tool is mounted and these were the lowest before them
-abbrev pub tips_from : List Tool → Frame → List FrameChange → Option Tool → List LowestTip →
+-- the lowest after the commands from command k on, where this tool is mounted and these were the
+-- lowest before them
+abbrev pub tips_from : List Tool → Frame → List FrameChange → ℕ → Option Tool → List LowestTip →
     List Command → List LowestTip
-tips_from tools start changes tool tips [] = tips
-tips_from tools start changes tool tips (c ∷ cs) =
-    tips_from tools start changes (tool_after tool c.action)
-    (with_tip tips (tip_of tools (frame_at start changes c.line) tool c.line c.action)) cs
+tips_from tools start changes k tool tips [] = tips
+tips_from tools start changes k tool tips (c ∷ cs) =
+    tips_from tools start changes (k + 1) (tool_after tool c.action)
+    (with_tip tips (tip_of tools (frame_at start changes k) tool c.line c.action)) cs
 
 -- the lowest of a program's commands, where the program has these frames, and this is the tool table
 abbrev pub lowest_tips : List Tool → Frame → List FrameChange → List Command → List LowestTip
-lowest_tips tools start changes commands = tips_from tools start changes None [] commands
+lowest_tips tools start changes commands = tips_from tools start changes 0 None [] commands

@@ -86,20 +86,22 @@ fn tip_of(
     }
 }
 
+// Returns the lowest height of a command, counted from 0, with a mounted tool.
 fn tip_at<A: Allocator>(
     tools: &[Tool],
     history: &FrameHistory<A>,
     walk: &mut FrameWalk,
     tool: &Option<Tool>,
+    index: usize,
     command: &Command,
 ) -> Option<LowestTip>
     requires { WalksOver history.now.start history.now.changes.items walk.old }
     ensures value { result ≡ tip_of tools.now
-        (frame_at history.now.start history.now.changes.items command.now.line) tool.now
+        (frame_at history.now.start history.now.changes.items index) tool.now
         command.now.line command.now.action }
     ensures walk { WalksOver history.now.start history.now.changes.items walk.new }
 {
-    let frame = walk.in_force(history, command.line);
+    let frame = walk.in_force(history, index);
     tip_of(tools, &frame.frame, tool, command.line, &command.action)
 }
 
@@ -163,8 +165,8 @@ pub fn lowest_tips<A: Allocator + Copy>(
     let mut walk = FrameWalk::start(history);
     let mut tool = None;
     let mut tips = Vec::new(alloc);
-    for command in commands {
-        let tip = tip_at(tools, history, &mut walk, &tool, command);
+    for (index, command) in commands.iter().enumerate() {
+        let tip = tip_at(tools, history, &mut walk, &tool, index, command);
         match add_tip(&mut tips, &tip) {
             Ok(()) => tool = tool_after(tool, &command.action),
             Err(fault) => return Err(fault),

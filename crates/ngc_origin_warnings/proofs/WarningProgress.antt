@@ -37,10 +37,10 @@ stopped old mid new whole before left text told rest splits is h k =
 pub next_command : (form : Form) (m : MachineFile) (low : ℤ) (start : Frame) (changes : List FrameChange) (warned : List (Option ℕ)) (cs : List Command)
     (i : ℕ) (c : Command)
     → i < length cs → c ≡ get_or cs i c
-    → warnings_from form m low start changes warned (drop i cs)
-    ≡ warning_text form c.line (new_origin m low start changes warned c)
-    ++ warnings_from form m low start changes (with_warned warned (new_origin m low start changes warned c)) (drop (i + 1) cs)
+    → warnings_from form m low start changes warned i (drop i cs)
+    ≡ warning_text form c.line (new_origin m low start changes warned i c)
+    ++ warnings_from form m low start changes (with_warned warned (new_origin m low start changes warned i c)) (i + 1) (drop (i + 1) cs)
 next_command form m low start changes warned cs i c inside found =
-    ap (warnings_from form m low start changes warned) (drop_more cs i c inside)
-    ∙ ap (λ (x : Command). warning_text form x.line (new_origin m low start changes warned x)
-    ++ warnings_from form m low start changes (with_warned warned (new_origin m low start changes warned x)) (drop (i + 1) cs)) (sym found)
+    ap (warnings_from form m low start changes warned i) (drop_more cs i c inside)
+    ∙ ap (λ (x : Command). warning_text form x.line (new_origin m low start changes warned i x)
+    ++ warnings_from form m low start changes (with_warned warned (new_origin m low start changes warned i x)) (i + 1) (drop (i + 1) cs)) (sym found)

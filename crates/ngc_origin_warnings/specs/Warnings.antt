@@ -1,5 +1,5 @@
 -- Which commands of a program are warned of. Our own.
-use Rattle.std.specs.Prelude.{ℕ, ◌==◌, ℤ, List, [], ◌∷◌, ◌++◌, replicate, slice_index_or}
+use Rattle.std.specs.Prelude.{ℕ, ◌+◌, ◌==◌, ℤ, List, [], ◌∷◌, ◌++◌, replicate, slice_index_or}
 use Rattle.std.specs.Prelude.{slice_set, Option, Some, None, Bool, false, if◌then◌else◌}
 use Rattle.ngc_commands.specs.declared.command.Command.{Command}
 use Rattle.ngc_frames.specs.InForce.{frame_in_force}
@@ -33,23 +33,23 @@ abbrev pub with_warned : List (Option ℕ) → Option Origin → List (Option �
 with_warned warned None = warned
 with_warned warned (Some o) = slice_set warned (index o.system) (Some o.line)
 
--- the origin for which a command is warned of, after these warnings
-abbrev pub new_origin : MachineFile → ℤ → Frame → List FrameChange → List (Option ℕ) → Command →
+-- the origin for which command k is warned of, after these warnings
+abbrev pub new_origin : MachineFile → ℤ → Frame → List FrameChange → List (Option ℕ) → ℕ → Command →
     Option Origin
-new_origin m low start changes warned c =
-    if_new warned (origin_of m low (frame_in_force start changes c.line) c.action)
+new_origin m low start changes warned k c =
+    if_new warned (origin_of m low (frame_in_force start changes k) c.action)
 
--- the warnings of commands, where the program has these frames
+-- the warnings of the commands from command k on, where the program has these frames
 abbrev pub warnings_from : Form → MachineFile → ℤ → Frame → List FrameChange →
-    List (Option ℕ) → List Command → List ℕ
-warnings_from form m low start changes warned [] = []
-warnings_from form m low start changes warned (c ∷ cs) =
-    warning_text form c.line (new_origin m low start changes warned c)
+    List (Option ℕ) → ℕ → List Command → List ℕ
+warnings_from form m low start changes warned k [] = []
+warnings_from form m low start changes warned k (c ∷ cs) =
+    warning_text form c.line (new_origin m low start changes warned k c)
     ++ warnings_from form m low start changes
-    (with_warned warned (new_origin m low start changes warned c)) cs
+    (with_warned warned (new_origin m low start changes warned k c)) (k + 1) cs
 
 -- the warnings of a program on a machine with its tools
 abbrev pub origin_warnings : Form → MachineFile → List Tool → Frame → List FrameChange →
     List Command → List ℕ
 origin_warnings form m tools start changes commands =
-    warnings_from form m (lowest tools) start changes none_warned commands
+    warnings_from form m (lowest tools) start changes none_warned 0 commands

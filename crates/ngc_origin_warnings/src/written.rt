@@ -21,21 +21,22 @@ use ngc_report::Form;
 use ngc_text::{Chunk, Sink, WriteFault};
 use std::alloc::Allocator;
 
-// Returns the origin for which a command is warned of, after these warnings.
+// Returns the origin for which a command, counted from 0, is warned of, after these warnings.
 fn new_origin<A: Allocator>(
     machine: &Machine<A>,
     lowest: Nm,
     history: &FrameHistory<A>,
     walk: &mut FrameWalk,
     warned: &Warned,
+    index: usize,
     command: &Command,
 ) -> Option<Origin>
     requires { WalksOver history.now.start history.now.changes.items walk.old }
     ensures value { result ≡ new_origin (file_of machine.now) lowest history.now.start
-        history.now.changes.items warned.now.lines command.now }
+        history.now.changes.items warned.now.lines index command.now }
     ensures walk { WalksOver history.now.start history.now.changes.items walk.new }
 {
-    let frame = walk.in_force(history, command.line);
+    let frame = walk.in_force(history, index);
     warned.if_new(origin_of(machine, lowest, &frame, &command.action))
 }
 
@@ -70,13 +71,15 @@ fn collect_warnings<A: Allocator, W: Sink>(
 ) -> Result<(), WriteFault>
     ensures text { Collects (W.written sink.old) (W.written sink.new) chunk.old chunk.new result
         (warnings_from form (file_of machine.now) lowest history.now.start
-        history.now.changes.items none_warned commands.now) }
+        history.now.changes.items none_warned 0 commands.now) }
     ensures counts { CountsFailure (W.failures sink.old) (W.failures sink.new) result }
 {
     let mut walk = FrameWalk::start(history);
     let mut warned = Warned::none();
-    for command in commands {
-        let origin = new_origin(machine, lowest, history, &mut walk, &warned, command);
+    for (index, command) in commands.iter().enumerate() {
+        let origin = new_origin(
+            machine, lowest, history, &mut walk, &warned, index, command,
+        );
         match collect_warning(chunk, form, command.line, &origin, sink) {
             Ok(()) => warned = warned.with(&origin),
             Err(fault) => return Err(fault),

@@ -4,17 +4,17 @@ use Rattle.ngc_origins.specs.Texts.{OriginList}
 use Rattle.ngc_commands.specs.declared.command.Command.{Command}
 use Rattle.ngc_certificate_text.specs.Certificate.{Entry}
 use Rattle.ngc_certificate_text.specs.declared.piece.Setting.{Setting}
-use Rattle.ngc_line_reader.specs.Program.{Line}
 use Rattle.ngc_machine_files.specs.Machine.{MachineFile}
 use Rattle.ngc_machine_files.specs.declared.tools.Tool.{Tool}
 use Rattle.ngc_report.specs.Forms.{closing}
 use Rattle.ngc_report.specs.declared.form.Form.{Form}
 use Rattle.ngc_program_report.specs.Coordinates.{History}
+use Rattle.ngc_program_report.specs.Reported.{ReportedLines}
 use Rattle.ngc_program_report.specs.Texts.{setting_text, shop_text}
 use Rattle.ngc_program_report.specs.Times.{ProgramTimeData}
 
 pub setting_as : (form : Form) (origins : OriginList) (first named : Bool) (s : Setting) (entries : List Entry)
-    (time : ProgramTimeData) (h : History) (lines : List Line)
+    (time : ProgramTimeData) (h : History) (lines : ReportedLines)
     (machine own : MachineFile) (tools held : List Tool) (commands given : List Command) → machine ≡ own → tools ≡ held → commands ≡ given
     → setting_text form origins first named s (record { machine = machine; tools = tools }) commands entries time h lines
     ≡ setting_text form origins first named s (record { machine = own; tools = held }) given entries time h lines

@@ -9,7 +9,6 @@ use Rattle.ngc_certificate.specs.Planned.{planned}
 use Rattle.ngc_certificate.specs.Uncleared.{AreUncleared}
 use Rattle.ngc_certificate_text.specs.declared.piece.Setting.{Setting}
 use Rattle.ngc_certificate_text.specs.declared.piece.Setting.TheVariants.{Off, On}
-use Rattle.ngc_line_reader.specs.Program.{Line}
 use Rattle.ngc_machine_files.specs.Machine.{MachineFile}
 use Rattle.ngc_machine_files.specs.declared.tools.Tool.{Tool}
 use Rattle.ngc_certificate_text.specs.Certificate.{CertificateData, Entry}
@@ -18,15 +17,16 @@ use Rattle.ngc_checker.specs.Held.{accepted_of}
 use Rattle.ngc_job.specs.Job.{JobData, commands_in, on_or}
 use Rattle.ngc_report.specs.declared.form.Form.{Form}
 use Rattle.ngc_program_report.specs.Coordinates.{History}
-use Rattle.ngc_program_report.specs.Framed.{IsFramed, IsHistoryAt, frames_at, frames_or, history_in, setup_in}
+use Rattle.ngc_program_report.specs.Framed.{FramedData, framed_in, frames_at, frames_in, frames_or, history_in, setup_in}
 use Rattle.ngc_program_report.specs.JobReports.{IsFitText, IsRefusalsText, IsStartClear, OffBegins, OnBegins, first_text}
+use Rattle.ngc_program_report.specs.Reported.{ReportedLines}
 use Rattle.ngc_program_report.specs.Texts.{LastsFor, accepted_text, fits_text, is_on, refusal_text, refusals_text}
 use Rattle.ngc_program_report.specs.Times.{ProgramTimeData}
 use Rattle.ngc_program_report.specs.declared.framed.FramedJob.{FramedJob}
 
 -- the report of the accepted program is the report of the job
 pub accepted_as : (j : JobData) (c : CertificateData) (form : Form) (origins : OriginList) (apart : Bool)
-    (off_time on_time : ProgramTimeData) (off_h on_h : History) (lines : List Line) → apart ≡ is_some j.on
+    (off_time on_time : ProgramTimeData) (off_h on_h : History) (lines : ReportedLines) → apart ≡ is_some j.on
     → accepted_text form origins apart (accepted_of j) c off_time on_time off_h on_h lines
     ≡ fits_text form origins (is_some j.on) (setup_in j) j.off (commands_in true j) c off_time on_time off_h on_h lines
 accepted_as j c form origins apart off_time on_time off_h on_h lines is =
@@ -49,51 +49,47 @@ lasts_on a j time is lasts = subst (λ (x : AcceptedData). LastsFor x.machine (c
 pub lasts_alike : (j : JobData) (time : ProgramTimeData) → is_some j.on ≡ false → LastsFor j.machine j.off time → LastsFor j.machine (commands_in true j) time
 lasts_alike j time none lasts = subst (λ (cs : List Command). LastsFor j.machine cs time) (sym (alike j.off j.on none)) lasts
 
-pub fit_text : (j : JobData) (c : CertificateData) (form : Form) (origins : OriginList) (apart : Bool) (a : AcceptedData)
-    (off_time on_time : ProgramTimeData) (off_h on_h : History) (lines : List Line) → apart ≡ is_some j.on
-    → a ≡ accepted_of j → LastsFor j.machine j.off off_time → LastsFor j.machine (commands_in true j) on_time
-    → IsHistoryAt j Off lines off_h → IsHistoryAt j On lines on_h
-    → IsFitText j c form origins lines (accepted_text form origins apart a c off_time on_time off_h on_h lines)
-fit_text j c form origins apart a off_time on_time off_h on_h lines is_apart is off_lasts on_lasts off_is on_is = record {
+pub fit_text : (f : FramedData) (c : CertificateData) (form : Form) (origins : OriginList) (apart : Bool) (a : AcceptedData)
+    (off_time on_time : ProgramTimeData) (off_h on_h : History) (lines : ReportedLines) → apart ≡ is_some f.job.on
+    → a ≡ accepted_of f.job → LastsFor f.job.machine f.job.off off_time → LastsFor f.job.machine (commands_in true f.job) on_time
+    → off_h ≡ f.off → on_h ≡ f.on
+    → IsFitText f c form origins lines (accepted_text form origins apart a c off_time on_time off_h on_h lines)
+fit_text f c form origins apart a off_time on_time off_h on_h lines is_apart is off_lasts on_lasts off_is on_is = record {
   off_time = off_time;
   off_lasts = off_lasts;
   on_time = on_time;
   on_lasts = on_lasts;
-  off_frames = off_h;
-  off_executed = off_is;
-  on_frames = on_h;
-  on_executed = on_is;
   tells = ap (λ (x : AcceptedData). accepted_text form origins apart x c off_time on_time off_h on_h lines) is
-      ∙ accepted_as j c form origins apart off_time on_time off_h on_h lines is_apart;
+      ∙ accepted_as f.job c form origins apart off_time on_time off_h on_h lines is_apart
+      ∙ ap₂ (λ (x y : History). fits_text form origins (is_some f.job.on) (setup_in f.job) f.job.off (commands_in true f.job) c off_time on_time x y lines) off_is on_is;
 }
 
 -- the same for the motions of one setting, where both settings have the same commands: the frames at `On` aren't reported
 pub fit_once : {A : Type 0} (f : FramedJob A) (c : CertificateData) (form : Form) (origins : OriginList) (a : AcceptedData) (entries : List Entry)
-    (time : ProgramTimeData) (lines : List Line)
-    → is_some f.job.on ≡ false → a ≡ accepted_of f.job → entries ≡ c.off → LastsFor f.job.machine f.job.off time → IsFramed f lines
-    → IsFitText f.job c form origins lines
+    (time : ProgramTimeData) (lines : ReportedLines)
+    → is_some f.job.on ≡ false → a ≡ accepted_of f.job → entries ≡ c.off → LastsFor f.job.machine f.job.off time
+    → IsFitText (framed_in f) c form origins lines
     (accepted_text form origins false a (record { off = entries; on = entries }) time time (history_in f.off) (history_in f.off) lines)
-fit_once f c form origins a entries time lines none is are lasts framed =
+fit_once f c form origins a entries time lines none is are lasts =
     let h : History = history_in f.off in
-    subst (IsFitText f.job c form origins lines)
+    subst (IsFitText (framed_in f) c form origins lines)
     (sym (ap (λ (l : List Entry). accepted_text form origins false a (record { off = l; on = l }) time time h h lines) are))
-    (fit_text f.job c form origins false a time time h (history_in (frames_at On f)) lines (sym none) is lasts (lasts_alike f.job time none lasts)
-    (framed Off) (framed On))
+    (fit_text (framed_in f) c form origins false a time time h (history_in (frames_at On f)) lines (sym none) is lasts (lasts_alike f.job time none lasts)
+    refl refl)
 
 -- and for those of each setting
 pub fit_both : {A : Type 0} (f : FramedJob A) (on_frames : FrameHistory A) (c : CertificateData) (form : Form) (origins : OriginList) (a : AcceptedData)
-    (off on : List Entry) (off_time on_time : ProgramTimeData) (lines : List Line)
+    (off on : List Entry) (off_time on_time : ProgramTimeData) (lines : ReportedLines)
     → true ≡ is_some f.job.on → a ≡ accepted_of f.job → off ≡ c.off → on ≡ c.on → LastsFor f.job.machine f.job.off off_time
-    → LastsFor f.job.machine (commands_in true f.job) on_time → IsFramed f lines → on_frames ≡ frames_or f.off f.on
-    → IsFitText f.job c form origins lines
+    → LastsFor f.job.machine (commands_in true f.job) on_time → on_frames ≡ frames_or f.off f.on
+    → IsFitText (framed_in f) c form origins lines
     (accepted_text form origins true a (record { off = off; on = on }) off_time on_time (history_in f.off) (history_in on_frames) lines)
-fit_both f on_frames c form origins a off on off_time on_time lines some is off_are on_are off_lasts on_lasts framed same =
+fit_both f on_frames c form origins a off on off_time on_time lines some is off_are on_are off_lasts on_lasts same =
     let off_h : History = history_in f.off in
     let on_h : History = history_in on_frames in
-    subst (IsFitText f.job c form origins lines)
+    subst (IsFitText (framed_in f) c form origins lines)
     (sym (ap₂ (λ (x y : List Entry). accepted_text form origins true a (record { off = x; on = y }) off_time on_time off_h on_h lines) off_are on_are))
-    (fit_text f.job c form origins true a off_time on_time off_h on_h lines some is off_lasts on_lasts (framed Off)
-    (subst (IsHistoryAt f.job On lines) (sym (ap history_in same)) (framed On)))
+    (fit_text (framed_in f) c form origins true a off_time on_time off_h on_h lines some is off_lasts on_lasts refl (ap history_in same))
 
 -- the motions of a plan for the accepted program are those for the job
 pub planned_as : {A : Type 0} (j : JobData) (a : AcceptedData) (b : Bool) (plan : Plan A) → a ≡ accepted_of j →
@@ -102,7 +98,7 @@ planned_as j a b plan is = ap (λ (x : AcceptedData). planned x.machine.step (co
 
 -- ---- obstacles
 
-pub first_as : (j : JobData) (form : Form) (origins : OriginList) (s : Setting) (k : ℕ) (lines : List Line) (h : History) (named : Bool) (m : MachineFile)
+pub first_as : (j : JobData) (form : Form) (origins : OriginList) (s : Setting) (k : ℕ) (lines : ReportedLines) (h : History) (named : Bool) (m : MachineFile)
     (ts : List Tool) (b : Bool) (cs : List Command) → named ≡ is_some j.on → m ≡ j.machine → ts ≡ j.tools → b ≡ is_on s → cs ≡ commands_in b j
     → refusal_text form origins named s (record { machine = m; tools = ts }) cs k lines h ≡ first_text j form origins s k lines h
 first_as j form origins s k lines h named m ts b cs is_named is_machine are_tools is_set are =
@@ -111,34 +107,33 @@ first_as j form origins s k lines h named m ts b cs is_named is_machine are_tool
     ∙ ap (λ (l : List Command). refusal_text form origins (is_some j.on) s (setup_in j) l k lines h) (are ∙ ap (λ (x : Bool). commands_in x j) is_set)
 
 -- the frames at a setting
-pub frames_as : {A : Type 0} (f : FramedJob A) (s : Setting) (frames : FrameHistory A) (lines : List Line) → frames ≡ frames_at s f → IsFramed f lines →
-    IsHistoryAt f.job s lines (history_in frames)
-frames_as f s frames lines same framed = subst (IsHistoryAt f.job s lines) (sym (ap history_in same)) (framed s)
+pub frames_as : {A : Type 0} (f : FramedJob A) (s : Setting) (frames : FrameHistory A) → frames ≡ frames_at s f → history_in frames ≡ frames_in s (framed_in f)
+frames_as f Off frames same = ap history_in same
+frames_as f On frames same = ap history_in same
 
-pub all_text : (j : JobData) (cuts : ℕ) (s : Setting) (k : ℕ) (form : Form) (origins : OriginList) (lines : List Line) (named : Bool) (m : MachineFile) (ts : List Tool)
+pub all_text : (f : FramedData) (cuts : ℕ) (s : Setting) (k : ℕ) (form : Form) (origins : OriginList) (lines : ReportedLines) (named : Bool) (m : MachineFile) (ts : List Tool)
     (off on : List Command) (off_h on_h : History) (off_ks on_ks : List ℕ)
-    → named ≡ is_some j.on → m ≡ j.machine → ts ≡ j.tools → off ≡ j.off → on ≡ commands_in true j
-    → AreUncleared j.machine cuts j.off off_ks → (IsStartClear j.machine → OffBegins (is_some j.on) s k off_ks)
-    → AreUncleared j.machine cuts (commands_in true j) on_ks → (IsStartClear j.machine → OnBegins s k on_ks)
-    → IsHistoryAt j Off lines off_h → IsHistoryAt j On lines on_h
-    → IsRefusalsText j cuts s k form origins lines (refusals_text form origins named (record { machine = m; tools = ts }) off on off_h on_h off_ks on_ks lines)
-all_text j cuts s k form origins lines named m ts off on off_h on_h off_ks on_ks is_named is_machine are_tools is_off is_on off_are off_begins on_are on_begins off_is on_is = record {
-  off_ks = off_ks;
-  off_uncleared = off_are;
-  off_begins = off_begins;
-  on_ks = on_ks;
-  on_uncleared = on_are;
-  on_begins = on_begins;
-  off_frames = off_h;
-  off_executed = off_is;
-  on_frames = on_h;
-  on_executed = on_is;
-  tells = ap (λ (d : Bool). refusals_text form origins d (record { machine = m; tools = ts }) off on off_h on_h off_ks on_ks lines) is_named
-      ∙ ap₂ (λ (x : MachineFile) (us : List Tool). refusals_text form origins (is_some j.on) (record { machine = x; tools = us }) off on off_h on_h off_ks on_ks lines)
-      is_machine are_tools
-      ∙ ap (λ (cs : List Command). refusals_text form origins (is_some j.on) (setup_in j) cs on off_h on_h off_ks on_ks lines) is_off
-      ∙ ap (λ (cs : List Command). refusals_text form origins (is_some j.on) (setup_in j) j.off cs off_h on_h off_ks on_ks lines) is_on;
-}
+    → named ≡ is_some f.job.on → m ≡ f.job.machine → ts ≡ f.job.tools → off ≡ f.job.off → on ≡ commands_in true f.job
+    → AreUncleared f.job.machine cuts f.job.off off_ks → (IsStartClear f.job.machine → OffBegins (is_some f.job.on) s k off_ks)
+    → AreUncleared f.job.machine cuts (commands_in true f.job) on_ks → (IsStartClear f.job.machine → OnBegins s k on_ks)
+    → off_h ≡ f.off → on_h ≡ f.on
+    → IsRefusalsText f cuts s k form origins lines (refusals_text form origins named (record { machine = m; tools = ts }) off on off_h on_h off_ks on_ks lines)
+all_text f cuts s k form origins lines named m ts off on off_h on_h off_ks on_ks is_named is_machine are_tools is_off is_on off_are off_begins on_are on_begins
+    off_is on_is = record {
+      off_ks = off_ks;
+      off_uncleared = off_are;
+      off_begins = off_begins;
+      on_ks = on_ks;
+      on_uncleared = on_are;
+      on_begins = on_begins;
+      tells = ap (λ (d : Bool). refusals_text form origins d (record { machine = m; tools = ts }) off on off_h on_h off_ks on_ks lines) is_named
+          ∙ ap₂ (λ (x : MachineFile) (us : List Tool). refusals_text form origins (is_some f.job.on) (record { machine = x; tools = us }) off on off_h on_h off_ks on_ks
+          lines) is_machine are_tools
+          ∙ ap (λ (cs : List Command). refusals_text form origins (is_some f.job.on) (setup_in f.job) cs on off_h on_h off_ks on_ks lines) is_off
+          ∙ ap (λ (cs : List Command). refusals_text form origins (is_some f.job.on) (setup_in f.job) f.job.off cs off_h on_h off_ks on_ks lines) is_on
+          ∙ ap₂ (λ (x y : History). refusals_text form origins (is_some f.job.on) (setup_in f.job) f.job.off (commands_in true f.job) x y off_ks on_ks lines)
+          off_is on_is;
+    }
 
 -- if both settings have the same commands, the commands that aren't cleared are reported once
 pub are_alike : (j : JobData) (cuts : ℕ) (ks : List ℕ) → is_some j.on ≡ false → AreUncleared j.machine cuts j.off ks

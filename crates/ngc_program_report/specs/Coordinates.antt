@@ -21,11 +21,6 @@ abbrev pub way_of : Action → Option Way
 way_of (Move m) = Some m.way
 way_of _ = None
 
--- the program line of a command, 0 without one
-abbrev pub line_of : Option Command → ℕ
-line_of None = 0
-line_of (Some c) = c.line
-
 -- the frames of a program at a setting: that at the start, and each change
 pub record History : Type 0 where
   pub start : Frame

@@ -36,6 +36,20 @@ abbrev pub frames_at : {A : Type 0} → Setting → FramedJob A → FrameHistory
 frames_at Off f = f.off
 frames_at On f = frames_or f.off f.on
 
+-- a job, and the frames of its program at both settings
+pub record FramedData : Type 0 where
+  pub job : JobData
+  pub off : History
+  pub on : History
+
+abbrev pub framed_in : {A : Type 0} → FramedJob A → FramedData
+framed_in f =
+    record { job = f.job; off = history_in (frames_at Off f); on = history_in (frames_at On f) }
+
+abbrev pub frames_in : Setting → FramedData → History
+frames_in Off f = f.off
+frames_in On f = f.on
+
 -- at each setting the frames are those of the job's program, which has these lines
 abbrev pub IsFramed : {A : Type 0} → FramedJob A → List Line → Type 0
 IsFramed f lines = (s : Setting) → IsHistoryAt f.job s lines (history_in (frames_at s f))

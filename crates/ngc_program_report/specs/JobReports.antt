@@ -6,7 +6,6 @@ use Rattle.std.specs.Io.KnownBytes.{Appends, Keeps}
 use Rattle.ngc_origins.specs.Texts.{OriginList}
 use Rattle.ngc_text.specs.Failures.{Rises}
 use Rattle.ngc_text.specs.Written.{AppendsPrefix}
-use Rattle.ngc_line_reader.specs.Program.{Line}
 use Rattle.ngc_fixed_length.specs.Grid.{grid}
 use Rattle.ngc_machine_files.specs.Machine.{MachineFile}
 use Rattle.ngc_machine_files.specs.MachineRanges.{IsMachine}
@@ -24,23 +23,20 @@ use Rattle.ngc_report.specs.declared.report_fault.ReportFault.{ReportFault}
 use Rattle.ngc_report.specs.declared.report_fault.ReportFault.TheVariants as faults
 use Rattle.ngc_program_report.specs.declared.request.ReportRequest.{ReportRequest}
 use Rattle.ngc_program_report.specs.Coordinates.{History}
-use Rattle.ngc_program_report.specs.Framed.{IsHistoryAt, setup_in}
+use Rattle.ngc_program_report.specs.Framed.{FramedData, frames_in, setup_in}
+use Rattle.ngc_program_report.specs.Reported.{ReportedLines}
 use Rattle.ngc_program_report.specs.Texts.{LastsFor, fits_text, is_on, refusal_text, refusals_text}
 use Rattle.ngc_program_report.specs.Times.{ProgramTimeData}
 
--- the report of a job with this certificate, for a program with these lines
-pub record IsFitText (j : JobData) (c : CertificateData) (form : Form) (origins : OriginList)
-    (lines : List Line) (text : List ℕ) : Type 0 where
+-- the report of a job with this certificate, in its frames, for a program with these lines
+pub record IsFitText (f : FramedData) (c : CertificateData) (form : Form) (origins : OriginList)
+    (lines : ReportedLines) (text : List ℕ) : Type 0 where
   pub off_time : ProgramTimeData
-  pub off_lasts : LastsFor j.machine j.off off_time
+  pub off_lasts : LastsFor f.job.machine f.job.off off_time
   pub on_time : ProgramTimeData
-  pub on_lasts : LastsFor j.machine (commands_in true j) on_time
-  pub off_frames : History
-  pub off_executed : IsHistoryAt j Off lines off_frames
-  pub on_frames : History
-  pub on_executed : IsHistoryAt j On lines on_frames
-  pub tells : text ≡ fits_text form origins (is_some j.on) (setup_in j) j.off (commands_in true j) c
-      off_time on_time off_frames on_frames lines
+  pub on_lasts : LastsFor f.job.machine (commands_in true f.job) on_time
+  pub tells : text ≡ fits_text form origins (is_some f.job.on) (setup_in f.job) f.job.off
+      (commands_in true f.job) c off_time on_time f.off f.on lines
 
 -- the report of a program with a valid certificate has no negative margin
 abbrev pub ValidStaysInside : Type 0
@@ -65,39 +61,30 @@ OnBegins On k ks = BeginsWith k ks
 
 -- the report of all commands that aren't cleared, at either setting, if no certificate is made
 -- because of command `k` at a setting
-pub record IsRefusalsText (j : JobData) (cuts : ℕ) (s : Setting) (k : ℕ) (form : Form)
-    (origins : OriginList) (lines : List Line) (text : List ℕ) : Type 0 where
+pub record IsRefusalsText (f : FramedData) (cuts : ℕ) (s : Setting) (k : ℕ) (form : Form)
+    (origins : OriginList) (lines : ReportedLines) (text : List ℕ) : Type 0 where
   pub off_ks : List ℕ
-  pub off_uncleared : AreUncleared j.machine cuts j.off off_ks
-  pub off_begins : IsStartClear j.machine → OffBegins (is_some j.on) s k off_ks
+  pub off_uncleared : AreUncleared f.job.machine cuts f.job.off off_ks
+  pub off_begins : IsStartClear f.job.machine → OffBegins (is_some f.job.on) s k off_ks
   pub on_ks : List ℕ
-  pub on_uncleared : AreUncleared j.machine cuts (commands_in true j) on_ks
-  pub on_begins : IsStartClear j.machine → OnBegins s k on_ks
-  pub off_frames : History
-  pub off_executed : IsHistoryAt j Off lines off_frames
-  pub on_frames : History
-  pub on_executed : IsHistoryAt j On lines on_frames
-  pub tells : text ≡ refusals_text form origins (is_some j.on) (setup_in j) j.off
-      (commands_in true j) off_frames on_frames off_ks on_ks lines
+  pub on_uncleared : AreUncleared f.job.machine cuts (commands_in true f.job) on_ks
+  pub on_begins : IsStartClear f.job.machine → OnBegins s k on_ks
+  pub tells : text ≡ refusals_text form origins (is_some f.job.on) (setup_in f.job) f.job.off
+      (commands_in true f.job) f.off f.on off_ks on_ks lines
 
 -- the report of only command `k`, which isn't cleared at a setting
-abbrev pub first_text : JobData → Form → OriginList → Setting → ℕ → List Line → History → List ℕ
+abbrev pub first_text : JobData → Form → OriginList → Setting → ℕ → ReportedLines → History →
+    List ℕ
 first_text j form origins s k lines h =
     refusal_text form origins (is_some j.on) s (setup_in j) (commands_in (is_on s) j) k lines h
 
-pub record IsFirstText (j : JobData) (form : Form) (origins : OriginList) (s : Setting) (k : ℕ)
-    (lines : List Line) (text : List ℕ) : Type 0 where
-  pub frames : History
-  pub executed : IsHistoryAt j s lines frames
-  pub tells : text ≡ first_text j form origins s k lines frames
-
 -- the report of a job whose command `k` isn't cleared: of all such commands, or of only that one
-abbrev pub IsRefusalText : Bool → JobData → ReportRequest → Setting → ℕ → List Line → List ℕ →
-    Type 0
-IsRefusalText true j request s k lines text =
-    IsRefusalsText j request.cuts s k request.form request.origins lines text
-IsRefusalText false j request s k lines text =
-    IsFirstText j request.form request.origins s k lines text
+abbrev pub IsRefusalText : Bool → FramedData → ReportRequest → Setting → ℕ → ReportedLines →
+    List ℕ → Type 0
+IsRefusalText true f request s k lines text =
+    IsRefusalsText f request.cuts s k request.form request.origins lines text
+IsRefusalText false f request s k lines text =
+    text ≡ first_text f.job request.form request.origins s k lines (frames_in s f)
 
 -- this text was written, or a prefix of it if the sink failed; or memory ran out, and nothing was
 -- written

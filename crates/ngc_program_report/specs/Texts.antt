@@ -45,8 +45,9 @@ use Rattle.ngc_tool_warnings.specs.Spelling.{tool_warnings}
 use Rattle.ngc_setup_sheet.specs.Sheets.{warning_facts, warnings_text}
 use Rattle.ngc_program_report.specs.Demanded.{demanded_text}
 use Rattle.ngc_program_report.specs.declared.run_time.RunTime.{RunTime}
-use Rattle.ngc_program_report.specs.Coordinates.{History, coordinates_text, line_of, refused_path}
+use Rattle.ngc_program_report.specs.Coordinates.{History, coordinates_text, refused_path}
 use Rattle.ngc_program_report.specs.Met.{met_at}
+use Rattle.ngc_program_report.specs.Reported.{ReportedLines}
 use Rattle.ngc_program_report.specs.Times.{ProgramTimeData, seconds_text, time_text, uses_text}
 
 -- ---- the time of a program
@@ -117,15 +118,15 @@ is_on On = true
 
 -- the warnings at a setting: for the commands there, for tool changes, for the words of the
 -- program's lines, and for the origins from which it moves
-abbrev pub warnings : Form → Setting → Setup → History → List Command → List Line → List ℕ
+abbrev pub warnings : Form → Setting → Setup → History → List Command → ReportedLines → List ℕ
 warnings form s setup h commands lines =
     report_text form (warning_lines setup.machine commands)
     ++ (tool_warnings form setup.machine commands
-    ++ (word_warnings form (is_on s) setup.machine setup.tools commands lines
+    ++ (word_warnings form (is_on s) setup.machine setup.tools commands lines.examined
     ++ origin_warnings form setup.machine setup.tools h.start h.changes commands))
 
 -- the lowest heights at a setting, and the warnings
-abbrev pub remarks : Form → Setting → Setup → History → List Command → List Line → List ℕ
+abbrev pub remarks : Form → Setting → Setup → History → List Command → ReportedLines → List ℕ
 remarks form s setup h commands lines =
     tips_text form (lowest_tips setup.tools h.start h.changes commands)
     ++ warnings form s setup h commands lines
@@ -133,7 +134,7 @@ remarks form s setup h commands lines =
 -- what fits at a setting, the time and the figures of the tools there, the lowest heights, and the
 -- warnings
 abbrev pub setting_text : Form → OriginList → Bool → Bool → Setting → Setup → List Command →
-    List Entry → ProgramTimeData → History → List Line → List ℕ
+    List Entry → ProgramTimeData → History → ReportedLines → List ℕ
 setting_text form origins first named s setup commands motions time h lines =
     heading form origins (kept_by setup.machine) first named s
     ++ (report_text form (fit_lines setup.machine commands motions)
@@ -148,7 +149,8 @@ shop_text Json setup = warning_facts setup.machine setup.tools
 -- the text for both settings, or once if they have the same commands; and the warnings about
 -- machine and tools
 abbrev pub fits_text : Form → OriginList → Bool → Setup → List Command → List Command →
-    CertificateData → ProgramTimeData → ProgramTimeData → History → History → List Line → List ℕ
+    CertificateData → ProgramTimeData → ProgramTimeData → History → History → ReportedLines →
+    List ℕ
 fits_text form origins false setup off on c off_time on_time off_h on_h lines =
     setting_text form origins true false Off setup off c.off off_time off_h lines
     ++ (shop_text form setup ++ closing form)
@@ -159,7 +161,7 @@ fits_text form origins true setup off on c off_time on_time off_h on_h lines =
 
 -- the text for an accepted program
 abbrev pub accepted_text : Form → OriginList → Bool → AcceptedData → CertificateData →
-    ProgramTimeData → ProgramTimeData → History → History → List Line → List ℕ
+    ProgramTimeData → ProgramTimeData → History → History → ReportedLines → List ℕ
 accepted_text form origins named a c off_time on_time off_h on_h lines =
     fits_text form origins named (record { machine = a.machine; tools = a.tools }) a.off a.on c
     off_time on_time off_h on_h lines
@@ -188,8 +190,8 @@ quoted_if form None lines = []
 quoted_if form (Some number) lines = quoted form number lines
 
 -- the frame of command `k`
-abbrev pub frame_of : List Command → History → ℕ → FrameInForce
-frame_of commands h k = frame_in_force h.start h.changes (line_of (slice_get commands k))
+abbrev pub frame_of : History → ℕ → FrameInForce
+frame_of h k = frame_in_force h.start h.changes k
 
 -- a motion that meets no fixture has coordinates whose origin isn't in the machine file, and isn't
 -- replaced
@@ -205,21 +207,21 @@ abbrev pub missing_at : Form → OriginList → MachineFile → List Command →
 missing_at form origins machine commands h None = []
 missing_at form origins machine commands h (Some k) =
     missing_if form origins machine (met_at machine commands k) (refused_path commands (Some k))
-    (frame_of commands h k)
+    (frame_of h k)
 
 -- the warnings at a setting, those about the machine and its tools, and the end
-abbrev pub refusal_end : Form → Setting → Setup → History → List Command → List Line → List ℕ
+abbrev pub refusal_end : Form → Setting → Setup → History → List Command → ReportedLines → List ℕ
 refusal_end form s setup h commands lines =
     warnings form s setup h commands lines ++ (shop_text form setup ++ ending form 304)
 
 -- the obstacle of a command, what it lacks of a margin, its program line, and its coordinates in the
 -- program
 abbrev pub cause_text : Form → OriginList → MachineFile → List Command → Option ℕ → Option ℕ →
-    List Line → FrameInForce → List ℕ
+    ReportedLines → FrameInForce → List ℕ
 cause_text form origins machine commands told fixture lines frame =
     report_text form (refusal_lines machine commands told fixture)
     ++ (demanded_text form machine commands told fixture
-    ++ (quoted_if form (refused_number commands told) lines
+    ++ (quoted_if form (refused_number commands told) lines.quoted
     ++ coordinates_text form origins frame (refused_path commands told)))
 
 -- command `k`, unless the start point isn't clear
@@ -229,12 +231,12 @@ told_at machine k =
 
 -- the obstacle of command `k` at a setting, and the warnings there
 abbrev pub refusal_text : Form → OriginList → Bool → Setting → Setup → List Command → ℕ →
-    List Line → History → List ℕ
+    ReportedLines → History → List ℕ
 refusal_text form origins named s setup commands k lines h =
     heading form origins (kept_by setup.machine) true named s
     ++ (missing_at form origins setup.machine commands h (told_at setup.machine k)
     ++ (cause_text form origins setup.machine commands (told_at setup.machine k)
-    (met_at setup.machine commands k) lines (frame_of commands h k)
+    (met_at setup.machine commands k) lines (frame_of h k)
     ++ refusal_end form s setup h commands lines))
 
 -- the obstacle of command `k`, and its coordinates in the program
@@ -242,7 +244,7 @@ abbrev pub command_refusal : Form → OriginList → MachineFile → List Comman
     List ℕ
 command_refusal form origins machine commands h k =
     report_text form (scene_lines machine k None (scene_at machine commands k))
-    ++ coordinates_text form origins (frame_of commands h k) (refused_path commands (Some k))
+    ++ coordinates_text form origins (frame_of h k) (refused_path commands (Some k))
 
 -- those of commands in order
 abbrev pub command_refusals : Form → OriginList → MachineFile → List Command → History →
@@ -265,7 +267,7 @@ first_of (k ∷ ks) = Some k
 
 -- all obstacles at a setting, where the program has these frames, and the warnings there
 abbrev pub setting_refusals : Form → OriginList → Bool → Bool → Setting → Setup → List Command →
-    History → List ℕ → List Line → List ℕ
+    History → List ℕ → ReportedLines → List ℕ
 setting_refusals form origins first named s setup commands h ks lines =
     heading form origins (kept_by setup.machine) first named s
     ++ (missing_at form origins setup.machine commands h (first_of ks)
@@ -275,7 +277,7 @@ setting_refusals form origins first named s setup commands h ks lines =
 -- the text for both settings, or once if they have the same commands; and the warnings about
 -- machine and tools
 abbrev pub refusals_text : Form → OriginList → Bool → Setup → List Command → List Command →
-    History → History → List ℕ → List ℕ → List Line → List ℕ
+    History → History → List ℕ → List ℕ → ReportedLines → List ℕ
 refusals_text form origins false setup off on off_h on_h off_ks on_ks lines =
     setting_refusals form origins true false Off setup off off_h off_ks lines
     ++ (shop_text form setup ++ ending form 304)

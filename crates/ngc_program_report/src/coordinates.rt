@@ -1,11 +1,11 @@
 //! The motion that a report is about, in the program's coordinates.
-ghost use Rattle.std.specs.Prelude.{◌≡◌, slice_get};
+ghost use Rattle.std.specs.Prelude.{◌≡◌};
 ghost use Rattle.ngc_certificate_text.specs.Collects.{Collects};
 ghost use Rattle.ngc_collision.specs.Inside.{place_of};
 ghost use Rattle.ngc_commands.specs.Movement.{start_of};
 ghost use Rattle.ngc_text.specs.Failures.{CountsFailure};
 ghost use Rattle.ngc_program_report.specs.Coordinates.{coordinates_text, motion_text, refused_path};
-ghost use Rattle.ngc_program_report.specs.Coordinates.{line_of, way_of};
+ghost use Rattle.ngc_program_report.specs.Coordinates.{way_of};
 ghost use Rattle.ngc_program_report.specs.Writing.{Writes};
 
 use ngc_collision::Place;
@@ -44,16 +44,6 @@ pub(crate) fn refused_path(commands: &[Command], told: Option<usize>) -> Option<
             None => None,
             Some(command) => way_of(&command.action),
         },
-    }
-}
-
-/// Returns the line of the program from which a command is, or 0 if there is no such command.
-pub(crate) fn line_of(commands: &[Command], command: usize) -> u32
-    ensures { result ≡ line_of (slice_get commands.now command) }
-{
-    match commands.get(command) {
-        None => 0,
-        Some(command) => command.line,
     }
 }
 

@@ -1,27 +1,29 @@
 //! How the reports of programs that fit are written.
 ghost use Rattle.std.specs.Prelude.{◌≡◌, ◌++◌, true, false};
 ghost use Rattle.ngc_canonical.specs.Interpreter.{setup_of};
+ghost use Rattle.ngc_machine_files.specs.Machine.{file_of};
 ghost use Rattle.ngc_machine_files.specs.Tools.{tools_of};
 ghost use Rattle.ngc_report.specs.Forms.{closing};
-ghost use Rattle.ngc_line_reader.specs.ProgramView.{text_in};
 ghost use Rattle.ngc_lowest_tips.specs.Tips.{lowest_tips};
 ghost use Rattle.ngc_program_report.specs.Coordinates.{history_of};
+ghost use Rattle.ngc_program_report.specs.Reported.{reported};
 ghost use Rattle.ngc_program_report.specs.Texts.{accepted_text, duration_text, is_on, remarks};
 ghost use Rattle.ngc_program_report.specs.Texts.{setting_text, shop_text, takes_line, tool_figures};
 ghost use Rattle.ngc_program_report.specs.Texts.{warnings};
 ghost use Rattle.ngc_program_report.specs.Times.{uses_text};
 ghost use Rattle.ngc_program_report.specs.Writing.{Writes};
+ghost use Rattle.ngc_word_warnings.specs.Spelling.{word_warnings};
 
 use crate::program_time::ProgramTime;
 use crate::report_frame::{closing, write_heading};
 use crate::report_time::say_takes_line;
+use crate::reported::ReportedText;
 use crate::subject::{Execution, Fit, Heading, Subject};
 use crate::use_times::say_use_times;
 use ngc_certificate::Setting;
 use ngc_certificate_text::MotionList;
 use ngc_checker::Accepted;
 use ngc_commands::Command;
-use ngc_line_reader::Program;
 use ngc_lowest_tips::{LowestTip, write_lowest_tips};
 use ngc_machine_files::Tools;
 use ngc_origin_warnings::write_origin_warnings;
@@ -95,6 +97,28 @@ pub(crate) fn is_on(setting: Setting) -> bool
     }
 }
 
+// Writes the warnings for the words of a program's lines, at a setting of block delete. The words of a
+// program for another control aren't examined.
+fn write_words<A: Allocator, W: Sink>(
+    subject: &Subject<A>,
+    deletes: bool,
+    commands: &[Command],
+    output: &mut W,
+) -> Result<(), WriteFault>
+    ensures { Writes (W.written output.old) (W.written output.new) (W.failures output.old)
+        (W.failures output.new) result
+        (word_warnings subject.now.form deletes (file_of subject.now.machine.now)
+        (tools_of subject.now.tools.now) commands.now (reported subject.now.text.now).examined) }
+{
+    let (form, machine, table) = (subject.form, subject.machine, subject.tools.tools());
+    match subject.text {
+        ReportedText::Own(program) => {
+            write_word_warnings(form, deletes, program, machine, table, commands, output)
+        }
+        ReportedText::Other(_) => write_all(output, b""),
+    }
+}
+
 // Writes the warnings at a setting.
 pub(crate) fn write_setting_warnings<A: Allocator, W: Sink>(
     subject: &Subject<A>,
@@ -107,21 +131,13 @@ pub(crate) fn write_setting_warnings<A: Allocator, W: Sink>(
         (warnings subject.now.form setting
         (setup_of subject.now.machine.now subject.now.tools.now)
         (history_of execution.now.history.now.start execution.now.history.now.changes.items)
-        execution.now.commands.now (text_in subject.now.program.now).lines) }
+        execution.now.commands.now (reported subject.now.text.now)) }
 {
     let (form, machine, table) = (subject.form, subject.machine, subject.tools.tools());
-    let (commands, deletes) = (execution.commands, is_on(setting));
+    let commands = execution.commands;
     write_warnings(form, machine, commands, output)?;
     write_tool_warnings(form, machine, commands, output)?;
-    write_word_warnings(
-        form,
-        deletes,
-        subject.program,
-        machine,
-        table,
-        commands,
-        output,
-    )?;
+    write_words(subject, is_on(setting), commands, output)?;
     write_origin_warnings(form, machine, table, execution.history, commands, output)
 }
 
@@ -141,7 +157,7 @@ fn write_remarks<A: Allocator, W: Sink>(
         (remarks subject.now.form setting
         (setup_of subject.now.machine.now subject.now.tools.now)
         (history_of execution.now.history.now.start execution.now.history.now.changes.items)
-        execution.now.commands.now (text_in subject.now.program.now).lines) }
+        execution.now.commands.now (reported subject.now.text.now)) }
 {
     write_lowest_tips(subject.form, tips, output)?;
     write_setting_warnings(subject, setting, execution, output)
@@ -166,7 +182,7 @@ fn write_setting<A: Allocator, M: MotionList, W: Sink>(
         heading.setting (setup_of subject.now.machine.now subject.now.tools.now) commands.now
         (M.entries motions.now) fit.now.time
         (history_of fit.now.history.now.start fit.now.history.now.changes.items)
-        (text_in subject.now.program.now).lines) }
+        (reported subject.now.text.now)) }
 {
     let form = subject.form;
     write_heading(form, subject.origins, subject.machine, heading, output)?;
@@ -217,7 +233,7 @@ fn write_fit_end<A: Allocator, W: Sink>(
 pub(crate) fn write_once<A: Allocator, M: MotionList, W: Sink>(
     form: Form,
     origins: &Origins,
-    program: &Program<A>,
+    text: &ReportedText<'_, A>,
     accepted: &Accepted<A>,
     motions: &M,
     fit: &Fit<A>,
@@ -233,13 +249,13 @@ pub(crate) fn write_once<A: Allocator, M: MotionList, W: Sink>(
         fit.now.time fit.now.time
         (history_of fit.now.history.now.start fit.now.history.now.changes.items)
         (history_of fit.now.history.now.start fit.now.history.now.changes.items)
-        (text_in program.now).lines) }
+        (reported text.now)) }
 {
     let (machine, tools) = (accepted.machine(), accepted.tools());
     let subject = Subject {
         form,
         origins,
-        program,
+        text,
         machine,
         tools,
     };
@@ -263,7 +279,7 @@ pub(crate) fn write_once<A: Allocator, M: MotionList, W: Sink>(
 pub(crate) fn write_both<A: Allocator, M: MotionList, W: Sink>(
     form: Form,
     origins: &Origins,
-    program: &Program<A>,
+    text: &ReportedText<'_, A>,
     accepted: &Accepted<A>,
     off_motions: &M,
     off: &Fit<A>,
@@ -284,13 +300,13 @@ pub(crate) fn write_both<A: Allocator, M: MotionList, W: Sink>(
         off.now.time on.now.time
         (history_of off.now.history.now.start off.now.history.now.changes.items)
         (history_of on.now.history.now.start on.now.history.now.changes.items)
-        (text_in program.now).lines) }
+        (reported text.now)) }
 {
     let (machine, tools) = (accepted.machine(), accepted.tools());
     let subject = Subject {
         form,
         origins,
-        program,
+        text,
         machine,
         tools,
     };

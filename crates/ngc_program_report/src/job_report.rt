@@ -9,21 +9,21 @@ ghost use Rattle.ngc_certificate.specs.Plans.{both_planned, plan_at};
 ghost use Rattle.ngc_certificate_text.specs.Certificate.{AreEntries};
 ghost use Rattle.ngc_checker.specs.Accepted.{commands_at};
 ghost use Rattle.ngc_job.specs.Job.{commands_in};
-ghost use Rattle.ngc_line_reader.specs.Program.{Line};
-ghost use Rattle.ngc_line_reader.specs.ProgramView.{text_in};
 ghost use Rattle.ngc_lowest_tips.specs.Tips.{lowest_tips};
-ghost use Rattle.ngc_program_report.specs.Framed.{IsFramed};
+ghost use Rattle.ngc_program_report.specs.Framed.{framed_in};
 ghost use Rattle.ngc_program_report.specs.Coordinates.{history_of};
 ghost use Rattle.ngc_program_report.specs.JobReports.{FailsByWriting, IsFitText};
 ghost use Rattle.ngc_program_report.specs.JobReports.{IsRefusalText, IsRefusalsText};
 ghost use Rattle.ngc_program_report.specs.JobReports.{IsStartClear, OffBegins, OnBegins, Prints};
 ghost use Rattle.ngc_program_report.specs.JobReports.{first_text};
+ghost use Rattle.ngc_program_report.specs.Reported.{reported};
 ghost use Rattle.ngc_program_report.specs.Texts.{is_on};
 ghost use Rattle.ngc_program_report.specs.Writing.{Writes};
 
 use crate::fit_writer::{is_on, write_both, write_once};
 use crate::framed::{FramedJob, frames_or};
 use crate::refusal_writer::{is_start_refused, write_all_both, write_all_once, write_refused};
+use crate::reported::ReportedText;
 use crate::request::ReportRequest;
 use crate::subject::{Execution, Fit, Subject};
 use crate::timing::{accept, time_of};
@@ -34,7 +34,6 @@ use ngc_checker::Accepted;
 use ngc_commands::Command;
 use ngc_frames::FrameHistory;
 use ngc_job::Job;
-use ngc_line_reader::Program;
 use ngc_lowest_tips::{LowestTip, lowest_tips};
 use ngc_origins::Origins;
 use ngc_report::{Form, ReportFault};
@@ -80,14 +79,14 @@ fn tips_at<A: Allocator + Copy>(
 
 /// Writes the report of a job with plans of its motions: its extent and margins, the use of each
 /// tool, the time, the figures of each tool that feeds, the lowest heights, and the warnings about
-/// its commands, the words of the program and the origins from which it moves. The plans are those of the job's commands, and their
-/// motions are valid for it. The frames are those of the program.
+/// its commands, the words of the program and the origins from which it moves. The plans are those of
+/// the job's commands, and their motions are valid for it. `text` is the text of the job's program.
 ///
 /// Nothing is written before the time and the lowest heights are computed, and nothing if memory
 /// runs out (900). If a write fails (902), a prefix is written.
 pub fn report_fit<A: Allocator + Copy, W: Sink>(
     alloc: A,
-    program: &Program<A>,
+    text: &ReportedText<'_, A>,
     framed: FramedJob<A>,
     plans: &Plans<A>,
     form: Form,
@@ -106,11 +105,10 @@ pub fn report_fit<A: Allocator + Copy, W: Sink>(
     requires on { IsValid framed.job.machine (commands_in true framed.job)
         (both_planned framed.job.machine.step framed.job.off (commands_in true framed.job)
         plans.now).on }
-    requires frames { IsFramed framed (text_in program.now).lines }
     ensures tells { Prints
-        (IsFitText framed.job
+        (IsFitText (framed_in framed)
         (both_planned framed.job.machine.step framed.job.off (commands_in true framed.job)
-        plans.now) form origins.now (text_in program.now).lines)
+        plans.now) form origins.now (reported text.now))
         (W.written output.old) (W.written output.new) result }
     ensures counts { FailsByWriting result (W.failures output.old) (W.failures output.new) }
 {
@@ -126,7 +124,7 @@ pub fn report_fit<A: Allocator + Copy, W: Sink>(
             time: off_time,
             tips,
         };
-        write_once(form, origins, program, &accepted, &motions, &fit, output)?;
+        write_once(form, origins, text, &accepted, &motions, &fit, output)?;
         return Ok(());
     }
     let (on_time, accepted) = time_of(alloc, accepted, true)?;
@@ -148,7 +146,7 @@ pub fn report_fit<A: Allocator + Copy, W: Sink>(
     write_both(
         form,
         origins,
-        program,
+        text,
         &accepted,
         &off_motions,
         &off_fit,
@@ -161,7 +159,7 @@ pub fn report_fit<A: Allocator + Copy, W: Sink>(
 
 // Writes the report of a command that isn't cleared at a setting.
 fn report_first<A: Allocator, W: Sink>(
-    program: &Program<A>,
+    text: &ReportedText<'_, A>,
     job: &Job<A>,
     setting: Setting,
     command: u32,
@@ -172,12 +170,12 @@ fn report_first<A: Allocator, W: Sink>(
     ensures { Writes (W.written output.old) (W.written output.new) (W.failures output.old)
         (W.failures output.new) result
         (first_text job.now request.now.form request.now.origins setting command
-        (text_in program.now).lines (history_of history.now.start history.now.changes.items)) }
+        (reported text.now) (history_of history.now.start history.now.changes.items)) }
 {
     let subject = Subject {
         form: request.form,
         origins: &request.origins,
-        program,
+        text,
         machine: job.machine(),
         tools: job.tools(),
     };
@@ -244,7 +242,7 @@ fn on_uncleared<A: Allocator + Copy>(
 // Writes the report of all commands that aren't cleared, if no certificate is made because of one.
 fn report_all<A: Allocator + Copy, W: Sink>(
     alloc: A,
-    program: &Program<A>,
+    text: &ReportedText<'_, A>,
     framed: &FramedJob<A>,
     setting: Setting,
     command: u32,
@@ -253,10 +251,9 @@ fn report_all<A: Allocator + Copy, W: Sink>(
 ) -> Result<(), ReportFault>
     requires made { IsMade framed.now.job.machine request.cuts framed.now.job.off
         (commands_in true framed.now.job) (Err (MakeFault.NotCleared setting command)) }
-    requires frames { IsFramed framed.now (text_in program.now).lines }
     ensures tells { Prints
-        (IsRefusalsText framed.now.job request.cuts setting command request.form
-        request.origins (text_in program.now).lines)
+        (IsRefusalsText (framed_in framed.now) request.cuts setting command request.form
+        request.origins (reported text.now))
         (W.written output.old) (W.written output.new) result }
     ensures counts { FailsByWriting result (W.failures output.old) (W.failures output.new) }
 {
@@ -264,7 +261,7 @@ fn report_all<A: Allocator + Copy, W: Sink>(
     let subject = Subject {
         form: request.form,
         origins: &request.origins,
-        program,
+        text,
         machine: job.machine(),
         tools: job.tools(),
     };
@@ -296,13 +293,13 @@ fn report_all<A: Allocator + Copy, W: Sink>(
 
 /// Writes the report of a job without a certificate, because a command, counted from 0, isn't
 /// cleared at a setting of block delete. It reports the obstacle of that command, or those of all
-/// commands that aren't cleared, the coordinates of these commands in the program, whose frames are
-/// those of the job, and the warnings about the program, the machine and its tools.
+/// commands that aren't cleared, the coordinates of these commands in the program, and the warnings
+/// about the program, the machine and its tools. `text` is the text of the job's program.
 ///
 /// If memory runs out (900), nothing is written. If a write fails (902), a prefix is written.
 pub fn report_refusal<A: Allocator + Copy, W: Sink>(
     alloc: A,
-    program: &Program<A>,
+    text: &ReportedText<'_, A>,
     framed: &FramedJob<A>,
     setting: Setting,
     command: u32,
@@ -311,18 +308,17 @@ pub fn report_refusal<A: Allocator + Copy, W: Sink>(
 ) -> Result<(), ReportFault>
     requires made { IsMade framed.now.job.machine request.cuts framed.now.job.off
         (commands_in true framed.now.job) (Err (MakeFault.NotCleared setting command)) }
-    requires frames { IsFramed framed.now (text_in program.now).lines }
     ensures tells { Prints
-        (IsRefusalText request.all framed.now.job request setting command
-        (text_in program.now).lines)
+        (IsRefusalText request.all (framed_in framed.now) request setting command
+        (reported text.now))
         (W.written output.old) (W.written output.new) result }
     ensures counts { FailsByWriting result (W.failures output.old) (W.failures output.new) }
 {
     if request.all {
-        return report_all(alloc, program, framed, setting, command, request, output);
+        return report_all(alloc, text, framed, setting, command, request, output);
     }
     report_first(
-        program,
+        text,
         &framed.job,
         setting,
         command,

@@ -13,8 +13,10 @@ ghost use Rattle.ngc_machine_files.specs.Machine.{file_of};
 ghost use Rattle.ngc_frames.specs.Walks.{WalksOver};
 ghost use Rattle.ngc_refused_values.specs.Texts.{value_line};
 ghost use Rattle.ngc_report.specs.Marks.{named_line};
+ghost use Rattle.ngc_report.specs.Quotes.{quoted};
 ghost use Rattle.ngc_report.specs.Scenes.{StandsAfter};
 ghost use Rattle.ngc_program_report.specs.Coordinates.{coordinates_text, history_of};
+ghost use Rattle.ngc_program_report.specs.Reported.{reported};
 ghost use Rattle.ngc_program_report.specs.Texts.{all_refusals, cause_text, command_refusal};
 ghost use Rattle.ngc_program_report.specs.Texts.{command_refusals, ending, first_of, is_on};
 ghost use Rattle.ngc_program_report.specs.Texts.{missing_at, missing_if, quoted_if, refusal_end};
@@ -23,11 +25,12 @@ ghost use Rattle.ngc_program_report.specs.Texts.{rejection_text, refused_command
 ghost use Rattle.ngc_program_report.specs.Texts.{setting_refusals, shop_text};
 ghost use Rattle.ngc_program_report.specs.Writing.{Writes};
 
-use crate::coordinates::{collect_coordinates, line_of, refused_path, write_coordinates};
+use crate::coordinates::{collect_coordinates, refused_path, write_coordinates};
 use crate::demanded::write_demanded;
 use crate::fit_writer::{is_on, write_setting_warnings, write_shop};
 use crate::met::met_at;
 use crate::report_frame::{write_early_heading, write_ending, write_heading};
+use crate::reported::ReportedText;
 use crate::subject::{Execution, Heading, Subject};
 use ngc_canonical::Fault;
 use ngc_certificate::{Setting, place_fault};
@@ -40,7 +43,7 @@ use ngc_origins::Origins;
 use ngc_refused_values::write_values;
 use ngc_report::{
     Form, Standing, collect_refusals_head, collect_refused_command, write_line, write_named,
-    write_refusal,
+    write_refusal, write_text_line,
 };
 use ngc_text::{Chunk, Sink, WriteFault, write_all};
 use std::alloc::Allocator;
@@ -70,18 +73,34 @@ fn refused_number(commands: &[Command], told: Option<usize>) -> Option<u32>
     }
 }
 
+// Writes a line of a program, by its number.
+fn write_quoted<A: Allocator, W: Sink>(
+    form: Form,
+    text: &ReportedText<'_, A>,
+    number: u32,
+    output: &mut W,
+) -> Result<(), WriteFault>
+    ensures { Writes (W.written output.old) (W.written output.new) (W.failures output.old)
+        (W.failures output.new) result (quoted form number (reported text.now).quoted) }
+{
+    match text {
+        ReportedText::Own(program) => write_line(form, program, number, output),
+        ReportedText::Other(text) => write_text_line(form, text, number, output),
+    }
+}
+
 fn write_refused_line<A: Allocator, W: Sink>(
     form: Form,
-    program: &Program<A>,
+    text: &ReportedText<'_, A>,
     number: Option<u32>,
     output: &mut W,
 ) -> Result<(), WriteFault>
     ensures { Writes (W.written output.old) (W.written output.new) (W.failures output.old)
-        (W.failures output.new) result (quoted_if form number (text_in program.now).lines) }
+        (W.failures output.new) result (quoted_if form number (reported text.now).quoted) }
 {
     match number {
         None => write_all(output, b""),
-        Some(number) => write_line(form, program, number, output),
+        Some(number) => write_quoted(form, text, number, output),
     }
 }
 
@@ -95,10 +114,10 @@ fn write_cause_end<A: Allocator, W: Sink>(
 ) -> Result<(), WriteFault>
     ensures { Writes (W.written output.old) (W.written output.new) (W.failures output.old)
         (W.failures output.new) result
-        (quoted_if subject.now.form number (text_in subject.now.program.now).lines
+        (quoted_if subject.now.form number (reported subject.now.text.now).quoted
         ++ coordinates_text subject.now.form subject.now.origins.now frame.now way.now) }
 {
-    write_refused_line(subject.form, subject.program, number, output)?;
+    write_refused_line(subject.form, subject.text, number, output)?;
     write_coordinates(subject.form, subject.origins, frame, way, output)
 }
 
@@ -114,7 +133,7 @@ fn write_cause<A: Allocator, W: Sink>(
     ensures { Writes (W.written output.old) (W.written output.new) (W.failures output.old)
         (W.failures output.new) result
         (cause_text subject.now.form subject.now.origins.now (file_of subject.now.machine.now)
-        commands.now told fixture (text_in subject.now.program.now).lines frame.now) }
+        commands.now told fixture (reported subject.now.text.now) frame.now) }
 {
     write_refusal(
         subject.form,
@@ -178,7 +197,7 @@ fn write_missing<A: Allocator, W: Sink>(
             let commands = execution.commands;
             let fixture = met_at(subject.machine, commands, command);
             let path = refused_path(commands, Some(command));
-            let frame = execution.history.in_force(line_of(commands, command));
+            let frame = execution.history.in_force(command);
             write_missing_if(subject, fixture, &path, &frame, output)
         }
     }
@@ -211,7 +230,7 @@ fn write_refusal_end<A: Allocator, W: Sink>(
         (refusal_end subject.now.form setting
         (setup_of subject.now.machine.now subject.now.tools.now)
         (history_of execution.now.history.now.start execution.now.history.now.changes.items)
-        execution.now.commands.now (text_in subject.now.program.now).lines) }
+        execution.now.commands.now (reported subject.now.text.now)) }
 {
     write_setting_warnings(subject, setting, execution, output)?;
     write_misfit_end(subject, output)
@@ -230,7 +249,7 @@ pub(crate) fn write_refused<A: Allocator, W: Sink>(
         (W.failures output.new) result
         (refusal_text subject.now.form subject.now.origins.now named setting
         (setup_of subject.now.machine.now subject.now.tools.now) execution.now.commands.now
-        command (text_in subject.now.program.now).lines
+        command (reported subject.now.text.now)
         (history_of execution.now.history.now.start execution.now.history.now.changes.items)) }
 {
     let heading = Heading {
@@ -249,9 +268,7 @@ pub(crate) fn write_refused<A: Allocator, W: Sink>(
     write_missing(subject, execution, told, output)?;
     let commands = execution.commands;
     let fixture = met_at(subject.machine, commands, command as usize);
-    let frame = execution
-        .history
-        .in_force(line_of(commands, command as usize));
+    let frame = execution.history.in_force(command as usize);
     write_cause(subject, commands, told, fixture, &frame, output)?;
     write_refusal_end(subject, setting, execution, output)
 }
@@ -295,7 +312,7 @@ fn collect_refusal<A: Allocator, W: Sink>(
         Ok(()) => {}
         Err(fault) => return Err(fault),
     }
-    let frame = walk.in_force(execution.history, line_of(commands, command));
+    let frame = walk.in_force(execution.history, command);
     let way = refused_path(commands, Some(command));
     collect_coordinates(chunk, form, subject.origins, &frame, &way, output)
 }
@@ -402,7 +419,7 @@ fn write_setting_refusals<A: Allocator, W: Sink>(
         heading.setting (setup_of subject.now.machine.now subject.now.tools.now)
         execution.now.commands.now
         (history_of execution.now.history.now.start execution.now.history.now.changes.items)
-        indices.now (text_in subject.now.program.now).lines) }
+        indices.now (reported subject.now.text.now)) }
 {
     write_heading(
         subject.form,
@@ -430,7 +447,7 @@ pub(crate) fn write_all_once<A: Allocator, W: Sink>(
         execution.now.commands.now
         (history_of execution.now.history.now.start execution.now.history.now.changes.items)
         (history_of execution.now.history.now.start execution.now.history.now.changes.items)
-        indices.now indices.now (text_in subject.now.program.now).lines) }
+        indices.now indices.now (reported subject.now.text.now)) }
 {
     let heading = Heading {
         first: true,
@@ -457,7 +474,7 @@ pub(crate) fn write_all_both<A: Allocator, W: Sink>(
         on.now.commands.now
         (history_of off.now.history.now.start off.now.history.now.changes.items)
         (history_of on.now.history.now.start on.now.history.now.changes.items) off_indices.now
-        on_indices.now (text_in subject.now.program.now).lines) }
+        on_indices.now (reported subject.now.text.now)) }
 {
     let heading = Heading {
         first: true,

@@ -1,9 +1,9 @@
 //! What the parts of a report share.
 use crate::program_time::ProgramTime;
+use crate::reported::ReportedText;
 use ngc_certificate::Setting;
 use ngc_commands::Command;
 use ngc_frames::FrameHistory;
-use ngc_line_reader::Program;
 use ngc_lowest_tips::LowestTip;
 use ngc_machine_files::{Machine, Tools};
 use ngc_origins::Origins;
@@ -16,7 +16,7 @@ pub(crate) struct Subject<'a, A: Allocator> {
     pub(crate) form: Form,
     /// The origins that replace those of the machine file.
     pub(crate) origins: &'a Origins,
-    pub(crate) program: &'a Program<A>,
+    pub(crate) text: &'a ReportedText<'a, A>,
     pub(crate) machine: &'a Machine<A>,
     pub(crate) tools: &'a Tools<A>,
 }

@@ -86,7 +86,7 @@ pub use report::{write_fit, write_refusal};
 pub use report_fault::ReportFault;
 pub use scene::{Met, Obstacle, Scene};
 pub use shifts::{AxisShift, Shifts};
-pub use source_lines::write_source_line;
+pub use source_lines::{write_source_line, write_text_line};
 pub use travel::{AxisSpace, Room};
 pub use uses::{ToolUse, ToolUses};
 pub use warned::write_warnings;

@@ -89,7 +89,7 @@ pub(crate) fn say_quote<W: Sink>(
 }
 
 #[tactic(auto, unfolding(crate::specs::Quotes::quote))]
-fn say_quote_if<W: Sink>(
+pub(crate) fn say_quote_if<W: Sink>(
     form: Form,
     number: u32,
     bytes: Option<&[u8]>,

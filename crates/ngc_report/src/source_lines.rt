@@ -6,10 +6,11 @@ ghost use Rattle.ngc_text.specs.Failures.{CountsFailure};
 ghost use Rattle.ngc_text.specs.Written.{AppendsPrefix};
 ghost use Rattle.ngc_line_reader.specs.Program.{lines_of, split_lines};
 ghost use Rattle.ngc_sentences.specs.Saying.{Says};
-ghost use Rattle.ngc_report.specs.Quotes.{bytes_with, fact_mark, indent, mark, marked, words_mark};
+ghost use Rattle.ngc_report.specs.Quotes.{bytes_with, fact_mark, indent, mark, marked, quoted};
+ghost use Rattle.ngc_report.specs.Quotes.{words_mark};
 
 use crate::form::Form;
-use crate::quotes::say_quote;
+use crate::quotes::{say_quote, say_quote_if};
 use itoa::Buffer;
 use memchr::memchr;
 use ngc_sentences::{Page, Part, say};
@@ -132,5 +133,28 @@ pub fn write_source_line<W: Sink>(
     let mut page = Page::new();
     let bytes = source_line(text, number);
     say_marked(form, number, column, bytes, &mut page, sink);
+    page.finish(sink)
+}
+
+/// Writes a line of a text as `write_line` does, by its number from 1. A line ends at a line feed,
+/// and the last may lack it. If there is no such line, nothing is written.
+///
+/// After a fault (902, only if the sink failed) a prefix of the text is written.
+pub fn write_text_line<W: Sink>(
+    form: Form,
+    text: &[u8],
+    number: u32,
+    sink: &mut W,
+) -> Result<(), WriteFault>
+    ensures ok { OnOk result
+        (Appends (W.written sink.old) (W.written sink.new)
+        (quoted form number (lines_of text.now))) }
+    ensures fault { OnErr result
+        (AppendsPrefix (W.written sink.old) (W.written sink.new)
+        (quoted form number (lines_of text.now))) }
+    ensures counts { CountsFailure (W.failures sink.old) (W.failures sink.new) result }
+{
+    let mut page = Page::new();
+    say_quote_if(form, number, source_line(text, number), &mut page, sink);
     page.finish(sink)
 }

@@ -19,14 +19,16 @@ use Rattle.ngc_certificate_text.specs.declared.piece.Setting.{Setting}
 use Rattle.ngc_certificate_text.specs.declared.piece.Setting.TheVariants.{Off, On}
 use Rattle.ngc_certificate.specs.declared.fault.MakeFault.TheVariants.{NotCleared, Memory}
 use Rattle.ngc_certificate.specs.Made.{IsMade}
-use Rattle.ngc_job.specs.Job.{JobData, IsJobOf, commands_in}
+use Rattle.ngc_job.specs.Job.{IsJobOf, commands_in}
 use Rattle.ngc_command_line.specs.declared.options.ReportOptions.{ReportOptions}
 use Rattle.ngc_machine_files.specs.Machine.{MachineFile}
 use Rattle.ngc_machine_files.specs.declared.tools.Tool.{Tool}
 use Rattle.ngc_simulator.specs.Answers.{ReportsOn, request_of}
-use Rattle.ngc_program_report.specs.JobReports.{IsFirstText, IsFitText, IsRefusalText, IsRefusalsText, IsStartClear, OffBegins, Prints}
+use Rattle.ngc_program_report.specs.JobReports.{IsFitText, IsRefusalText, IsRefusalsText, IsStartClear, OffBegins, Prints}
 use Rattle.ngc_program_report.specs.Coordinates.{History}
-use Rattle.ngc_program_report.specs.Framed.{IsHistoryAt, setup_in}
+use Rattle.ngc_program_report.specs.Framed.{FramedData, IsHistoryAt, frames_in, setup_in}
+use Rattle.ngc_program_report.specs.JobReports.{first_text}
+use Rattle.ngc_program_report.specs.Reported.{own_lines}
 use Rattle.ngc_inputs.specs.Jobs.{IsMadeOf, IsProgram, IsUnmade, WhyNotMade}
 use Rattle.ngc_simulator.specs.Reporting.{IsAllReport, IsFirstReport, IsFitReport, IsReportOf, IsRejectionReport, Reports, frames_of}
 use Rattle.ngc_program_report.specs.Texts.{LastsFor}
@@ -49,105 +51,112 @@ use Rattle.ngc_inputs.proofs.SetupLaws.{of_file, on_placed}
 -- ---- a job of which a certificate is made
 
 -- the reports of a program that was read and has this job
-module _ (setup : Setup) (bytes : List ℕ) (request : ReportRequest) (text : ProgramText) (j : JobData) (is_text : program_of bytes ≡ Ok text)
-    (have : HaveReadings text.lines) (is_job : IsJobFor text setup j) where
-  abbrev the_job : IsJobOf (parsed_program text have.readings) setup j
+module _ (setup : Setup) (bytes : List ℕ) (request : ReportRequest) (text : ProgramText) (f : FramedData) (is_text : program_of bytes ≡ Ok text)
+    (have : HaveReadings text.lines) (is_job : IsJobFor text setup f.job) (off_is : IsHistoryAt f.job Off text.lines f.off)
+    (on_is : IsHistoryAt f.job On text.lines f.on) where
+  abbrev the_job : IsJobOf (parsed_program text have.readings) setup f.job
   the_job = is_job have.readings have.are
 
-  same_setup : setup_in j ≡ setup
+  same_setup : setup_in f.job ≡ setup
   same_setup = ap₂ (λ (m : MachineFile) (tools : List Tool). the_setup m tools) the_job.machine the_job.tools where
     the_setup : MachineFile → List Tool → Setup
     the_setup m tools = record { machine = m; tools = tools }
 
-  frames_as : (s : Setting) (h : History) → IsHistoryAt j s text.lines h → h ≡ frames_of setup (parsed_program text have.readings).lines s
+  frames_as : (s : Setting) (h : History) → IsHistoryAt f.job s text.lines h → h ≡ frames_of setup (parsed_program text have.readings).lines s
   frames_as s h is = is have.readings have.are ∙ ap (λ (of : Setup). frames_of of (parsed_program text have.readings).lines s) same_setup
 
-  fit_report : (c : CertificateData) (t : List ℕ) → IsMadeOf j request.cuts c → IsFitText j c request.form request.origins text.lines t → IsFitReport setup bytes request t
+  frames_at : (s : Setting) → frames_in s f ≡ frames_of setup (parsed_program text have.readings).lines s
+  frames_at Off = frames_as Off f.off off_is
+  frames_at On = frames_as On f.on on_is
+
+  fit_report : (c : CertificateData) (t : List ℕ) → IsMadeOf f.job request.cuts c → IsFitText f c request.form request.origins (own_lines text.lines) t → IsFitReport setup bytes request t
   fit_report c t made is = record {
     certificate = c;
-    made = made_for_file setup bytes request.cuts text j c is_text have is_job made;
+    made = made_for_file setup bytes request.cuts text f.job c is_text have is_job made;
     off_time = is.off_time;
-    off_lasts = subst (λ (m : MachineFile). LastsFor m j.off is.off_time) the_job.machine is.off_lasts;
+    off_lasts = subst (λ (m : MachineFile). LastsFor m f.job.off is.off_time) the_job.machine is.off_lasts;
     on_time = is.on_time;
-    on_lasts = subst (λ (m : MachineFile). LastsFor m (commands_in true j) is.on_time) the_job.machine is.on_lasts;
+    on_lasts = subst (λ (m : MachineFile). LastsFor m (commands_in true f.job) is.on_time) the_job.machine is.on_lasts;
     tells = is.tells
-        ∙ ap (λ (d : Bool). fits_text request.form request.origins d (setup_in j) j.off (commands_in true j) c is.off_time is.on_time
-        is.off_frames is.on_frames text.lines) the_job.apart
-        ∙ ap (λ (s : Setup). fits_text request.form request.origins (has_deleted (parsed_program text have.readings).lines) s j.off (commands_in true j) c
-        is.off_time is.on_time is.off_frames is.on_frames text.lines) same_setup
-        ∙ ap₂ (λ (off_h on_h : History). fits_text request.form request.origins (has_deleted (parsed_program text have.readings).lines) setup j.off
-        (commands_in true j) c is.off_time is.on_time off_h on_h text.lines)
-        (frames_as Off is.off_frames is.off_executed) (frames_as On is.on_frames is.on_executed);
+        ∙ ap (λ (d : Bool). fits_text request.form request.origins d (setup_in f.job) f.job.off (commands_in true f.job) c is.off_time is.on_time
+        f.off f.on (own_lines text.lines)) the_job.apart
+        ∙ ap (λ (s : Setup). fits_text request.form request.origins (has_deleted (parsed_program text have.readings).lines) s f.job.off (commands_in true f.job) c
+        is.off_time is.on_time f.off f.on (own_lines text.lines)) same_setup
+        ∙ ap₂ (λ (off_h on_h : History). fits_text request.form request.origins (has_deleted (parsed_program text have.readings).lines) setup f.job.off
+        (commands_in true f.job) c is.off_time is.on_time off_h on_h (own_lines text.lines))
+        (frames_at Off) (frames_at On);
   }
 
-  pub told_fit : (c : CertificateData) (old new : Option (List ℕ)) → IsMadeOf j request.cuts c → Prints (IsFitText j c request.form request.origins text.lines) old new (Ok tt) →
+  pub told_fit : (c : CertificateData) (old new : Option (List ℕ)) → IsMadeOf f.job request.cuts c → Prints (IsFitText f c request.form request.origins (own_lines text.lines)) old new (Ok tt) →
       Reports setup bytes request old new (Ok tt)
   told_fit c old new made tells = (tells.0, fit_report c tells.0 made tells.1, tells.2)
 
-  pub fit_stopped : (c : CertificateData) (old new : Option (List ℕ)) (fault : ReportFault) → IsMadeOf j request.cuts c
-      → Prints (IsFitText j c request.form request.origins text.lines) old new (Err fault) → Reports setup bytes request old new (Err (of_report fault))
+  pub fit_stopped : (c : CertificateData) (old new : Option (List ℕ)) (fault : ReportFault) → IsMadeOf f.job request.cuts c
+      → Prints (IsFitText f c request.form request.origins (own_lines text.lines)) old new (Err fault) → Reports setup bytes request old new (Err (of_report fault))
   fit_stopped c old new faults.Memory made tells = tells
   fit_stopped c old new (faults.Write fault) made tells = (tells.0, inl (fit_report c tells.0 made tells.1), tells.2)
 
   -- ---- and one of which a command isn't cleared
 
-  at_setting : (s : Setting) → commands_in (is_on s) j ≡ commands_of s j.off (commands_in true j)
+  at_setting : (s : Setting) → commands_in (is_on s) f.job ≡ commands_of s f.job.off (commands_in true f.job)
   at_setting Off = refl
   at_setting On = refl
 
-  refused_made : (s : Setting) (k : ℕ) → IsUnmade j request.cuts (NotCleared s k)
-      → IsMade setup.machine request.cuts j.off (commands_in true j) (Err (NotCleared s k))
+  refused_made : (s : Setting) (k : ℕ) → IsUnmade f.job request.cuts (NotCleared s k)
+      → IsMade setup.machine request.cuts f.job.off (commands_in true f.job) (Err (NotCleared s k))
   refused_made s k is =
-      subst (λ (m : MachineFile). IsMade m request.cuts j.off (commands_in true j) (Err (NotCleared s k))) the_job.machine is
+      subst (λ (m : MachineFile). IsMade m request.cuts f.job.off (commands_in true f.job) (Err (NotCleared s k))) the_job.machine is
 
-  first_report : (s : Setting) (k : ℕ) (t : List ℕ) → IsUnmade j request.cuts (NotCleared s k) → IsFirstText j request.form request.origins s k text.lines t
+  first_report : (s : Setting) (k : ℕ) (t : List ℕ) → IsUnmade f.job request.cuts (NotCleared s k) → t ≡ first_text f.job request.form request.origins s k (own_lines text.lines) (frames_in s f)
       → IsFirstReport setup bytes request s k t
-  first_report s k t unmade is = record {
-    off = j.off;
-    on = commands_in true j;
-    means = means_job setup bytes text j is_text have is_job;
+  first_report s k t unmade tells = record {
+    off = f.job.off;
+    on = commands_in true f.job;
+    means = means_job setup bytes text f.job is_text have is_job;
     made = refused_made s k unmade;
-    tells = is.tells
-        ∙ ap (λ (cs : List Command). refusal_text request.form request.origins (is_some j.on) s (setup_in j) cs k text.lines is.frames) (at_setting s)
-        ∙ ap (λ (d : Bool). refusal_text request.form request.origins d s (setup_in j) (commands_of s j.off (commands_in true j)) k text.lines is.frames) the_job.apart
+    tells = tells
+        ∙ ap (λ (cs : List Command). refusal_text request.form request.origins (is_some f.job.on) s (setup_in f.job) cs k (own_lines text.lines) (frames_in s f))
+        (at_setting s)
+        ∙ ap (λ (d : Bool). refusal_text request.form request.origins d s (setup_in f.job) (commands_of s f.job.off (commands_in true f.job)) k
+        (own_lines text.lines) (frames_in s f)) the_job.apart
         ∙ ap₂ (λ (of : Setup) (h : History). refusal_text request.form request.origins (has_deleted (parsed_program text have.readings).lines) s of
-        (commands_of s j.off (commands_in true j)) k text.lines h) same_setup (frames_as s is.frames is.executed);
+        (commands_of s f.job.off (commands_in true f.job)) k (own_lines text.lines) h) same_setup (frames_at s);
   }
 
-  all_report : (s : Setting) (k : ℕ) (t : List ℕ) → IsUnmade j request.cuts (NotCleared s k) → IsRefusalsText j request.cuts s k request.form request.origins text.lines t
+  all_report : (s : Setting) (k : ℕ) (t : List ℕ) → IsUnmade f.job request.cuts (NotCleared s k) → IsRefusalsText f request.cuts s k request.form request.origins (own_lines text.lines) t
       → IsAllReport setup bytes request s k t
   all_report s k t unmade is = record {
-    off = j.off;
-    on = commands_in true j;
-    means = means_job setup bytes text j is_text have is_job;
+    off = f.job.off;
+    on = commands_in true f.job;
+    means = means_job setup bytes text f.job is_text have is_job;
     made = refused_made s k unmade;
     off_ks = is.off_ks;
-    off_uncleared = subst (λ (m : MachineFile). AreUncleared m request.cuts j.off is.off_ks) the_job.machine is.off_uncleared;
+    off_uncleared = subst (λ (m : MachineFile). AreUncleared m request.cuts f.job.off is.off_ks) the_job.machine is.off_uncleared;
     off_begins = λ start. subst (λ (d : Bool). OffBegins d s k is.off_ks) the_job.apart (is.off_begins (subst IsStartClear (sym the_job.machine) start));
     on_ks = is.on_ks;
-    on_uncleared = subst (λ (m : MachineFile). AreUncleared m request.cuts (commands_in true j) is.on_ks) the_job.machine is.on_uncleared;
+    on_uncleared = subst (λ (m : MachineFile). AreUncleared m request.cuts (commands_in true f.job) is.on_ks) the_job.machine is.on_uncleared;
     on_begins = λ start. is.on_begins (subst IsStartClear (sym the_job.machine) start);
     tells = is.tells
-        ∙ ap (λ (d : Bool). refusals_text request.form request.origins d (setup_in j) j.off (commands_in true j) is.off_frames is.on_frames is.off_ks is.on_ks text.lines)
+        ∙ ap (λ (d : Bool). refusals_text request.form request.origins d (setup_in f.job) f.job.off (commands_in true f.job) f.off f.on is.off_ks is.on_ks (own_lines text.lines))
         the_job.apart
-        ∙ ap (λ (of : Setup). refusals_text request.form request.origins (has_deleted (parsed_program text have.readings).lines) of j.off (commands_in true j)
-        is.off_frames is.on_frames is.off_ks is.on_ks text.lines) same_setup
-        ∙ ap₂ (λ (off_h on_h : History). refusals_text request.form request.origins (has_deleted (parsed_program text have.readings).lines) setup j.off
-        (commands_in true j) off_h on_h is.off_ks is.on_ks text.lines)
-        (frames_as Off is.off_frames is.off_executed) (frames_as On is.on_frames is.on_executed);
+        ∙ ap (λ (of : Setup). refusals_text request.form request.origins (has_deleted (parsed_program text have.readings).lines) of f.job.off (commands_in true f.job)
+        f.off f.on is.off_ks is.on_ks (own_lines text.lines)) same_setup
+        ∙ ap₂ (λ (off_h on_h : History). refusals_text request.form request.origins (has_deleted (parsed_program text have.readings).lines) setup f.job.off
+        (commands_in true f.job) off_h on_h is.off_ks is.on_ks (own_lines text.lines))
+        (frames_at Off) (frames_at On);
   }
 
-  refusal_report : (all : Bool) (s : Setting) (k : ℕ) (t : List ℕ) → IsUnmade j request.cuts (NotCleared s k)
-      → IsRefusalText all j request s k text.lines t → IsReportOf all setup bytes request s k t
+  refusal_report : (all : Bool) (s : Setting) (k : ℕ) (t : List ℕ) → IsUnmade f.job request.cuts (NotCleared s k)
+      → IsRefusalText all f request s k (own_lines text.lines) t → IsReportOf all setup bytes request s k t
   refusal_report true s k t unmade is = all_report s k t unmade is
   refusal_report false s k t unmade is = first_report s k t unmade is
 
-  pub told_refusal : (s : Setting) (k : ℕ) (old new : Option (List ℕ)) → IsUnmade j request.cuts (NotCleared s k)
-      → Prints (IsRefusalText request.all j request s k text.lines) old new (Ok tt) → Reports setup bytes request old new (Err (answers.Make (NotCleared s k)))
+  pub told_refusal : (s : Setting) (k : ℕ) (old new : Option (List ℕ)) → IsUnmade f.job request.cuts (NotCleared s k)
+      → Prints (IsRefusalText request.all f request s k (own_lines text.lines)) old new (Ok tt) → Reports setup bytes request old new (Err (answers.Make (NotCleared s k)))
   told_refusal s k old new unmade tells = (tells.0, refusal_report request.all s k tells.0 unmade tells.1, tells.2)
 
-  pub refusal_stopped : (s : Setting) (k : ℕ) (old new : Option (List ℕ)) (fault : ReportFault) → IsUnmade j request.cuts (NotCleared s k)
-      → Prints (IsRefusalText request.all j request s k text.lines) old new (Err fault) → Reports setup bytes request old new (Err (of_report fault))
+  pub refusal_stopped : (s : Setting) (k : ℕ) (old new : Option (List ℕ)) (fault : ReportFault) → IsUnmade f.job request.cuts (NotCleared s k)
+      → Prints (IsRefusalText request.all f request s k (own_lines text.lines)) old new (Err fault) → Reports setup bytes request old new (Err (of_report fault))
   refusal_stopped s k old new faults.Memory unmade tells = tells
   refusal_stopped s k old new (faults.Write fault) unmade tells =
       (tells.0, inr (inl (s, k, refusal_report request.all s k tells.0 unmade tells.1)), tells.2)

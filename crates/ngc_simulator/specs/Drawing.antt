@@ -1,6 +1,6 @@
 -- The result of drawing a program. Our own.
 use Rattle.std.specs.Prelude.{◌≡◌, ℕ, List, [], Option, Some, None, Result, Ok}
-use Rattle.std.specs.Prelude.{Err, Bool, codes, if◌then◌else◌, slice_get}
+use Rattle.std.specs.Prelude.{Err, Bool, codes, if◌then◌else◌, length}
 use Rattle.std.specs.Str.{bytes_eq}
 use Rattle.std.specs.Io.KnownBytes.{Appends, Keeps}
 use Rattle.ngc_text.specs.Written.{AppendsPrefix}
@@ -112,19 +112,15 @@ work_of f = record {
   axis_offset = f.frames.axis_offset;
 }
 
--- the line of a command; without one a line after all others
-abbrev pub line_or_last : Option Command → ℕ
-line_or_last None = 4294967295
-line_or_last (Some c) = c.line
+-- the command that is refused, or the end of the program
+abbrev pub shown_command : List Command → Option RefusedMotion → ℕ
+shown_command commands None = length commands
+shown_command commands (Some r) = r.command
 
-abbrev pub shown_line : List Command → Option RefusedMotion → ℕ
-shown_line commands None = 4294967295
-shown_line commands (Some r) = line_or_last (slice_get commands r.command)
-
--- that in force at the refused motion, or at the end of the program
+-- the work origin in force there
 abbrev pub origin_shown : Frame → List FrameChange → List Command → Option RefusedMotion → WorkOrigin
 origin_shown start changes commands refusal =
-    work_of (frame_in_force start changes (shown_line commands refusal)).frame
+    work_of (frame_in_force start changes (shown_command commands refusal)).frame
 
 abbrev pub work_origin : Setup → List NumberedLine → Bool → List Command → Option RefusedMotion →
     WorkOrigin

@@ -21,6 +21,7 @@ use Rattle.ngc_inputs.specs.Jobs.{AreMeanings, IsMadeFor, IsProgram, IsRefusedAt
 use Rattle.ngc_frames.specs.Changes.{frame_changes, start_frame}
 use Rattle.ngc_program_report.specs.Coordinates.{History, history_of}
 use Rattle.ngc_program_report.specs.JobReports.{IsStartClear, OffBegins, OnBegins}
+use Rattle.ngc_program_report.specs.Reported.{own_lines}
 use Rattle.ngc_program_report.specs.Texts.{LastsFor, commands_of, fault_text, fits_text, is_on}
 use Rattle.ngc_program_report.specs.Texts.{refusal_text, refusals_text}
 use Rattle.ngc_program_report.specs.Times.{ProgramTimeData}
@@ -42,7 +43,7 @@ pub record IsFitReport (setup : Setup) (bytes : List ℕ) (request : ReportReque
   pub tells : text ≡ fits_text request.form request.origins
       (has_deleted made.means.program.lines) setup made.off made.on certificate off_time on_time
       (frames_of setup made.means.program.lines Off) (frames_of setup made.means.program.lines On)
-      made.means.is_program.text.lines
+      (own_lines made.means.is_program.text.lines)
 
 -- the report of one of which command k isn't cleared at a setting
 pub record IsFirstReport (setup : Setup) (bytes : List ℕ) (request : ReportRequest) (s : Setting)
@@ -53,7 +54,7 @@ pub record IsFirstReport (setup : Setup) (bytes : List ℕ) (request : ReportReq
   pub made : IsMade setup.machine request.cuts off on (Err (NotCleared s k))
   pub tells : text ≡ refusal_text request.form request.origins
       (has_deleted means.program.lines) s setup (commands_of s off on) k
-      means.is_program.text.lines (frames_of setup means.program.lines s)
+      (own_lines means.is_program.text.lines) (frames_of setup means.program.lines s)
 
 -- the report of all commands that aren't cleared, at either setting: at least command k of that
 -- setting, or the start point
@@ -73,7 +74,7 @@ pub record IsAllReport (setup : Setup) (bytes : List ℕ) (request : ReportReque
   pub tells : text ≡ refusals_text request.form request.origins
       (has_deleted means.program.lines) setup off on
       (frames_of setup means.program.lines Off) (frames_of setup means.program.lines On)
-      off_ks on_ks means.is_program.text.lines
+      off_ks on_ks (own_lines means.is_program.text.lines)
 
 abbrev pub IsReportOf : Bool → Setup → List ℕ → ReportRequest → Setting → ℕ → List ℕ → Type 0
 IsReportOf false setup bytes request s k text = IsFirstReport setup bytes request s k text

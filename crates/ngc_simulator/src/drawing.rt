@@ -10,7 +10,7 @@ ghost use Rattle.ngc_line_reader.specs.ProgramView.{text_in};
 ghost use Rattle.ngc_machine_files.specs.Machine.{file_of};
 ghost use Rattle.ngc_inputs.specs.Faults.{FailsByOutput, OfDrawing};
 ghost use Rattle.ngc_simulator.specs.Drawing.{DrawsNamed, DrawsProgram, IsFirstRefused, IsMadeRefusal};
-ghost use Rattle.ngc_simulator.specs.Drawing.{drawn_refusal, fault_at, line_or_last, shown_line};
+ghost use Rattle.ngc_simulator.specs.Drawing.{drawn_refusal, fault_at, shown_command};
 ghost use Rattle.ngc_simulator.specs.Drawing.{origin_shown, work_of};
 ghost use Rattle.ngc_offsets.specs.Frames.{index};
 ghost use Rattle.ngc_program_report.specs.Met.{met_at};
@@ -187,23 +187,14 @@ fn work_of(frame: &Frame) -> WorkOrigin
     }
 }
 
-fn line_of(command: Option<&Command>) -> u32
-    ensures { result ≡ line_or_last (option_map (λ c. c.now) command.entry) }
-{
-    match command {
-        None => u32::MAX,
-        Some(command) => command.line,
-    }
-}
-
-// Returns the line by whose frame the work origin is drawn: that of the refused motion, or a line
-// after all others.
-fn shown_line(commands: &[Command], refusal: &Option<RefusedMotion>) -> u32
-    ensures { result ≡ shown_line commands.now refusal.now }
+// Returns the command by whose frame the work origin is drawn: that of the refused motion, or the end
+// of the program.
+fn shown_command(commands: &[Command], refusal: &Option<RefusedMotion>) -> usize
+    ensures { result ≡ shown_command commands.now refusal.now }
 {
     match refusal {
-        None => u32::MAX,
-        Some(refusal) => line_of(commands.get(refusal.command)),
+        None => commands.len(),
+        Some(refusal) => refusal.command,
     }
 }
 
@@ -216,7 +207,7 @@ fn work_origin<A: Allocator>(
     ensures { result ≡ origin_shown frames.now.start frames.now.changes.items commands.now
         refusal.now }
 {
-    let in_force = frames.in_force(shown_line(commands, refusal));
+    let in_force = frames.in_force(shown_command(commands, refusal));
     work_of(&in_force.frame)
 }
 

@@ -16,7 +16,9 @@ use ngc_certificate::{MakeFault, Setting};
 use ngc_inputs::AnswerFault;
 use ngc_line_reader::Program;
 use ngc_machine_files::{Machine, Tools};
-use ngc_program_report::{ReportRequest, framed_job, report_fit, report_refusal, write_rejection};
+use ngc_program_report::{
+    ReportRequest, ReportedText, framed_job, report_fit, report_refusal, write_rejection,
+};
 use ngc_text::{Sink, Source};
 use std::alloc::Allocator;
 
@@ -89,11 +91,12 @@ pub fn report_program<A: Allocator + Copy, R: Source, W: Sink>(
             return Err(report_rejection(&program, setting, fault, request, output));
         }
     };
+    let text = ReportedText::Own(&program);
     match plans_for(alloc, &framed.job, request.cuts) {
         Ok(plans) => {
             report_fit(
                 alloc,
-                &program,
+                &text,
                 framed,
                 &plans,
                 request.form,
@@ -103,7 +106,7 @@ pub fn report_program<A: Allocator + Copy, R: Source, W: Sink>(
             Ok(())
         }
         Err(MakeFault::NotCleared { setting, command }) => {
-            report_refusal(alloc, &program, &framed, setting, command, request, output)?;
+            report_refusal(alloc, &text, &framed, setting, command, request, output)?;
             Err(AnswerFault::Make(MakeFault::NotCleared { setting, command }))
         }
         Err(MakeFault::Memory) => Err(AnswerFault::Make(MakeFault::Memory)),

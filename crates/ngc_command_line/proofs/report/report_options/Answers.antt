@@ -12,4 +12,5 @@ returns c = record {
   all = c.flag_is_set.ensures;
   json = c.flag_is_set-2.ensures;
   changes = c.requires.changes;
+  dialect = c.get_str-2.ensures ∙ first_value-rows (found_of c.args.found.now) (codes "dialect");
 }

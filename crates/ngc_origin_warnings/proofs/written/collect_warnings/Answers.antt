@@ -9,14 +9,14 @@ use Rattle.ngc_origin_warnings.specs.Warnings.{new_origin, none_warned, warnings
 use Rattle.ngc_origin_warnings.proofs.WarningProgress.{next_command, stopped, went}
 use Rattle.ngc_origin_warnings.proofs.written.collect_warnings.Goals as goal
 
-pub loop-command-init : goal.loop-command-init
-loop-command-init g c =
+pub loop-index-init : goal.loop-index-init
+loop-index-init g c =
     let h = c.args.history.now in
     let m = file_of c.args.machine.now in record {
       front = (
         [],
         appends_none _,
-        ap (λ (w : List (Option ℕ)). c.args.chunk.now ++ warnings_from c.args.form m c.args.lowest h.start h.changes.items w c.args.commands.now)
+        ap (λ (w : List (Option ℕ)). c.args.chunk.now ++ warnings_from c.args.form m c.args.lowest h.start h.changes.items w 0 c.args.commands.now)
             (sym c.none-warned.ensures),
       );
       walk = c.start-walk.ensures;
@@ -31,48 +31,48 @@ returns-in-Err-clause-text g c =
     let start = c.args.history.now.start in
     let changes = c.args.history.now.changes.items in
     let cs = c.args.commands.now in
-    let i = c.loop-command.command-index in
-    let command = c.command-item.result in
-    let warned = c.loop-command.warned.lines in
-    let new = new_origin m low start changes warned command in
-    stopped (g.W.Sink.written c.args.sink.now) (g.W.Sink.written c.loop-command.sink) (g.W.Sink.written c.collect_warning.new.sink)
-    (c.args.chunk.now ++ warnings_from form m low start changes none_warned cs) c.loop-command.chunk
-    (warnings_from form m low start changes warned (drop i cs)) (warning_text form command.line new)
+    let i = c.loop-index.index in
+    let command = c.index-commands-index.result in
+    let warned = c.loop-index.warned.lines in
+    let new = new_origin m low start changes warned i command in
+    stopped (g.W.Sink.written c.args.sink.now) (g.W.Sink.written c.loop-index.sink) (g.W.Sink.written c.collect_warning.new.sink)
+    (c.args.chunk.now ++ warnings_from form m low start changes none_warned 0 cs) c.loop-index.chunk
+    (warnings_from form m low start changes warned i (drop i cs)) (warning_text form command.line new)
     (warning_text form command.line c.new_origin-origin.result)
-    (warnings_from form m low start changes (with_warned warned new) (drop (i + 1) cs))
-    (next_command form m low start changes warned cs i command c.loop-command-test.true c.command-item.is)
-    (ap (warning_text form command.line) c.new_origin-origin.ensures.value) c.loop-command.invariant.front c.in-Err.ensures.text
+    (warnings_from form m low start changes (with_warned warned new) (i + 1) (drop (i + 1) cs))
+    (next_command form m low start changes warned cs i command c.loop-index-test.true c.index-commands-index.is)
+    (ap (warning_text form command.line) c.new_origin-origin.ensures.value) c.loop-index.invariant.front c.in-Err.ensures.text
 
 pub returns-in-Err-clause-counts : goal.returns-in-Err-clause-counts
 returns-in-Err-clause-counts g c =
     subst (λ (n : ℕ). CountsFailure {A = Unit {0}} n (g.W.Sink.failures c.collect_warning.new.sink) (Err c.in-Err.fault))
-    c.loop-command.invariant.failures c.in-Err.ensures.counts
+    c.loop-index.invariant.failures c.in-Err.ensures.counts
 
-pub loop-command-preserved : goal.loop-command-preserved
-loop-command-preserved g c =
+pub loop-index-preserved : goal.loop-index-preserved
+loop-index-preserved g c =
     let form = c.args.form in
     let m = file_of c.args.machine.now in
     let low = c.args.lowest in
     let start = c.args.history.now.start in
     let changes = c.args.history.now.changes.items in
     let cs = c.args.commands.now in
-    let i = c.loop-command.command-index in
-    let command = c.command-item.result in
-    let warned = c.loop-command.warned.lines in
-    let new = new_origin m low start changes warned command in
-    let whole = c.args.chunk.now ++ warnings_from form m low start changes none_warned cs in
+    let i = c.loop-index.index in
+    let command = c.index-commands-index.result in
+    let warned = c.loop-index.warned.lines in
+    let new = new_origin m low start changes warned i command in
+    let whole = c.args.chunk.now ++ warnings_from form m low start changes none_warned 0 cs in
     let front =
-    went (g.W.Sink.written c.args.sink.now) (g.W.Sink.written c.loop-command.sink) (g.W.Sink.written c.collect_warning.new.sink)
-    whole c.loop-command.chunk c.collect_warning.new.chunk
-    (warnings_from form m low start changes warned (drop i cs)) (warning_text form command.line new)
+    went (g.W.Sink.written c.args.sink.now) (g.W.Sink.written c.loop-index.sink) (g.W.Sink.written c.collect_warning.new.sink)
+    whole c.loop-index.chunk c.collect_warning.new.chunk
+    (warnings_from form m low start changes warned i (drop i cs)) (warning_text form command.line new)
     (warning_text form command.line c.new_origin-origin.result)
-    (warnings_from form m low start changes (with_warned warned new) (drop (i + 1) cs))
-    (next_command form m low start changes warned cs i command c.loop-command-test.true c.command-item.is)
-    (ap (warning_text form command.line) c.new_origin-origin.ensures.value) c.loop-command.invariant.front c.in-Ok.ensures.text in
+    (warnings_from form m low start changes (with_warned warned new) (i + 1) (drop (i + 1) cs))
+    (next_command form m low start changes warned cs i command c.loop-index-test.true c.index-commands-index.is)
+    (ap (warning_text form command.line) c.new_origin-origin.ensures.value) c.loop-index.invariant.front c.in-Ok.ensures.text in
     record {
       front =
           subst (λ (w : List (Option ℕ)). WritesPrefix (g.W.Sink.written c.args.sink.now) (g.W.Sink.written c.collect_warning.new.sink) whole
-          (c.collect_warning.new.chunk ++ warnings_from form m low start changes w (drop (i + 1) cs)))
+          (c.collect_warning.new.chunk ++ warnings_from form m low start changes w (i + 1) (drop (i + 1) cs)))
           (sym (c.with-warned.ensures ∙ ap (with_warned warned) c.new_origin-origin.ensures.value)) front;
       walk = c.new_origin-origin.ensures.walk;
       failures = search rules;
@@ -86,8 +86,8 @@ returns-clause-text g c =
     let start = c.args.history.now.start in
     let changes = c.args.history.now.changes.items in
     let cs = c.args.commands.now in
-    let none = at_drop_all (warnings_from form m low start changes c.loop-command.warned.lines) cs c.loop-command.command-index
-    c.loop-command-test.false in
-    subst (λ (l : List ℕ). WritesPrefix (g.W.Sink.written c.args.sink.now) (g.W.Sink.written c.loop-command.sink)
-    (c.args.chunk.now ++ warnings_from form m low start changes none_warned cs) l)
-    (ap (λ l. c.loop-command.chunk ++ l) none ∙ append-nil c.loop-command.chunk) c.loop-command.invariant.front
+    let none = at_drop_all (warnings_from form m low start changes c.loop-index.warned.lines c.loop-index.index) cs c.loop-index.index
+    c.loop-index-test.false in
+    subst (λ (l : List ℕ). WritesPrefix (g.W.Sink.written c.args.sink.now) (g.W.Sink.written c.loop-index.sink)
+    (c.args.chunk.now ++ warnings_from form m low start changes none_warned 0 cs) l)
+    (ap (λ l. c.loop-index.chunk ++ l) none ∙ append-nil c.loop-index.chunk) c.loop-index.invariant.front

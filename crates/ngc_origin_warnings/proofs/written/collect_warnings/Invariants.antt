@@ -6,12 +6,12 @@ use Rattle.ngc_text.specs.Collected.{WritesPrefix}
 use Rattle.ngc_origin_warnings.specs.Warnings.{none_warned, warnings_from}
 use Rattle.ngc_origin_warnings.proofs.written.collect_warnings.Given as goal
 
-abbrev pub invariant-loop-command : goal.invariant-loop-command
-invariant-loop-command g l = record {
+abbrev pub invariant-loop-index : goal.invariant-loop-index
+invariant-loop-index g l = record {
   front : WritesPrefix (g.W.Sink.written l.initial.sink) (g.W.Sink.written l.sink)
-      (l.initial.chunk ++ warnings_from l.form (file_of l.machine) l.fn.lowest l.history.start l.history.changes.items none_warned l.commands)
-      (l.chunk ++ warnings_from l.form (file_of l.machine) l.fn.lowest l.history.start l.history.changes.items l.warned.lines
-      (drop l.command-index l.commands));
+      (l.initial.chunk ++ warnings_from l.form (file_of l.machine) l.fn.lowest l.history.start l.history.changes.items none_warned 0 l.commands)
+      (l.chunk ++ warnings_from l.form (file_of l.machine) l.fn.lowest l.history.start l.history.changes.items l.warned.lines l.index
+      (drop l.index l.commands));
   walk : WalksOver l.history.start l.history.changes.items l.walk;
   failures : g.W.Sink.failures l.sink ≡ g.W.Sink.failures l.initial.sink;
 }

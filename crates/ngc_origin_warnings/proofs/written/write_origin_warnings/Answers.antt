@@ -11,7 +11,7 @@ returns-in-Ok-clause-ok g c =
     let m = file_of c.args.machine.now in
     let h = c.args.history.now in
     let text = origin_warnings c.args.form m c.args.tools.now h.start h.changes.items c.args.commands.now in
-    let is = ap (λ (low : ℤ). warnings_from c.args.form m low h.start h.changes.items none_warned c.args.commands.now) c.lowest-low.ensures in
+    let is = ap (λ (low : ℤ). warnings_from c.args.form m low h.start h.changes.items none_warned 0 c.args.commands.now) c.lowest-low.ensures in
     whole_out c.write_out.result (g.W.Sink.written c.args.sink.now) (g.W.Sink.written c.collect_warnings.new.sink)
     (g.W.Sink.written c.write_out.new.sink) c.new-chunk.result text c.collect_warnings.new.chunk c.new-chunk.ensures
     (subst (λ (l : List ℕ). WritesPrefix (g.W.Sink.written c.args.sink.now) (g.W.Sink.written c.collect_warnings.new.sink) (c.new-chunk.result ++ l)
@@ -23,7 +23,7 @@ returns-in-Ok-clause-fault g c =
     let m = file_of c.args.machine.now in
     let h = c.args.history.now in
     let text = origin_warnings c.args.form m c.args.tools.now h.start h.changes.items c.args.commands.now in
-    let is = ap (λ (low : ℤ). warnings_from c.args.form m low h.start h.changes.items none_warned c.args.commands.now) c.lowest-low.ensures in
+    let is = ap (λ (low : ℤ). warnings_from c.args.form m low h.start h.changes.items none_warned 0 c.args.commands.now) c.lowest-low.ensures in
     part_out c.write_out.result (g.W.Sink.written c.args.sink.now) (g.W.Sink.written c.collect_warnings.new.sink)
     (g.W.Sink.written c.write_out.new.sink) c.new-chunk.result text c.collect_warnings.new.chunk c.new-chunk.ensures
     (subst (λ (l : List ℕ). WritesPrefix (g.W.Sink.written c.args.sink.now) (g.W.Sink.written c.collect_warnings.new.sink) (c.new-chunk.result ++ l)
@@ -35,7 +35,7 @@ returns-in-Err-clause-fault g c =
     let m = file_of c.args.machine.now in
     let h = c.args.history.now in
     let text = origin_warnings c.args.form m c.args.tools.now h.start h.changes.items c.args.commands.now in
-    let is = ap (λ (low : ℤ). warnings_from c.args.form m low h.start h.changes.items none_warned c.args.commands.now) c.lowest-low.ensures in
+    let is = ap (λ (low : ℤ). warnings_from c.args.form m low h.start h.changes.items none_warned 0 c.args.commands.now) c.lowest-low.ensures in
     none_out (g.W.Sink.written c.args.sink.now) (g.W.Sink.written c.collect_warnings.new.sink) c.new-chunk.result text c.new-chunk.ensures
     (subst (λ (l : List ℕ).
     AppendsPrefix (g.W.Sink.written c.args.sink.now) (g.W.Sink.written c.collect_warnings.new.sink) (c.new-chunk.result ++ l)) is

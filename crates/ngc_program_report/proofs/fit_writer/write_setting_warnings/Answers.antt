@@ -1,9 +1,10 @@
-use Rattle.std.proofs.Common.{List, Bool, ap, ap₂}
+use Rattle.std.proofs.Common.{List, Bool, ap}
 use Rattle.ngc_machine_files.specs.Machine.{file_of}
+use Rattle.ngc_machine_files.specs.Tools.{tools_of}
 use Rattle.ngc_machine_files.specs.declared.tools.Tool.{Tool}
-use Rattle.ngc_line_reader.specs.ProgramView.{text_in}
 use Rattle.ngc_origin_warnings.specs.Warnings.{origin_warnings}
 use Rattle.ngc_word_warnings.specs.Spelling.{word_warnings}
+use Rattle.ngc_program_report.specs.Reported.{reported}
 use Rattle.ngc_program_report.proofs.WritingLaws.{stops, then, writes_text}
 use Rattle.ngc_program_report.proofs.WrittenLaws.{appends_as, begins_as}
 use Rattle.ngc_program_report.proofs.fit_writer.write_setting_warnings.Goals as goal
@@ -16,27 +17,27 @@ returns-in_err-write_tool_warnings g c =
     then _ _ c.in_ok-write_warnings.ensures.ok c.in_ok-write_warnings.ensures.counts
     (stops _ _ c.from_residual-in_err-write_tool_warnings.ensures.0 c.in_err-write_tool_warnings.ensures.fault c.in_err-write_tool_warnings.ensures.counts)
 
-pub returns-in_err-write_word_warnings : goal.returns-in_err-write_word_warnings
-returns-in_err-write_word_warnings g c =
+pub returns-in_err-write_words : goal.returns-in_err-write_words
+returns-in_err-write_words g c =
     let m = file_of c.args.subject.now.machine.now in
     let cs = c.args.execution.now.commands.now in
-    let lines = (text_in c.args.subject.now.program.now).lines in
-    let words = ap₂ (λ (deletes : Bool) (ts : List Tool). word_warnings c.args.subject.now.form deletes m ts cs lines) c.is_on-deletes.ensures
-    c.tools-table.ensures.tools in
+    let lines = (reported c.args.subject.now.text.now).examined in
+    let tools = tools_of c.args.subject.now.tools.now in
+    let words = ap (λ (deletes : Bool). word_warnings c.args.subject.now.form deletes m tools cs lines) c.is_on.ensures in
     then _ _ c.in_ok-write_warnings.ensures.ok c.in_ok-write_warnings.ensures.counts
     (then _ _ c.in_ok-write_tool_warnings.ensures.ok c.in_ok-write_tool_warnings.ensures.counts
-    (stops _ _ c.from_residual-in_err-write_word_warnings.ensures.0 (begins_as _ _ _ _ words c.in_err-write_word_warnings.ensures.fault) c.in_err-write_word_warnings.ensures.counts))
+    (stops _ _ c.from_residual-in_err-write_words.ensures.0 (begins_as _ _ _ _ words c.in_err-write_words.ensures.fault) c.in_err-write_words.ensures.counts))
 
 pub returns : goal.returns
 returns g c =
     let m = file_of c.args.subject.now.machine.now in
     let cs = c.args.execution.now.commands.now in
-    let lines = (text_in c.args.subject.now.program.now).lines in
-    let words = ap₂ (λ (deletes : Bool) (ts : List Tool). word_warnings c.args.subject.now.form deletes m ts cs lines) c.is_on-deletes.ensures
-    c.tools-table.ensures.tools in
+    let lines = (reported c.args.subject.now.text.now).examined in
+    let tools = tools_of c.args.subject.now.tools.now in
+    let words = ap (λ (deletes : Bool). word_warnings c.args.subject.now.form deletes m tools cs lines) c.is_on.ensures in
     let h = c.args.execution.now.history.now in
     let origins = ap (λ (ts : List Tool). origin_warnings c.args.subject.now.form m ts h.start h.changes.items cs) c.tools-table.ensures.tools in
     then _ _ c.in_ok-write_warnings.ensures.ok c.in_ok-write_warnings.ensures.counts
     (then _ _ c.in_ok-write_tool_warnings.ensures.ok c.in_ok-write_tool_warnings.ensures.counts
-    (then _ _ (appends_as _ _ _ _ words c.in_ok-write_word_warnings.ensures.ok) c.in_ok-write_word_warnings.ensures.counts
+    (then _ _ (appends_as _ _ _ _ words c.in_ok-write_words.ensures.ok) c.in_ok-write_words.ensures.counts
     (writes_text _ _ origins c.write_origin_warnings.ensures.ok c.write_origin_warnings.ensures.fault c.write_origin_warnings.ensures.counts)))

@@ -5,9 +5,10 @@ use Rattle.ngc_certificate.specs.Plans.{both_planned, plan_at}
 use Rattle.ngc_certificate_text.specs.Certificate.{AreEntries}
 use Rattle.ngc_certificate_text.specs.declared.piece.Setting.TheVariants.{Off, On}
 use Rattle.ngc_job.specs.Job.{commands_in}
-use Rattle.ngc_line_reader.specs.ProgramView.{text_in}
+use Rattle.ngc_program_report.specs.Framed.{framed_in}
 use Rattle.ngc_program_report.specs.JobReports.{FailsByWriting, IsFitText, Prints}
 use Rattle.ngc_report.specs.declared.report_fault.ReportFault.TheVariants as faults
+use Rattle.ngc_program_report.specs.Reported.{reported}
 use Rattle.ngc_program_report.proofs.JobTexts.{fit_both, fit_once, lasts_off, lasts_on, planned_as}
 use Rattle.ngc_program_report.proofs.MemoryLaws.{memory_tells}
 use Rattle.ngc_report.proofs.Converted.{turned}
@@ -43,10 +44,9 @@ returns-then-not-apart-clause-tells g c =
     let is = c.in_ok-off_time.ensures.back ∙ c.accept-accepted.ensures in (
       _,
       fit_once f said c.args.form c.args.origins.now c.in_ok-off_time.accepted (planned_by c.motions_at-motions.result) c.in_ok-off_time.off_time
-          (text_in c.args.program.now).lines none is
+          (reported c.args.text.now) none is
           (c.motions_at-motions.ensures ∙ planned_as j c.in_ok-off_time.accepted false (plan_at Off c.args.plans.now) is)
-          (lasts_off c.accept-accepted.result j c.in_ok-off_time.off_time c.accept-accepted.ensures c.in_ok-off_time.ensures.lasts)
-          c.requires.frames,
+          (lasts_off c.accept-accepted.result j c.in_ok-off_time.off_time c.accept-accepted.ensures c.in_ok-off_time.ensures.lasts),
       c.in_ok-write_once.ensures.ok,
     )
 
@@ -58,15 +58,14 @@ returns-in_err-write_once-clause-tells g c =
     let none : is_some j.on ≡ false = sym c.has_deleted_lines-apart.ensures ∙ c.if-not-apart.true in
     let is = c.in_ok-off_time.ensures.back ∙ c.accept-accepted.ensures in
     turned _ (faults.Write c.in_err-write_once.field-0.0)
-    (λ r. Prints (IsFitText j said c.args.form c.args.origins.now (text_in c.args.program.now).lines) (g.W.Sink.written c.args.output.now)
+    (λ r. Prints (IsFitText (framed_in c.args.framed) said c.args.form c.args.origins.now (reported c.args.text.now)) (g.W.Sink.written c.args.output.now)
     (g.W.Sink.written c.write_once.new.output) r)
     c.from_residual-in_err-write_once.ensures.1 (
       _,
       fit_once f said c.args.form c.args.origins.now c.in_ok-off_time.accepted (planned_by c.motions_at-motions.result) c.in_ok-off_time.off_time
-          (text_in c.args.program.now).lines none is
+          (reported c.args.text.now) none is
           (c.motions_at-motions.ensures ∙ planned_as j c.in_ok-off_time.accepted false (plan_at Off c.args.plans.now) is)
-          (lasts_off c.accept-accepted.result j c.in_ok-off_time.off_time c.accept-accepted.ensures c.in_ok-off_time.ensures.lasts)
-          c.requires.frames,
+          (lasts_off c.accept-accepted.result j c.in_ok-off_time.off_time c.accept-accepted.ensures c.in_ok-off_time.ensures.lasts),
       c.in_err-write_once.ensures.fault,
     )
 
@@ -81,12 +80,12 @@ returns-clause-tells g c =
       _,
       fit_both f c.frames_or-on_history.result.now said c.args.form c.args.origins.now c.in_ok-on_time.accepted
           (planned_by c.motions_at-off_motions.result) (planned_by c.motions_at-on_motions.result) c.in_ok-off_time.off_time c.in_ok-on_time.on_time
-          (text_in c.args.program.now).lines some is
+          (reported c.args.text.now) some is
           (c.motions_at-off_motions.ensures ∙ planned_as j c.in_ok-on_time.accepted false (plan_at Off c.args.plans.now) is)
           (c.motions_at-on_motions.ensures ∙ planned_as j c.in_ok-on_time.accepted true (plan_at On c.args.plans.now) is)
           (lasts_off c.accept-accepted.result j c.in_ok-off_time.off_time c.accept-accepted.ensures c.in_ok-off_time.ensures.lasts)
           (lasts_on c.in_ok-off_time.accepted j c.in_ok-on_time.on_time before c.in_ok-on_time.ensures.lasts)
-          c.requires.frames c.frames_or-on_history.ensures,
+          c.frames_or-on_history.ensures,
       c.in_ok-write_both.ensures.ok,
     )
 
@@ -99,18 +98,18 @@ returns-in_err-write_both-clause-tells g c =
     let before = c.in_ok-off_time.ensures.back ∙ c.accept-accepted.ensures in
     let is = c.in_ok-on_time.ensures.back ∙ before in
     turned _ (faults.Write c.in_err-write_both.field-0.0)
-    (λ r. Prints (IsFitText j said c.args.form c.args.origins.now (text_in c.args.program.now).lines) (g.W.Sink.written c.args.output.now)
+    (λ r. Prints (IsFitText (framed_in c.args.framed) said c.args.form c.args.origins.now (reported c.args.text.now)) (g.W.Sink.written c.args.output.now)
     (g.W.Sink.written c.write_both.new.output) r)
     c.from_residual-in_err-write_both.ensures.1 (
       _,
       fit_both f c.frames_or-on_history.result.now said c.args.form c.args.origins.now c.in_ok-on_time.accepted
           (planned_by c.motions_at-off_motions.result) (planned_by c.motions_at-on_motions.result) c.in_ok-off_time.off_time c.in_ok-on_time.on_time
-          (text_in c.args.program.now).lines some is
+          (reported c.args.text.now) some is
           (c.motions_at-off_motions.ensures ∙ planned_as j c.in_ok-on_time.accepted false (plan_at Off c.args.plans.now) is)
           (c.motions_at-on_motions.ensures ∙ planned_as j c.in_ok-on_time.accepted true (plan_at On c.args.plans.now) is)
           (lasts_off c.accept-accepted.result j c.in_ok-off_time.off_time c.accept-accepted.ensures c.in_ok-off_time.ensures.lasts)
           (lasts_on c.in_ok-off_time.accepted j c.in_ok-on_time.on_time before c.in_ok-on_time.ensures.lasts)
-          c.requires.frames c.frames_or-on_history.ensures,
+          c.frames_or-on_history.ensures,
       c.in_err-write_both.ensures.fault,
     )
 
@@ -118,7 +117,7 @@ pub returns-in_err-on_time-clause-tells : goal.returns-in_err-on_time-clause-tel
 returns-in_err-on_time-clause-tells g c =
     let j = c.args.framed.job in
     let said = both_planned j.machine.step j.off (commands_in true j) c.args.plans.now in
-    memory_tells (IsFitText j said c.args.form c.args.origins.now (text_in c.args.program.now).lines) (g.W.Sink.written c.args.output.now) _
+    memory_tells (IsFitText (framed_in c.args.framed) said c.args.form c.args.origins.now (reported c.args.text.now)) (g.W.Sink.written c.args.output.now) _
     c.in_err-on_time.field-0.0 c.from_residual-in_err-on_time.ensures.1 c.in_err-on_time.ensures.memory
 
 pub returns-in_err-write_both-clause-counts : goal.returns-in_err-write_both-clause-counts
@@ -131,21 +130,21 @@ pub returns-in_err-tips-clause-tells : goal.returns-in_err-tips-clause-tells
 returns-in_err-tips-clause-tells g c =
     let j = c.args.framed.job in
     let said = both_planned j.machine.step j.off (commands_in true j) c.args.plans.now in
-    memory_tells (IsFitText j said c.args.form c.args.origins.now (text_in c.args.program.now).lines) (g.W.Sink.written c.args.output.now) _
+    memory_tells (IsFitText (framed_in c.args.framed) said c.args.form c.args.origins.now (reported c.args.text.now)) (g.W.Sink.written c.args.output.now) _
     c.in_err-tips.field-0.0 c.from_residual-in_err-tips.ensures.1 c.in_err-tips.ensures.memory
 
 pub returns-in_err-off_tips-clause-tells : goal.returns-in_err-off_tips-clause-tells
 returns-in_err-off_tips-clause-tells g c =
     let j = c.args.framed.job in
     let said = both_planned j.machine.step j.off (commands_in true j) c.args.plans.now in
-    memory_tells (IsFitText j said c.args.form c.args.origins.now (text_in c.args.program.now).lines) (g.W.Sink.written c.args.output.now) _
+    memory_tells (IsFitText (framed_in c.args.framed) said c.args.form c.args.origins.now (reported c.args.text.now)) (g.W.Sink.written c.args.output.now) _
     c.in_err-off_tips.field-0.0 c.from_residual-in_err-off_tips.ensures.1 c.in_err-off_tips.ensures.memory
 
 pub returns-in_err-on_tips-clause-tells : goal.returns-in_err-on_tips-clause-tells
 returns-in_err-on_tips-clause-tells g c =
     let j = c.args.framed.job in
     let said = both_planned j.machine.step j.off (commands_in true j) c.args.plans.now in
-    memory_tells (IsFitText j said c.args.form c.args.origins.now (text_in c.args.program.now).lines) (g.W.Sink.written c.args.output.now) _
+    memory_tells (IsFitText (framed_in c.args.framed) said c.args.form c.args.origins.now (reported c.args.text.now)) (g.W.Sink.written c.args.output.now) _
     c.in_err-on_tips.field-0.0 c.from_residual-in_err-on_tips.ensures.1 c.in_err-on_tips.ensures.memory
 
 pub returns-in_err-write_once-clause-counts : goal.returns-in_err-write_once-clause-counts

@@ -1,5 +1,4 @@
-use Rattle.std.proofs.Common.{None, Some, ◌∙◌, ap, ap₂, ℕ, Option}
-use Rattle.std.specs.Prelude.{slice_get}
+use Rattle.std.proofs.Common.{None, Some, ap₂, Option}
 use Rattle.ngc_commands.specs.declared.movement.Way.{Way}
 use Rattle.ngc_frames.specs.InForce.{frame_in_force}
 use Rattle.ngc_frames.specs.declared.in_force.FrameInForce.{FrameInForce}
@@ -8,7 +7,7 @@ use Rattle.ngc_machine_files.specs.Machine.{file_of}
 use Rattle.ngc_report.specs.Forms.{report_text}
 use Rattle.ngc_report.specs.Reports.{scene_lines}
 use Rattle.ngc_report.specs.Scenes.{scene_at}
-use Rattle.ngc_program_report.specs.Coordinates.{coordinates_text, line_of, refused_path}
+use Rattle.ngc_program_report.specs.Coordinates.{coordinates_text, refused_path}
 use Rattle.ngc_program_report.proofs.refusal_writer.collect_refusal.Goals as goal
 
 pub returns-in-Err-clause-text : goal.returns-in-Err-clause-text
@@ -19,7 +18,7 @@ returns-in-Err-clause-text g c =
     let h = c.args.execution.now.history.now in
     first_stopped (g.W.Sink.written c.args.output.now) (g.W.Sink.written c.collect_refused_command.new.sink) c.args.chunk.now
     (report_text c.args.subject.now.form (scene_lines m k None (scene_at m cs k)))
-    (coordinates_text c.args.subject.now.form c.args.subject.now.origins.now (frame_in_force h.start h.changes.items (line_of (slice_get cs k))) (refused_path cs (Some k)))
+    (coordinates_text c.args.subject.now.form c.args.subject.now.origins.now (frame_in_force h.start h.changes.items k) (refused_path cs (Some k)))
     c.in-Err.ensures.told
 
 pub returns-clause-text : goal.returns-clause-text
@@ -29,10 +28,10 @@ returns-clause-text g c =
     let k = c.args.command in
     let h = c.args.execution.now.history.now in
     let is = ap₂ (λ (f : FrameInForce) (w : Option Way). coordinates_text c.args.subject.now.form c.args.subject.now.origins.now f w)
-    (c.in_force-frame.ensures.frame ∙ ap (λ (n : ℕ). frame_in_force h.start h.changes.items n) c.line_of.ensures) c.refused_path-way.ensures in
+    c.in_force-frame.ensures.frame c.refused_path-way.ensures in
     both c.collect_coordinates.result (g.W.Sink.written c.args.output.now) (g.W.Sink.written c.collect_refused_command.new.sink)
     (g.W.Sink.written c.collect_coordinates.new.output) c.args.chunk.now c.collect_refused_command.new.chunk c.collect_coordinates.new.chunk
     (report_text c.args.subject.now.form (scene_lines m k None (scene_at m cs k)))
-    (coordinates_text c.args.subject.now.form c.args.subject.now.origins.now (frame_in_force h.start h.changes.items (line_of (slice_get cs k))) (refused_path cs (Some k)))
+    (coordinates_text c.args.subject.now.form c.args.subject.now.origins.now (frame_in_force h.start h.changes.items k) (refused_path cs (Some k)))
     c.in-Ok.ensures.told
     (collects_as _ _ _ _ _ _ _ is c.collect_coordinates.ensures.text)

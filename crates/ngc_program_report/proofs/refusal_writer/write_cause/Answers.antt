@@ -1,6 +1,6 @@
 use Rattle.std.proofs.Common.{◌++◌, ◌∙◌, ap}
-use Rattle.ngc_line_reader.specs.ProgramView.{text_in}
 use Rattle.ngc_program_report.specs.Coordinates.{coordinates_text}
+use Rattle.ngc_program_report.specs.Reported.{reported}
 use Rattle.ngc_program_report.specs.Texts.{quoted_if, refused_number}
 use Rattle.ngc_program_report.proofs.WritingLaws.{stops, then, writes_as}
 use Rattle.ngc_program_report.proofs.refusal_writer.write_cause.Goals as goal
@@ -17,7 +17,7 @@ pub returns : goal.returns
 returns g c =
     let form = c.args.subject.now.form in
     let origins = c.args.subject.now.origins.now in
-    let lines = (text_in c.args.subject.now.program.now).lines in
+    let lines = (reported c.args.subject.now.text.now).quoted in
     let is = ap (λ n. quoted_if form n lines ++ coordinates_text form origins c.args.frame.now c.refused_path-way.result) c.refused_number-number.ensures
     ∙ ap (λ w. quoted_if form (refused_number c.args.commands.now c.args.told) lines ++ coordinates_text form origins c.args.frame.now w)
     c.refused_path-way.ensures in

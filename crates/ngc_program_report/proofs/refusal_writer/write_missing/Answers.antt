@@ -1,6 +1,5 @@
 use Rattle.std.proofs.Common.{◌∙◌, ℕ, List, Option, Some, ap, sym}
 use Rattle.ngc_commands.specs.declared.movement.Way.{Way}
-use Rattle.ngc_frames.specs.InForce.{frame_in_force}
 use Rattle.ngc_frames.specs.declared.in_force.FrameInForce.{FrameInForce}
 use Rattle.ngc_machine_files.specs.Machine.{file_of}
 use Rattle.ngc_program_report.specs.Coordinates.{history_of, refused_path}
@@ -20,7 +19,6 @@ returns-in-Some g c =
     let missing : Option ℕ → Option Way → FrameInForce → List ℕ = λ fixture way frame. missing_if form origins m fixture way frame in
     let is = ap (λ fixture. missing fixture c.refused_path-path.result c.in_force-frame.result) c.met_at-fixture.ensures
     ∙ ap (λ way. missing (met_at m cs k) way c.in_force-frame.result) c.refused_path-path.ensures
-    ∙ ap (missing (met_at m cs k) (refused_path cs (Some k)))
-    (c.in_force-frame.ensures ∙ ap (λ line. frame_in_force h.start h.changes.items line) c.line_of.ensures)
+    ∙ ap (missing (met_at m cs k) (refused_path cs (Some k))) c.in_force-frame.ensures
     ∙ ap (missing_at form origins m cs (history_of h.start h.changes.items)) (sym c.in-Some.is) in
     writes_as c.write_missing_if.ensures is

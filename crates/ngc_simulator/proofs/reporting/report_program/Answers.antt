@@ -1,10 +1,12 @@
 use Rattle.std.proofs.Common.{IfErr, IfSome, subst, true}
 use Rattle.ngc_canonical.specs.Interpreter.{setup_of}
 use Rattle.ngc_certificate.specs.Plans.{both_planned}
+use Rattle.ngc_certificate_text.specs.declared.piece.Setting.TheVariants.{Off, On}
 use Rattle.ngc_job.specs.Job.{commands_in}
 use Rattle.ngc_line_reader.specs.ProgramView.{text_in}
 use Rattle.ngc_inputs.specs.Faults.{FailsByOutput, OfCertifying, of_report}
 use Rattle.ngc_inputs.specs.Jobs.{IsUnmade}
+use Rattle.ngc_program_report.specs.Framed.{framed_in}
 use Rattle.ngc_simulator.specs.Reporting.{Reports}
 use Rattle.ngc_report.proofs.Converted.{turned}
 use Rattle.ngc_inputs.proofs.JobLaws.{if_known}
@@ -26,8 +28,8 @@ returns-in_err-report_fit-in-Ok-plans_for-clause-reports g c =
     turned _ (of_report fault) (λ r. IfSome (g.R.Source.remaining c.args.source.now)
     (λ bytes. Reports setup bytes c.args.request (g.W.Sink.written c.args.output.now) (g.W.Sink.written c.report_fit.new.output) r))
     c.from_residual-in_err-report_fit-in-Ok-plans_for.ensures.1
-    (if_known _ _ _ (λ bytes is_text. fit_stopped setup bytes c.args.request (text_in c.in_ok-program.program) c.in-Ok.framed.job is_text
-    c.in_ok-program.ensures.readings c.in-Ok.ensures.job
+    (if_known _ _ _ (λ bytes is_text. fit_stopped setup bytes c.args.request (text_in c.in_ok-program.program) (framed_in c.in-Ok.framed) is_text
+    c.in_ok-program.ensures.readings c.in-Ok.ensures.job (c.in-Ok.ensures.frames Off) (c.in-Ok.ensures.frames On)
     (both_planned c.in-Ok.framed.job.machine.step c.in-Ok.framed.job.off (commands_in true c.in-Ok.framed.job) c.in-Ok-plans_for.plans) _ _
     fault c.in-Ok-plans_for.ensures.made
     c.in_err-report_fit-in-Ok-plans_for.ensures.tells) c.in_ok-program.ensures.text)
@@ -46,8 +48,8 @@ returns-in_err-report_fit-in-Ok-plans_for-clause-faults g c =
 pub returns-in-Ok-plans_for-clause-reports : goal.returns-in-Ok-plans_for-clause-reports
 returns-in-Ok-plans_for-clause-reports g c =
     let setup = setup_of c.args.machine c.args.tools in
-    if_known _ _ _ (λ bytes is_text. told_fit setup bytes c.args.request (text_in c.in_ok-program.program) c.in-Ok.framed.job is_text
-    c.in_ok-program.ensures.readings c.in-Ok.ensures.job
+    if_known _ _ _ (λ bytes is_text. told_fit setup bytes c.args.request (text_in c.in_ok-program.program) (framed_in c.in-Ok.framed) is_text
+    c.in_ok-program.ensures.readings c.in-Ok.ensures.job (c.in-Ok.ensures.frames Off) (c.in-Ok.ensures.frames On)
     (both_planned c.in-Ok.framed.job.machine.step c.in-Ok.framed.job.off (commands_in true c.in-Ok.framed.job) c.in-Ok-plans_for.plans) _ _
     c.in-Ok-plans_for.ensures.made
     c.in_ok-report_fit-in-Ok-plans_for.ensures.tells) c.in_ok-program.ensures.text
@@ -61,8 +63,8 @@ returns-in_err-report_refusal-in-Err-NotCleared-clause-reports g c =
     turned _ (of_report fault) (λ r. IfSome (g.R.Source.remaining c.args.source.now)
     (λ bytes. Reports setup bytes c.args.request (g.W.Sink.written c.args.output.now) (g.W.Sink.written c.report_refusal.new.output) r))
     c.from_residual-in_err-report_refusal-in-Err-NotCleared.ensures.1
-    (if_known _ _ _ (λ bytes is_text. refusal_stopped setup bytes c.args.request (text_in c.in_ok-program.program) c.in-Ok.framed.job is_text
-    c.in_ok-program.ensures.readings c.in-Ok.ensures.job refused.setting refused.command _ _ fault unmade
+    (if_known _ _ _ (λ bytes is_text. refusal_stopped setup bytes c.args.request (text_in c.in_ok-program.program) (framed_in c.in-Ok.framed) is_text
+    c.in_ok-program.ensures.readings c.in-Ok.ensures.job (c.in-Ok.ensures.frames Off) (c.in-Ok.ensures.frames On) refused.setting refused.command _ _ fault unmade
     c.in_err-report_refusal-in-Err-NotCleared.ensures.tells) c.in_ok-program.ensures.text)
 
 pub returns-in-Err-NotCleared-clause-reports : goal.returns-in-Err-NotCleared-clause-reports
@@ -70,8 +72,8 @@ returns-in-Err-NotCleared-clause-reports g c =
     let setup = setup_of c.args.machine c.args.tools in
     let refused = c.in-Err-NotCleared in
     let unmade = subst (IsUnmade c.in-Ok.framed.job c.args.request.cuts) refused.field-0-is refused.ensures.made in
-    if_known _ _ _ (λ bytes is_text. told_refusal setup bytes c.args.request (text_in c.in_ok-program.program) c.in-Ok.framed.job is_text
-    c.in_ok-program.ensures.readings c.in-Ok.ensures.job refused.setting refused.command _ _ unmade
+    if_known _ _ _ (λ bytes is_text. told_refusal setup bytes c.args.request (text_in c.in_ok-program.program) (framed_in c.in-Ok.framed) is_text
+    c.in_ok-program.ensures.readings c.in-Ok.ensures.job (c.in-Ok.ensures.frames Off) (c.in-Ok.ensures.frames On) refused.setting refused.command _ _ unmade
     c.in_ok-report_refusal-in-Err-NotCleared.ensures.tells) c.in_ok-program.ensures.text
 
 pub returns-in_err-report_refusal-in-Err-NotCleared-clause-sink : goal.returns-in_err-report_refusal-in-Err-NotCleared-clause-sink

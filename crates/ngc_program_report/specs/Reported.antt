@@ -1,0 +1,23 @@
+-- The lines of a program that is reported. Our own.
+use Rattle.std.specs.Prelude.{ℕ, List, []}
+use Rattle.ngc_line_reader.specs.Program.{Line, lines_of}
+use Rattle.ngc_line_reader.specs.ProgramView.{text_in}
+use Rattle.ngc_program_report.specs.declared.reported.ReportedText.{ReportedText}
+use Rattle.ngc_program_report.specs.declared.reported.ReportedText.TheVariants.{Own, Other}
+
+-- the lines that a report quotes by their numbers, and those of which it examines the words
+pub record ReportedLines : Type 0 where
+  pub quoted : List Line
+  pub examined : List Line
+
+-- the lines of a program in our own language
+abbrev pub own_lines : List Line → ReportedLines
+own_lines lines = record { quoted = lines; examined = lines }
+
+-- the lines of the text of a program for another control: its words have other meanings
+abbrev pub other_lines : List ℕ → ReportedLines
+other_lines text = record { quoted = lines_of text; examined = [] }
+
+abbrev pub reported : {A : Type 0} → ReportedText A → ReportedLines
+reported (Own program) = own_lines (text_in program.now).lines
+reported (Other text) = other_lines text.now

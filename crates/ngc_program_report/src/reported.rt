@@ -1,0 +1,12 @@
+use ngc_line_reader::Program;
+use std::alloc::Allocator;
+
+/// The text of a program that is reported.
+#[derive(Drop)]
+pub enum ReportedText<'a, A: Allocator> {
+    /// A program in our own language: its lines are quoted, and their words examined.
+    Own(&'a Program<A>),
+    /// The text of a program for another control. Its lines are quoted, by their numbers from 1. Their
+    /// words aren't examined, since they have other meanings.
+    Other(&'a [u8]),
+}
