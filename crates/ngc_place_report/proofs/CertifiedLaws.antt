@@ -7,7 +7,6 @@ use Rattle.std.proofs.lemmas.Int.{ints, int_max_is, int_min_is}
 use Rattle.ngc_fixed_length.specs.Boxes.{IsIn}
 use Rattle.ngc_fixed_length.specs.Length.{IsStep}
 use Rattle.ngc_fixed_length.specs.declared.modes.System.{System}
-use Rattle.ngc_canonical.specs.Meaning.{Program}
 use Rattle.ngc_machine_files.specs.Machine.{MachineFile}
 use Rattle.ngc_machine_files.specs.Ranges.{PLACE_LIMIT}
 use Rattle.ngc_job.specs.Job.{JobData}
@@ -18,7 +17,7 @@ use Rattle.ngc_place.specs.declared.axis.Axis.TheVariants.{X, Y, Z}
 use Rattle.ngc_place.specs.declared.interval.Interval.{Interval}
 use Rattle.ngc_place.specs.declared.programs.Program.{Program as Marked}
 use Rattle.ngc_place.proofs.GrowingIntervals.{both_law, found_law, hold_within}
-use Rattle.ngc_shifted_program.specs.Shifted.{AreMoved, Executed, MoveAt, executed_at}
+use Rattle.ngc_shifted_program.specs.Shifted.{AreMoved, Executed, Execution, MoveAt, executed_at}
 use Rattle.ngc_place_report.specs.Certified.{EndsAreCertified, IsCertified, IsCertifiedAt, ShiftsAreCertified}
 use Rattle.ngc_place_report.specs.Findings.{IsFinding, IsMarkedAlong}
 use Rattle.ngc_place_report.specs.Range.{coordinate, in_range, part_in_range, whole_steps}
@@ -87,34 +86,34 @@ moved_certified j axis most off on i n (Some others) step least greatest inside 
 )
 
 -- what was found of an axis with marks
-found_along : (program : Program) (j : JobData) (system : System) (axis : Axis) (most : ℕ) (a : AlongAxis) (i : Interval) →
-    (m : IsMarkedAlong program j system axis most a) → a.finding ≡ Fits i → IsFinding program j system axis most m.off m.on (Fits i)
-found_along program j system axis most a i m fits = subst (λ (k : Finding). IsFinding program j system axis most m.off m.on k) fits m.finding
+found_along : (does : Execution) (j : JobData) (system : System) (axis : Axis) (most : ℕ) (a : AlongAxis) (i : Interval) →
+    (m : IsMarkedAlong does j system axis most a) → a.finding ≡ Fits i → IsFinding does j system axis most m.off m.on (Fits i)
+found_along does j system axis most a i m fits = subst (λ (k : Finding). IsFinding does j system axis most m.off m.on k) fits m.finding
 
 pub shifts_law : ShiftsAreCertified
-shifts_law program j system axis most a i n step least greatest m fits low high moves =
-    let f = found_along program j system axis most a i m fits in
+shifts_law does j system axis most a i n step least greatest m fits low high moves =
+    let f = found_along does j system axis most a i m fits in
     let (order, holds) = along_holds j system axis most m.off m.on i f.0.0 step least greatest f.0.1 f.0.2 in
-    moved_certified j axis most m.off m.on i n (executed_at program j system (along axis n)) step least greatest (shift_within axis i.from i.to n low high) holds
+    moved_certified j axis most m.off m.on i n (executed_at does j system (along axis n)) step least greatest (shift_within axis i.from i.to n low high) holds
     moves
 
 -- an end of the interval
-at_end : (program : Program) (j : JobData) (system : System) (axis : Axis) (most : ℕ) (a : AlongAxis) (i : Interval) (n end : ℤ) → IsStep j.machine.step →
-    1 ≤ most → most ≤ 65535 → (m : IsMarkedAlong program j system axis most a) → a.finding ≡ Fits i → n ≡ end → i.from ≤ℤ end → end ≤ℤ i.to →
-    MoveAt program j system m.off m.on (along axis end) → IsCertifiedAt program j system axis most n
-at_end program j system axis most a i n end step least greatest m fits is low high moves =
-    subst (IsCertifiedAt program j system axis most) (sym is) (shifts_law program j system axis most a i end step least greatest m fits low high moves)
+at_end : (does : Execution) (j : JobData) (system : System) (axis : Axis) (most : ℕ) (a : AlongAxis) (i : Interval) (n end : ℤ) → IsStep j.machine.step →
+    1 ≤ most → most ≤ 65535 → (m : IsMarkedAlong does j system axis most a) → a.finding ≡ Fits i → n ≡ end → i.from ≤ℤ end → end ≤ℤ i.to →
+    MoveAt does j system m.off m.on (along axis end) → IsCertifiedAt does j system axis most n
+at_end does j system axis most a i n end step least greatest m fits is low high moves =
+    subst (IsCertifiedAt does j system axis most) (sym is) (shifts_law does j system axis most a i end step least greatest m fits low high moves)
 
 not_fits : (i : Interval) → Unmoved ≡ Fits i → ⊥
 not_fits i same = cc
 
 pub ends_law : EndsAreCertified
-ends_law program j system axis most a i n step least greatest (inr u) fits end = absurd (not_fits i (ap (λ (k : AlongAxis). k.finding) (sym u.known) ∙ fits))
-ends_law program j system axis most a i n step least greatest (inl m) fits (inl from) =
-    let f = found_along program j system axis most a i m fits in
+ends_law does j system axis most a i n step least greatest (inr u) fits end = absurd (not_fits i (ap (λ (k : AlongAxis). k.finding) (sym u.known) ∙ fits))
+ends_law does j system axis most a i n step least greatest (inl m) fits (inl from) =
+    let f = found_along does j system axis most a i m fits in
     let (order, holds) = along_holds j system axis most m.off m.on i f.0.0 step least greatest f.0.1 f.0.2 in
-    at_end program j system axis most a i n i.from step least greatest m fits from (omega (arith, ints)) order f.1.0
-ends_law program j system axis most a i n step least greatest (inl m) fits (inr to) =
-    let f = found_along program j system axis most a i m fits in
+    at_end does j system axis most a i n i.from step least greatest m fits from (omega (arith, ints)) order f.1.0
+ends_law does j system axis most a i n step least greatest (inl m) fits (inr to) =
+    let f = found_along does j system axis most a i m fits in
     let (order, holds) = along_holds j system axis most m.off m.on i f.0.0 step least greatest f.0.1 f.0.2 in
-    at_end program j system axis most a i n i.to step least greatest m fits to order (omega (arith, ints)) f.1.1
+    at_end does j system axis most a i n i.to step least greatest m fits to order (omega (arith, ints)) f.1.1

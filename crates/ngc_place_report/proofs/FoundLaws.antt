@@ -4,14 +4,13 @@ use Rattle.std.specs.declared.alloc.AllocError.{AllocError}
 use Rattle.ngc_fixed_length.specs.declared.modes.System.{System}
 use Rattle.ngc_fixed_length.specs.declared.points.StepPos.{StepPos}
 use Rattle.ngc_commands.specs.declared.command.Command.{Command}
-use Rattle.ngc_canonical.specs.Meaning.{Program}
 use Rattle.ngc_job.specs.Job.{JobData}
 use Rattle.ngc_place.specs.Marks.{AreMarks}
 use Rattle.ngc_place.specs.Shifts.{along}
 use Rattle.ngc_place.specs.declared.axis.Axis.{Axis}
 use Rattle.ngc_place.specs.declared.interval.Interval.{Interval}
 use Rattle.ngc_place.specs.declared.programs.Program.{Program as Marked}
-use Rattle.ngc_shifted_program.specs.Shifted.{AreBothMarks, AreMoved, Executed, MoveAt, executed_at}
+use Rattle.ngc_shifted_program.specs.Shifted.{AreBothMarks, AreMoved, Executed, Execution, MoveAt, executed_at}
 use Rattle.ngc_place_report.specs.Findings.{AreMarked, IsAlongAxis, IsFinding, MoveAtEnds, unmarked}
 use Rattle.ngc_place_report.specs.Staying.{staying_of}
 use Rattle.ngc_place_report.specs.declared.placement.AlongAxis.{AlongAxis}
@@ -39,28 +38,28 @@ none_there j n o off on is moved = subst (AreMoved j.machine.step n off on) (sym
 
 -- ---- one step further along an axis
 
-module _ (program : Program) (j : JobData) (system : System) (axis : Axis) (most : ℕ) (n : StepPos) (is_step : n ≡ along axis (pos 1)) where
+module _ (does : Execution) (j : JobData) (system : System) (axis : Axis) (most : ℕ) (n : StepPos) (is_step : n ≡ along axis (pos 1)) where
   -- the program is refused there
-  pub refused_along : (a : AlongAxis) → a ≡ unmarked → None ≡ executed_at program j system n → IsAlongAxis program j system axis most a
+  pub refused_along : (a : AlongAxis) → a ≡ unmarked → None ≡ executed_at does j system n → IsAlongAxis does j system axis most a
   refused_along a is none = inr (record {
     known = is;
     moves = λ off on marked moves.
-        none_there j n (executed_at program j system n) off on none (subst (MoveAt program j system off on) (sym is_step) moves);
+        none_there j n (executed_at does j system n) off on none (subst (MoveAt does j system off on) (sym is_step) moves);
   })
 
   -- no marks explain the commands there
-  pub unexplained_along : (a : AlongAxis) (others : Executed) → a ≡ unmarked → Some others ≡ executed_at program j system n →
-      ((off on : List Bool) → AreBothMarks j n others off on → ⊥) → IsAlongAxis program j system axis most a
+  pub unexplained_along : (a : AlongAxis) (others : Executed) → a ≡ unmarked → Some others ≡ executed_at does j system n →
+      ((off on : List Bool) → AreBothMarks j n others off on → ⊥) → IsAlongAxis does j system axis most a
   unexplained_along a others is executed none = inr (record {
     known = is;
     moves = λ off on marked moves. none off.moving.now on.moving.now
-        (marks_there j n (executed_at program j system n) others off on executed marked (subst (MoveAt program j system off on) (sym is_step) moves));
+        (marks_there j n (executed_at does j system n) others off on executed marked (subst (MoveAt does j system off on) (sym is_step) moves));
   })
 
   -- these marks do
   pub marked_along : (a : AlongAxis) (others : Executed) (off on : Marked) (off_marks on_marks : List Bool) → AreMarked j off on →
-      Some others ≡ executed_at program j system n → off.moving.now ≡ off_marks → on.moving.now ≡ on_marks → AreBothMarks j n others off_marks on_marks →
-      IsFinding program j system axis most off on a.finding → a.staying ≡ staying_of off → IsAlongAxis program j system axis most a
+      Some others ≡ executed_at does j system n → off.moving.now ≡ off_marks → on.moving.now ≡ on_marks → AreBothMarks j n others off_marks on_marks →
+      IsFinding does j system axis most off on a.finding → a.staying ≡ staying_of off → IsAlongAxis does j system axis most a
   marked_along a others off on off_marks on_marks marked executed off_are on_are marks finding staying =
       let given = subst (λ (l : List Bool). AreBothMarks j n others off.moving.now l) (sym on_are)
       (subst (λ (l : List Bool). AreBothMarks j n others l on_marks) (sym off_are) marks) in
@@ -68,21 +67,21 @@ module _ (program : Program) (j : JobData) (system : System) (axis : Axis) (most
         off = off;
         on = on;
         marked = marked;
-        move = subst (MoveAt program j system off on) is_step (moved_there j n (executed_at program j system n) others off on executed marked given);
+        move = subst (MoveAt does j system off on) is_step (moved_there j n (executed_at does j system n) others off on executed marked given);
         finding = finding;
         staying = staying;
       })
 
 -- ---- at both ends of an interval
 
-module _ (program : Program) (j : JobData) (system : System) (axis : Axis) (off on : Marked) (i : Interval) (low : StepPos) (is_low : low ≡ along axis i.from) where
-  pub not_at_low : (MoveAt program j system off on low → ⊥) → MoveAtEnds program j system axis off on i false
-  not_at_low fails = λ at_low at_high. fails (subst (MoveAt program j system off on) (sym is_low) at_low)
+module _ (does : Execution) (j : JobData) (system : System) (axis : Axis) (off on : Marked) (i : Interval) (low : StepPos) (is_low : low ≡ along axis i.from) where
+  pub not_at_low : (MoveAt does j system off on low → ⊥) → MoveAtEnds does j system axis off on i false
+  not_at_low fails = λ at_low at_high. fails (subst (MoveAt does j system off on) (sym is_low) at_low)
 
-  pub at_both : (high : StepPos) (r : Result Bool AllocError) → high ≡ along axis i.to → MoveAt program j system off on low →
-      IfOk r (λ b. b ≡ true → MoveAt program j system off on high) → IfOk r (λ b. b ≡ false → MoveAt program j system off on high → ⊥) →
-      IfOk r (λ b. MoveAtEnds program j system axis off on i b)
+  pub at_both : (high : StepPos) (r : Result Bool AllocError) → high ≡ along axis i.to → MoveAt does j system off on low →
+      IfOk r (λ b. b ≡ true → MoveAt does j system off on high) → IfOk r (λ b. b ≡ false → MoveAt does j system off on high → ⊥) →
+      IfOk r (λ b. MoveAtEnds does j system axis off on i b)
   at_both high (Ok true) is_high at_low moves fails =
-      (subst (MoveAt program j system off on) is_low at_low, subst (MoveAt program j system off on) is_high (moves refl))
-  at_both high (Ok false) is_high at_low moves fails = λ from to. fails refl (subst (MoveAt program j system off on) (sym is_high) to)
+      (subst (MoveAt does j system off on) is_low at_low, subst (MoveAt does j system off on) is_high (moves refl))
+  at_both high (Ok false) is_high at_low moves fails = λ from to. fails refl (subst (MoveAt does j system off on) (sym is_high) to)
   at_both high (Err e) is_high at_low moves fails = tt

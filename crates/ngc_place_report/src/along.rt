@@ -1,11 +1,8 @@
 //! The shifts of an origin along an axis at which a program fits.
-ghost use Rattle.std.specs.Prelude.{◌≡◌, ◌≤◌, List, true, IfOk, IfSome, unsigned_abs};
-ghost use Rattle.ngc_line_reader.specs.Grammar.{Reading};
-ghost use Rattle.ngc_line_reader.specs.ProgramText.{AreReadings};
-ghost use Rattle.ngc_line_reader.specs.ProgramView.{text_in};
-ghost use Rattle.ngc_canonical.specs.Meaning.{parsed_program};
+ghost use Rattle.std.specs.Prelude.{◌≡◌, ◌≤◌, true, IfOk, IfSome, unsigned_abs};
 ghost use Rattle.ngc_place.specs.Longest.{IsInLimit};
 ghost use Rattle.ngc_place.specs.Shifts.{SHIFT_LIMIT, IsShift, along as shift_along};
+ghost use Rattle.ngc_shifted_program.specs.Shifted.{Execution};
 ghost use Rattle.ngc_place_report.specs.Findings as spec;
 
 use crate::placement::{AlongAxis, Finding, Here, Placement};
@@ -13,9 +10,8 @@ use crate::range::{in_range, origin_along};
 use crate::staying::staying;
 use ngc_fixed_length::{StepPos, System};
 use ngc_job::Job;
-use ngc_line_reader::Program as PartProgram;
 use ngc_place::{Axis, Interval, Program, nearest};
-use ngc_shifted_program::{Programs, executed_at, marks_between, move_at};
+use ngc_shifted_program::{PartProgram, Programs, executed_at, marks_between, move_at};
 use std::alloc::{AllocError, Allocator};
 
 /// Returns the shift along an axis by this number of steps.
@@ -49,9 +45,9 @@ fn interval_along<A: Allocator>(
 }
 
 /// Returns whether the commands move at both ends of an interval as their marks state.
-fn move_at_ends<A: Allocator + Copy>(
+fn move_at_ends<A: Allocator + Copy, P: PartProgram<A>>(
     alloc: A,
-    program: &PartProgram<A>,
+    program: &P,
     job: &Job<A>,
     system: System,
     axis: Axis,
@@ -59,8 +55,8 @@ fn move_at_ends<A: Allocator + Copy>(
     interval: Interval,
 ) -> Result<bool, AllocError>
     requires { IsInLimit interval }
-    ensures { (rs : List Reading) → AreReadings (text_in program.now).lines rs →
-        IfOk result (λ yes. spec.MoveAtEnds (parsed_program (text_in program.now) rs) job.now system
+    ensures { (does : Execution) → P.is_execution program.now does →
+        IfOk result (λ yes. spec.MoveAtEnds does job.now system
         axis programs.entry.off programs.entry.on interval yes) }
 {
     let low = shift(axis, interval.from);
@@ -73,9 +69,9 @@ fn move_at_ends<A: Allocator + Copy>(
 }
 
 /// Returns the interval that is found along an axis if the commands move at both ends of it.
-fn finding_along<A: Allocator + Copy>(
+fn finding_along<A: Allocator + Copy, P: PartProgram<A>>(
     alloc: A,
-    program: &PartProgram<A>,
+    program: &P,
     job: &Job<A>,
     system: System,
     axis: Axis,
@@ -83,8 +79,8 @@ fn finding_along<A: Allocator + Copy>(
     cuts: u16,
 ) -> Result<Finding, AllocError>
     requires { 1 ≤ cuts }
-    ensures { (rs : List Reading) → AreReadings (text_in program.now).lines rs →
-        IfOk result (λ finding. spec.IsFinding (parsed_program (text_in program.now) rs) job.now
+    ensures { (does : Execution) → P.is_execution program.now does →
+        IfOk result (λ finding. spec.IsFinding does job.now
         system axis cuts programs.entry.off programs.entry.on finding) }
 {
     let interval = match interval_along(job, system, axis, programs, cuts) {
@@ -109,17 +105,17 @@ fn unmarked() -> AlongAxis
 }
 
 /// Returns what is known of the shifts along an axis.
-fn find_along<A: Allocator + Copy>(
+fn find_along<A: Allocator + Copy, P: PartProgram<A>>(
     alloc: A,
-    program: &PartProgram<A>,
+    program: &P,
     job: &Job<A>,
     system: System,
     axis: Axis,
     cuts: u16,
 ) -> Result<AlongAxis, AllocError>
     requires { 1 ≤ cuts }
-    ensures { (rs : List Reading) → AreReadings (text_in program.now).lines rs →
-        IfOk result (λ a. spec.IsAlongAxis (parsed_program (text_in program.now) rs) job.now system
+    ensures { (does : Execution) → P.is_execution program.now does →
+        IfOk result (λ a. spec.IsAlongAxis does job.now system
         axis cuts a) }
 {
     let step = shift(axis, 1);
@@ -153,18 +149,17 @@ fn find_along<A: Allocator + Copy>(
 /// Which commands move is found by executing the program with the origin one step further. Each
 /// interval is tested by executing the program at both of its ends. `cuts` is at least 1, and `here`
 /// states whether the program fits where the origin is.
-pub fn find_placement<A: Allocator + Copy>(
+pub fn find_placement<A: Allocator + Copy, P: PartProgram<A>>(
     alloc: A,
-    program: &PartProgram<A>,
+    program: &P,
     job: &Job<A>,
     system: System,
     here: Here,
     cuts: u16,
 ) -> Result<Placement, AllocError>
     requires { 1 ≤ cuts }
-    // This holds for all readings of the lines: each line has exactly one.
-    ensures { (rs : List Reading) → AreReadings (text_in program.now).lines rs →
-        IfOk result (λ p. spec.IsPlacement (parsed_program (text_in program.now) rs) job.now system
+    ensures { (does : Execution) → P.is_execution program.now does →
+        IfOk result (λ p. spec.IsPlacement does job.now system
         here cuts p) }
 {
     let x = find_along(alloc, program, job, system, Axis::X, cuts)?;

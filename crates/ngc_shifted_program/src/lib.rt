@@ -3,7 +3,9 @@
 #![tactic(auto)]
 
 mod origin;
+mod program;
 mod shifted;
 mod systems;
 
+pub use program::PartProgram;
 pub use shifted::{Marks, Programs, executed_at, marks_between, move_at};

@@ -1,18 +1,13 @@
 //! A program that is executed with an origin shifted, and which of its commands move.
 ghost use Rattle.std.specs.Prelude.{◌≡◌, List, Bool, true, false, IfOk, MatchOption, option_map};
-ghost use Rattle.ngc_line_reader.specs.Grammar.{Reading};
-ghost use Rattle.ngc_line_reader.specs.ProgramText.{AreReadings};
-ghost use Rattle.ngc_line_reader.specs.ProgramView.{text_in};
-ghost use Rattle.ngc_canonical.specs.Meaning.{parsed_program};
 ghost use Rattle.ngc_place.specs.Marks.{AreMarks};
 ghost use Rattle.ngc_place.specs.Shifts.{IsShift};
 ghost use Rattle.ngc_shifted_program.specs.Shifted as spec;
 
 use crate::origin::with_shifted_origin;
-use ngc_canonical::ProgramFault;
+use crate::program::PartProgram;
 use ngc_fixed_length::{StepPos, System};
 use ngc_job::Job;
-use ngc_line_reader::Program as PartProgram;
 use ngc_place::{Program, are_shifted, marks};
 use std::alloc::{AllocError, Allocator};
 
@@ -32,29 +27,23 @@ pub struct Marks<A: Allocator> {
 
 /// Executes a program on the machine of a job with an origin shifted. Returns `None` if the origin
 /// is out of range there or the program is refused.
-pub fn executed_at<A: Allocator + Copy>(
+pub fn executed_at<A: Allocator + Copy, P: PartProgram<A>>(
     alloc: A,
-    program: &PartProgram<A>,
+    program: &P,
     job: &Job<A>,
     system: System,
     by: &StepPos,
 ) -> Result<Option<Job<A>>, AllocError>
-    ensures { (rs : List Reading) → AreReadings (text_in program.now).lines rs →
+    ensures { (does : spec.Execution) → P.is_execution program.now does →
         IfOk result (λ found. option_map (λ j. spec.executed_of j) found
-        ≡ spec.executed_at (parsed_program (text_in program.now) rs) job.now system by.now) }
+        ≡ spec.executed_at does job.now system by.now) }
 {
     let machine = match with_shifted_origin(alloc, job.machine(), system, by)? {
         Some(machine) => machine,
         None => return Ok(None),
     };
     let tools = job.tools().copy(alloc)?;
-    match Job::new(alloc, program, machine, tools) {
-        Ok(shifted) => Ok(Some(shifted)),
-        Err(refusal) => match refusal.fault {
-            ProgramFault::Memory => Err(AllocError),
-            ProgramFault::At { .. } => Ok(None),
-        },
-    }
+    program.execute(alloc, machine, tools)
 }
 
 /// Returns the marks of a job's commands, found by another execution with the origin shifted, or
@@ -88,23 +77,21 @@ pub fn marks_between<A: Allocator + Copy>(
 
 /// Returns whether the program, executed with the origin shifted, has the commands that its marks
 /// state, at both settings of block delete.
-pub fn move_at<A: Allocator + Copy>(
+pub fn move_at<A: Allocator + Copy, P: PartProgram<A>>(
     alloc: A,
-    program: &PartProgram<A>,
+    program: &P,
     job: &Job<A>,
     system: System,
     by: &StepPos,
     programs: Programs,
 ) -> Result<bool, AllocError>
     requires { IsShift by.now }
-    ensures yes { (rs : List Reading) → AreReadings (text_in program.now).lines rs →
+    ensures yes { (does : spec.Execution) → P.is_execution program.now does →
         IfOk result (λ yes. yes ≡ true →
-        spec.MoveAt (parsed_program (text_in program.now) rs) job.now system programs.entry.off
-        programs.entry.on by.now) }
-    ensures no { (rs : List Reading) → AreReadings (text_in program.now).lines rs →
+        spec.MoveAt does job.now system programs.entry.off programs.entry.on by.now) }
+    ensures no { (does : spec.Execution) → P.is_execution program.now does →
         IfOk result (λ yes. yes ≡ false →
-        spec.MoveAt (parsed_program (text_in program.now) rs) job.now system programs.entry.off
-        programs.entry.on by.now → ⊥) }
+        spec.MoveAt does job.now system programs.entry.off programs.entry.on by.now → ⊥) }
 {
     let shifted = match executed_at(alloc, program, job, system, by)? {
         Some(shifted) => shifted,

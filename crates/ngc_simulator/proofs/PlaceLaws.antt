@@ -5,8 +5,7 @@ use Rattle.std.specs.Io.KnownBytes.{Appends}
 use Rattle.ngc_text.specs.Written.{AppendsPrefix}
 use Rattle.ngc_text.specs.declared.writing.WriteFault.{WriteFault}
 use Rattle.ngc_fixed_length.specs.declared.modes.System.{System}
-use Rattle.ngc_line_reader.specs.Grammar.{Reading}
-use Rattle.ngc_line_reader.specs.ProgramText.{ProgramText, program_of, AreReadings, HaveReadings}
+use Rattle.ngc_line_reader.specs.ProgramText.{ProgramText, program_of, HaveReadings}
 use Rattle.ngc_machine_files.specs.Machine.{MachineFile}
 use Rattle.ngc_canonical.specs.Interpreter.{setup_of}
 use Rattle.ngc_canonical.specs.Meaning.{parsed_program}
@@ -17,6 +16,7 @@ use Rattle.ngc_canonical.specs.declared.fault.ProgramFault.TheVariants as progra
 use Rattle.ngc_certificate.specs.declared.fault.MakeFault.TheVariants.{Memory}
 use Rattle.ngc_certificate_text.specs.declared.piece.Setting.{Setting}
 use Rattle.ngc_command_line.specs.declared.options.PlaceOptions.{PlaceOptions}
+use Rattle.ngc_shifted_program.specs.Shifted.{Execution, IsOwnExecution, execution_of}
 use Rattle.ngc_place_report.specs.Findings.{IsPlacement}
 use Rattle.ngc_place_report.specs.declared.placement.Here.{Here}
 use Rattle.ngc_place_report.specs.declared.placement.Placement.{Placement}
@@ -35,7 +35,7 @@ use Rattle.ngc_simulator.specs.declared.place_request.PlaceRequest.{PlaceRequest
 -- a program that was read and has this job, and what was found of it
 module _ (setup : Setup) (bytes : List ℕ) (request : PlaceRequest) (text : ProgramText) (j : JobData) (here : Here) (p : Placement)
     (is_text : program_of bytes ≡ Ok text) (have : HaveReadings text.lines) (is_job : IsJobFor text setup j) (is_here : IsHere j request.cuts here)
-    (found : (rs : List Reading) → AreReadings text.lines rs → IsPlacement (parsed_program text rs) j request.system here request.cuts p) where
+    (found : (does : Execution) → IsOwnExecution text does → IsPlacement does j request.system here request.cuts p) where
   place_text : (machine : MachineFile) → machine ≡ j.machine → IsPlaceText setup bytes request (placement_text request.form machine request.system p)
   place_text machine is = record {
     program = parsed_program text have.readings;
@@ -45,7 +45,7 @@ module _ (setup : Setup) (bytes : List ℕ) (request : PlaceRequest) (text : Pro
     here = here;
     is_here = is_here;
     placement = p;
-    is_placement = found have.readings have.are;
+    is_placement = found (execution_of (parsed_program text have.readings)) (record { readings = have.readings; are = have.are; is = refl });
     tells = ap (λ (m : MachineFile). placement_text request.form m request.system p) (is ∙ (is_job have.readings have.are).machine);
   }
 

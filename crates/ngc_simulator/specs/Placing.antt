@@ -15,6 +15,7 @@ use Rattle.ngc_report.specs.declared.form.Form.{Form}
 use Rattle.ngc_report.specs.declared.form.Form.TheVariants.{Words, Json}
 use Rattle.ngc_program_report.specs.Coordinates.{line_of}
 use Rattle.ngc_program_report.specs.Texts.{is_on}
+use Rattle.ngc_shifted_program.specs.Shifted.{execution_of}
 use Rattle.ngc_place_report.specs.Texts.{document_text, words_text}
 use Rattle.ngc_place_report.specs.Findings.{IsPlacement}
 use Rattle.ngc_place_report.specs.declared.placement.Here.{Here}
@@ -46,7 +47,8 @@ pub record IsPlaceText (setup : Setup) (bytes : List ℕ) (request : PlaceReques
   pub here : Here
   pub is_here : IsHere job request.cuts here
   pub placement : Placement
-  pub is_placement : IsPlacement program job request.system here request.cuts placement
+  pub is_placement :
+      IsPlacement (execution_of program) job request.system here request.cuts placement
   pub tells : text ≡ placement_text request.form setup.machine request.system placement
 
 -- Of a program's file and a sink: the text was written, or a prefix of it if the sink failed. For a
