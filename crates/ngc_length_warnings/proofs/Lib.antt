@@ -1,0 +1,2 @@
+-- The mistakes over commands, one command further.
+pub mod MistakeSteps
