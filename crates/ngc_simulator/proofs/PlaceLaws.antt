@@ -1,12 +1,9 @@
 -- The result of finding at which shifts of an origin a program fits, from the results of its parts.
-use Rattle.std.proofs.Common.{◌≡◌, ℕ, List, Option, Some, None, Result, Ok, Err, IfSome, ap, refl, subst, sym, ◌∙◌}
-use Rattle.std.specs.Prelude.{option_map}
-use Rattle.std.specs.Io.KnownBytes.{Appends}
-use Rattle.ngc_text.specs.Written.{AppendsPrefix}
-use Rattle.ngc_text.specs.declared.writing.WriteFault.{WriteFault}
+use Rattle.std.proofs.Common.{◌≡◌, ℕ, List, Option, Some, None, Result, Ok, Err, IfSome, refl, subst, sym, ◌∙◌}
+use Rattle.std.specs.Prelude.{IfErr, option_map}
 use Rattle.ngc_fixed_length.specs.declared.modes.System.{System}
+use Rattle.ngc_line_reader.specs.declared.program.fault.ReadFault.{ReadFault}
 use Rattle.ngc_line_reader.specs.ProgramText.{ProgramText, program_of, HaveReadings}
-use Rattle.ngc_machine_files.specs.Machine.{MachineFile}
 use Rattle.ngc_canonical.specs.Interpreter.{setup_of}
 use Rattle.ngc_canonical.specs.Meaning.{parsed_program}
 use Rattle.ngc_canonical.specs.State.{Setup}
@@ -17,9 +14,7 @@ use Rattle.ngc_certificate.specs.declared.fault.MakeFault.TheVariants.{Memory}
 use Rattle.ngc_certificate_text.specs.declared.piece.Setting.{Setting}
 use Rattle.ngc_command_line.specs.declared.options.PlaceOptions.{PlaceOptions}
 use Rattle.ngc_shifted_program.specs.Shifted.{Execution, IsOwnExecution, execution_of}
-use Rattle.ngc_place_report.specs.Findings.{IsPlacement}
-use Rattle.ngc_place_report.specs.declared.placement.Here.{Here}
-use Rattle.ngc_place_report.specs.declared.placement.Placement.{Placement}
+use Rattle.ngc_inputs.specs.Faults.{OfCertifying}
 use Rattle.ngc_inputs.specs.Jobs.{refused_at}
 use Rattle.ngc_inputs.specs.Setups.{FileBytes, KeepsFiles}
 use Rattle.ngc_inputs.specs.Shops.{PlacedResultIs}
@@ -29,33 +24,45 @@ use Rattle.ngc_inputs.specs.declared.setup.Shop.{Shop}
 use Rattle.ngc_inputs.proofs.JobLaws.{HasNoJob, IsJobFor, keeps_same, refused_program}
 use Rattle.ngc_inputs.proofs.SetupLaws.{of_file, on_placed}
 use Rattle.ngc_simulator.specs.Answers.{PlaceWrittenOn, place_request}
-use Rattle.ngc_simulator.specs.Placing.{IsHere, IsPlaceText, PlaceWritten, placement_text}
+use Rattle.ngc_simulator.specs.Placing.{IsPlaceText, IsPlacedText, OfPlacing, PlaceWritten, PlacesJob}
 use Rattle.ngc_simulator.specs.declared.place_request.PlaceRequest.{PlaceRequest}
 
--- a program that was read and has this job, and what was found of it
-module _ (setup : Setup) (bytes : List ℕ) (request : PlaceRequest) (text : ProgramText) (j : JobData) (here : Here) (p : Placement)
-    (is_text : program_of bytes ≡ Ok text) (have : HaveReadings text.lines) (is_job : IsJobFor text setup j) (is_here : IsHere j request.cuts here)
-    (found : (does : Execution) → IsOwnExecution text does → IsPlacement does j request.system here request.cuts p) where
-  place_text : (machine : MachineFile) → machine ≡ j.machine → IsPlaceText setup bytes request (placement_text request.form machine request.system p)
-  place_text machine is = record {
+-- a program that was read and has this job, and what is written of it
+module _ (setup : Setup) (bytes : List ℕ) (request : PlaceRequest) (text : ProgramText) (j : JobData) (is_text : program_of bytes ≡ Ok text)
+    (have : HaveReadings text.lines) (is_job : IsJobFor text setup j) where
+  place_text : (written : List ℕ) → IsPlacedText (execution_of (parsed_program text have.readings)) j request written
+      → IsPlaceText setup bytes request written
+  place_text written places = record {
     program = parsed_program text have.readings;
     is_program = record { text = text; is_text = is_text; readings = have.readings; are_readings = have.are; is_parsed = refl };
     job = j;
     is_job = is_job have.readings have.are;
-    here = here;
-    is_here = is_here;
-    placement = p;
-    is_placement = found (execution_of (parsed_program text have.readings)) (record { readings = have.readings; are = have.are; is = refl });
-    tells = ap (λ (m : MachineFile). placement_text request.form m request.system p) (is ∙ (is_job have.readings have.are).machine);
+    places = places;
   }
 
-  pub told_placed : (machine : MachineFile) (old new : Option (List ℕ)) → machine ≡ j.machine
-      → Appends old new (placement_text request.form machine request.system p) → PlaceWritten setup bytes request old new (Ok tt)
-  told_placed machine old new is wrote = (placement_text request.form machine request.system p, place_text machine is, wrote)
+  placed_so : (old new : Option (List ℕ)) (result : Result (Unit {0}) AnswerFault)
+      → PlacesJob (execution_of (parsed_program text have.readings)) j request old new result → PlaceWritten setup bytes request old new result
+  placed_so old new (Ok u) places = (places.0, place_text places.0 places.1, places.2)
+  placed_so old new (Err (answers.Make Memory)) places = places
+  placed_so old new (Err (answers.Write fault)) places = (places.0, place_text places.0 places.1, places.2)
+  placed_so old new (Err _) places = absurd places
 
-  pub placed_stopped : (machine : MachineFile) (old new : Option (List ℕ)) (fault : WriteFault) → machine ≡ j.machine
-      → AppendsPrefix old new (placement_text request.form machine request.system p) → PlaceWritten setup bytes request old new (Err (answers.Write fault))
-  placed_stopped machine old new fault is wrote = (placement_text request.form machine request.system p, place_text machine is, wrote)
+  pub placed : (old new : Option (List ℕ)) (result : Result (Unit {0}) AnswerFault)
+      → ((does : Execution) → IsOwnExecution text does → PlacesJob does j request old new result) → PlaceWritten setup bytes request old new result
+  placed old new result places =
+      placed_so old new result
+      (places (execution_of (parsed_program text have.readings)) (record { readings = have.readings; are = have.are; is = refl }))
+
+-- ---- the faults
+
+pub certifying : (result : Result (Unit {0}) AnswerFault) → IfErr result OfPlacing → IfErr result OfCertifying
+certifying (Ok u) of = tt
+certifying (Err (answers.Make Memory)) of = tt
+certifying (Err (answers.Write fault)) of = tt
+certifying (Err _) of = absurd of
+
+pub not_read : (A : Type 0) (result : Result (Unit {0}) AnswerFault) (e : ReadFault) → IfErr result OfPlacing → result ≡ Err (answers.Read e) → A
+not_read A result e of is = absurd (subst (λ (r : Result (Unit {0}) AnswerFault). IfErr r OfPlacing) is of)
 
 -- a program that has no job
 no_job : (setup : Setup) (bytes : List ℕ) (request : PlaceRequest) (text : ProgramText) (s : Setting) (fault : ProgramFault) (known : Option (List ℕ))
@@ -69,12 +76,6 @@ pub not_placed : (setup : Setup) (bytes : List ℕ) (request : PlaceRequest) (te
     → PlaceWritten setup bytes request known known (Err told)
 not_placed setup bytes request text s fault told known is is_text have refused =
     subst (λ (f : AnswerFault). PlaceWritten setup bytes request known known (Err f)) (sym is) (no_job setup bytes request text s fault known is_text have refused)
-
--- nothing is written if memory runs out
-pub no_memory : (setup : Setup) (request : PlaceRequest) (source known : Option (List ℕ))
-    → IfSome source (λ bytes. PlaceWritten setup bytes request known known (Err (answers.Make Memory)))
-no_memory setup request None known = tt
-no_memory setup request (Some bytes) known = keeps_same known
 
 -- ---- on the files that the command line names
 

@@ -15,7 +15,7 @@ use Rattle.ngc_report.specs.declared.form.Form.{Form}
 use Rattle.ngc_report.specs.declared.form.Form.TheVariants.{Words, Json}
 use Rattle.ngc_program_report.specs.Coordinates.{line_of}
 use Rattle.ngc_program_report.specs.Texts.{is_on}
-use Rattle.ngc_shifted_program.specs.Shifted.{execution_of}
+use Rattle.ngc_shifted_program.specs.Shifted.{Execution, execution_of}
 use Rattle.ngc_place_report.specs.Texts.{document_text, words_text}
 use Rattle.ngc_place_report.specs.Findings.{IsPlacement}
 use Rattle.ngc_place_report.specs.declared.placement.Here.{Here}
@@ -37,6 +37,32 @@ IsHere j cuts heres.Fits = (c : CertificateData) × IsMadeOf j cuts c
 IsHere j cuts (heres.NotCleared s line) = (k : ℕ) × IsUnmade j cuts (NotCleared s k)
     × (line ≡ line_of (slice_get (commands_in (is_on s) j) k))
 
+-- what is written of a job, whose program does this
+pub record IsPlacedText (does : Execution) (job : JobData) (request : PlaceRequest) (text : List ℕ) :
+    Type 0 where
+  pub here : Here
+  pub is_here : IsHere job request.cuts here
+  pub placement : Placement
+  pub is_placement : IsPlacement does job request.system here request.cuts placement
+  pub tells : text ≡ placement_text request.form job.machine request.system placement
+
+-- the faults of finding and writing that
+abbrev pub OfPlacing : AnswerFault → Type 0
+OfPlacing (answers.Make Memory) = Unit {0}
+OfPlacing (answers.Write fault) = Unit {0}
+OfPlacing _ = ⊥
+
+-- Of a job and a sink: the text was written, or a prefix of it if the sink failed; if memory runs out,
+-- nothing was written.
+abbrev pub PlacesJob : Execution → JobData → PlaceRequest → Option (List ℕ) → Option (List ℕ) →
+    Result (Unit {0}) AnswerFault → Type 0
+PlacesJob does job request old new (Ok u) =
+    (text : List ℕ) × IsPlacedText does job request text × Appends old new text
+PlacesJob does job request old new (Err (answers.Make Memory)) = Keeps old new
+PlacesJob does job request old new (Err (answers.Write fault)) =
+    (text : List ℕ) × IsPlacedText does job request text × AppendsPrefix old new text
+PlacesJob does job request old new (Err _) = ⊥
+
 -- what is written of a file's program
 pub record IsPlaceText (setup : Setup) (bytes : List ℕ) (request : PlaceRequest) (text : List ℕ) :
     Type 0 where
@@ -44,12 +70,7 @@ pub record IsPlaceText (setup : Setup) (bytes : List ℕ) (request : PlaceReques
   pub is_program : IsProgram bytes program
   pub job : JobData
   pub is_job : IsJobOf program setup job
-  pub here : Here
-  pub is_here : IsHere job request.cuts here
-  pub placement : Placement
-  pub is_placement :
-      IsPlacement (execution_of program) job request.system here request.cuts placement
-  pub tells : text ≡ placement_text request.form setup.machine request.system placement
+  pub places : IsPlacedText (execution_of program) job request text
 
 -- Of a program's file and a sink: the text was written, or a prefix of it if the sink failed. For a
 -- program that can't be read or is refused, and if memory runs out, nothing was written.

@@ -14,7 +14,9 @@ ghost use Rattle.ngc_inputs.specs.Faults.{FailsByOutput, OfCertifying};
 ghost use Rattle.ngc_inputs.specs.Unread.{FailsByInput, SourceFails};
 ghost use Rattle.ngc_simulator.specs.Answers.{PlaceResult, place_inputs, place_request};
 ghost use Rattle.ngc_simulator.specs.Answers.{requested_system};
-ghost use Rattle.ngc_simulator.specs.Placing.{IsHere, PlaceWritten, placement_text};
+ghost use Rattle.ngc_simulator.specs.Placing.{IsHere, OfPlacing, PlaceWritten, PlacesJob};
+ghost use Rattle.ngc_simulator.specs.Placing.{placement_text};
+ghost use Rattle.ngc_shifted_program.specs.Shifted.{Execution};
 
 use crate::certifier::{plans_for, refused};
 use crate::done::Done;
@@ -33,6 +35,7 @@ use ngc_place_report::{
     Here, Placement, find_placement, system_named, write_document, write_words,
 };
 use ngc_report::Form;
+use ngc_shifted_program::PartProgram;
 use ngc_text::{Sink, Source, WriteFault};
 use std::alloc::{AllocError, Allocator, Global};
 
@@ -95,6 +98,36 @@ fn write_placement<A: Allocator, W: Sink>(
     }
 }
 
+/// Writes whether the program of a job fits where the origin of a coordinate system is, and the shifts
+/// along each axis alone at which it fits. For any fault nothing is written, except that a prefix is
+/// written if a write fails (902).
+pub(crate) fn place_job<A: Allocator + Copy, P: PartProgram<A>, W: Sink>(
+    alloc: A,
+    program: &P,
+    job: &Job<A>,
+    request: PlaceRequest,
+    output: &mut W,
+) -> Result<(), AnswerFault>
+    ensures places { (does : Execution) → P.is_execution program.now does →
+        PlacesJob does job.now request (W.written output.old) (W.written output.new) result }
+    ensures sink { FailsByOutput result (W.failures output.old) (W.failures output.new) }
+    ensures faults { IfErr result OfPlacing }
+{
+    let (system, cuts) = (request.system, request.cuts);
+    let here = match find_here(alloc, job, cuts) {
+        Ok(here) => here,
+        Err(_) => return Err(AnswerFault::Make(MakeFault::Memory)),
+    };
+    let placement = match find_placement(alloc, program, job, system, here, cuts) {
+        Ok(placement) => placement,
+        Err(_) => return Err(AnswerFault::Make(MakeFault::Memory)),
+    };
+    match write_placement(request.form, job.machine(), system, &placement, output) {
+        Ok(()) => Ok(()),
+        Err(fault) => Err(AnswerFault::Write(fault)),
+    }
+}
+
 /// Writes whether a program fits where the origin of a coordinate system is, and the shifts along
 /// each axis alone at which it fits, at both settings of block delete. For any fault nothing is
 /// written, except that a prefix is written if a write fails (902).
@@ -121,19 +154,7 @@ pub fn place_program<A: Allocator + Copy, R: Source, W: Sink>(
         Ok(job) => job,
         Err(refusal) => return Err(refused(refusal)),
     };
-    let (system, cuts) = (request.system, request.cuts);
-    let here = match find_here(alloc, &job, cuts) {
-        Ok(here) => here,
-        Err(_) => return Err(AnswerFault::Make(MakeFault::Memory)),
-    };
-    let placement = match find_placement(alloc, &program, &job, system, here, cuts) {
-        Ok(placement) => placement,
-        Err(_) => return Err(AnswerFault::Make(MakeFault::Memory)),
-    };
-    match write_placement(request.form, job.machine(), system, &placement, output) {
-        Ok(()) => Ok(()),
-        Err(fault) => Err(AnswerFault::Write(fault)),
-    }
+    place_job(alloc, &program, &job, request, output)
 }
 
 fn request_of(options: &PlaceOptions<'_>, system: System) -> PlaceRequest
