@@ -41,6 +41,31 @@ pub(crate) fn dialects() -> &'static [Row]
             mend: "Angles are in degrees.",
         },
         Row {
+            number: 136,
+            rule: "A subprogram, a line or the end of a block isn't there, or is there twice: correct the label or the\n\
+             number. The message says which (our own).",
+            example: "command with `--dialect linuxcnc`: `o1 call`",
+            answer: "`ngc: fault 136 line 1: no subprogram or line has this label`",
+            place: None,
+            mend: "A label is a number or a name, as `o100` or `o<hole>`. A subprogram is in the same file.",
+        },
+        Row {
+            number: 137,
+            rule: "Calls are nested over 10 deep, or over 32 loops are open: use fewer (our own).",
+            example: "command with `--dialect linuxcnc`: `o1 sub`, `o1 call`, `o1 endsub`, `o1 call`",
+            answer: "`ngc: fault 137 line 2: subprograms are nested over 10 deep`",
+            place: None,
+            mend: "A subprogram that calls itself needs a condition that ends it.",
+        },
+        Row {
+            number: 138,
+            rule: "Over 2,000,000 lines are executed: correct the condition of the loop (our own).",
+            example: "command with `--dialect linuxcnc`: `o1 while [1]`, `o1 endwhile`",
+            answer: "`ngc: fault 138 line 1: over 2,000,000 lines were executed`",
+            place: None,
+            mend: "Lines count from the first label, jump or call of the program on.",
+        },
+        Row {
             number: 139,
             rule: "The program sets over 10,000 names: use fewer (our own).",
             example: "command with `--dialect linuxcnc`: 10,001 lines `#<_a1>=1`, `#<_a2>=1`, ..",
