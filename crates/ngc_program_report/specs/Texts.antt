@@ -35,6 +35,7 @@ use Rattle.ngc_report.specs.Scenes.{scene_at}
 use Rattle.ngc_report.specs.Warnings.{warning_lines}
 use Rattle.ngc_report.specs.declared.form.Form.{Form}
 use Rattle.ngc_report.specs.declared.form.Form.TheVariants.{Words, Json}
+use Rattle.ngc_length_warnings.specs.Spelling.{length_warnings}
 use Rattle.ngc_word_warnings.specs.Spelling.{word_warnings}
 use Rattle.ngc_lowest_tips.specs.Texts.{tips_text}
 use Rattle.ngc_lowest_tips.specs.Tips.{lowest_tips}
@@ -116,13 +117,22 @@ abbrev pub is_on : Setting → Bool
 is_on Off = false
 is_on On = true
 
+-- the warnings for the words of a program's lines; in another language, where they have other
+-- meanings, those for the length offsets that they set
+abbrev pub language_warnings : Form → Bool → Setup → History → List Command → Option (List Line) →
+    List ℕ
+language_warnings form deletes setup h commands (Some lines) =
+    word_warnings form deletes setup.machine setup.tools commands lines
+language_warnings form deletes setup h commands None =
+    length_warnings form setup.machine h.start h.changes commands
+
 -- the warnings at a setting: for the commands there, for tool changes, for the words of the
 -- program's lines, and for the origins from which it moves
 abbrev pub warnings : Form → Setting → Setup → History → List Command → ReportedLines → List ℕ
 warnings form s setup h commands lines =
     report_text form (warning_lines setup.machine commands)
     ++ (tool_warnings form setup.machine commands
-    ++ (word_warnings form (is_on s) setup.machine setup.tools commands lines.examined
+    ++ (language_warnings form (is_on s) setup h commands lines.examined
     ++ origin_warnings form setup.machine setup.tools h.start h.changes commands))
 
 -- the lowest heights at a setting, and the warnings

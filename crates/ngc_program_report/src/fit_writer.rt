@@ -7,12 +7,11 @@ ghost use Rattle.ngc_report.specs.Forms.{closing};
 ghost use Rattle.ngc_lowest_tips.specs.Tips.{lowest_tips};
 ghost use Rattle.ngc_program_report.specs.Coordinates.{history_of};
 ghost use Rattle.ngc_program_report.specs.Reported.{reported};
-ghost use Rattle.ngc_program_report.specs.Texts.{accepted_text, duration_text, is_on, remarks};
+ghost use Rattle.ngc_program_report.specs.Texts.{accepted_text, duration_text, is_on, language_warnings, remarks};
 ghost use Rattle.ngc_program_report.specs.Texts.{setting_text, shop_text, takes_line, tool_figures};
 ghost use Rattle.ngc_program_report.specs.Texts.{warnings};
 ghost use Rattle.ngc_program_report.specs.Times.{uses_text};
 ghost use Rattle.ngc_program_report.specs.Writing.{Writes};
-ghost use Rattle.ngc_word_warnings.specs.Spelling.{word_warnings};
 
 use crate::program_time::ProgramTime;
 use crate::report_frame::{closing, write_heading};
@@ -24,6 +23,7 @@ use ngc_certificate::Setting;
 use ngc_certificate_text::MotionList;
 use ngc_checker::Accepted;
 use ngc_commands::Command;
+use ngc_length_warnings::write_length_warnings;
 use ngc_lowest_tips::{LowestTip, write_lowest_tips};
 use ngc_machine_files::Tools;
 use ngc_origin_warnings::write_origin_warnings;
@@ -31,7 +31,7 @@ use ngc_origins::Origins;
 use ngc_report::{Form, write_fit, write_warnings};
 use ngc_sentences::Page;
 use ngc_setup_sheet::{write_warning_facts, write_warnings as write_shop_warnings};
-use ngc_text::{Sink, WriteFault, write_all};
+use ngc_text::{Sink, WriteFault};
 use ngc_tool_figures::write_tool_figures;
 use ngc_tool_warnings::write_tool_warnings;
 use ngc_word_warnings::write_word_warnings;
@@ -97,25 +97,30 @@ pub(crate) fn is_on(setting: Setting) -> bool
     }
 }
 
-// Writes the warnings for the words of a program's lines, at a setting of block delete. The words of a
-// program for another control aren't examined.
+// Writes the warnings for the words of a program's lines, at a setting of block delete, or those for
+// the length offsets that they set if the program is for another control.
 fn write_words<A: Allocator, W: Sink>(
     subject: &Subject<A>,
     deletes: bool,
-    commands: &[Command],
+    execution: &Execution<A>,
     output: &mut W,
 ) -> Result<(), WriteFault>
     ensures { Writes (W.written output.old) (W.written output.new) (W.failures output.old)
         (W.failures output.new) result
-        (word_warnings subject.now.form deletes (file_of subject.now.machine.now)
-        (tools_of subject.now.tools.now) commands.now (reported subject.now.text.now).examined) }
+        (language_warnings subject.now.form deletes
+        (setup_of subject.now.machine.now subject.now.tools.now)
+        (history_of execution.now.history.now.start execution.now.history.now.changes.items)
+        execution.now.commands.now (reported subject.now.text.now).examined) }
 {
     let (form, machine, table) = (subject.form, subject.machine, subject.tools.tools());
+    let commands = execution.commands;
     match subject.text {
         ReportedText::Own(program) => {
             write_word_warnings(form, deletes, program, machine, table, commands, output)
         }
-        ReportedText::Other(_) => write_all(output, b""),
+        ReportedText::Other(_) => {
+            write_length_warnings(form, machine, execution.history, commands, output)
+        }
     }
 }
 
@@ -137,7 +142,7 @@ pub(crate) fn write_setting_warnings<A: Allocator, W: Sink>(
     let commands = execution.commands;
     write_warnings(form, machine, commands, output)?;
     write_tool_warnings(form, machine, commands, output)?;
-    write_words(subject, is_on(setting), commands, output)?;
+    write_words(subject, is_on(setting), execution, output)?;
     write_origin_warnings(form, machine, table, execution.history, commands, output)
 }
 

@@ -7,6 +7,6 @@ pub enum ReportedText<'a, A: Allocator> {
     /// A program in our own language: its lines are quoted, and their words examined.
     Own(&'a Program<A>),
     /// The text of a program for another control. Its lines are quoted, by their numbers from 1. Their
-    /// words aren't examined, since they have other meanings.
+    /// words aren't examined, since they have other meanings; the length offsets that they set are.
     Other(&'a [u8]),
 }

@@ -1,9 +1,10 @@
 use Rattle.std.proofs.Common.{List, Bool, ap}
 use Rattle.ngc_machine_files.specs.Machine.{file_of}
-use Rattle.ngc_machine_files.specs.Tools.{tools_of}
 use Rattle.ngc_machine_files.specs.declared.tools.Tool.{Tool}
 use Rattle.ngc_origin_warnings.specs.Warnings.{origin_warnings}
-use Rattle.ngc_word_warnings.specs.Spelling.{word_warnings}
+use Rattle.ngc_canonical.specs.Interpreter.{setup_of}
+use Rattle.ngc_program_report.specs.Coordinates.{history_of}
+use Rattle.ngc_program_report.specs.Texts.{language_warnings}
 use Rattle.ngc_program_report.specs.Reported.{reported}
 use Rattle.ngc_program_report.proofs.WritingLaws.{stops, then, writes_text}
 use Rattle.ngc_program_report.proofs.WrittenLaws.{appends_as, begins_as}
@@ -21,9 +22,11 @@ pub returns-in_err-write_words : goal.returns-in_err-write_words
 returns-in_err-write_words g c =
     let m = file_of c.args.subject.now.machine.now in
     let cs = c.args.execution.now.commands.now in
+    let h = c.args.execution.now.history.now in
     let lines = (reported c.args.subject.now.text.now).examined in
-    let tools = tools_of c.args.subject.now.tools.now in
-    let words = ap (λ (deletes : Bool). word_warnings c.args.subject.now.form deletes m tools cs lines) c.is_on.ensures in
+    let setup = setup_of c.args.subject.now.machine.now c.args.subject.now.tools.now in
+    let changes = history_of h.start h.changes.items in
+    let words = ap (λ (deletes : Bool). language_warnings c.args.subject.now.form deletes setup changes cs lines) c.is_on.ensures in
     then _ _ c.in_ok-write_warnings.ensures.ok c.in_ok-write_warnings.ensures.counts
     (then _ _ c.in_ok-write_tool_warnings.ensures.ok c.in_ok-write_tool_warnings.ensures.counts
     (stops _ _ c.from_residual-in_err-write_words.ensures.0 (begins_as _ _ _ _ words c.in_err-write_words.ensures.fault) c.in_err-write_words.ensures.counts))
@@ -32,10 +35,11 @@ pub returns : goal.returns
 returns g c =
     let m = file_of c.args.subject.now.machine.now in
     let cs = c.args.execution.now.commands.now in
-    let lines = (reported c.args.subject.now.text.now).examined in
-    let tools = tools_of c.args.subject.now.tools.now in
-    let words = ap (λ (deletes : Bool). word_warnings c.args.subject.now.form deletes m tools cs lines) c.is_on.ensures in
     let h = c.args.execution.now.history.now in
+    let lines = (reported c.args.subject.now.text.now).examined in
+    let setup = setup_of c.args.subject.now.machine.now c.args.subject.now.tools.now in
+    let changes = history_of h.start h.changes.items in
+    let words = ap (λ (deletes : Bool). language_warnings c.args.subject.now.form deletes setup changes cs lines) c.is_on.ensures in
     let origins = ap (λ (ts : List Tool). origin_warnings c.args.subject.now.form m ts h.start h.changes.items cs) c.tools-table.ensures.tools in
     then _ _ c.in_ok-write_warnings.ensures.ok c.in_ok-write_warnings.ensures.counts
     (then _ _ c.in_ok-write_tool_warnings.ensures.ok c.in_ok-write_tool_warnings.ensures.counts
