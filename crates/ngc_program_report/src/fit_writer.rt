@@ -31,7 +31,7 @@ use ngc_origins::Origins;
 use ngc_report::{Form, write_fit, write_warnings};
 use ngc_sentences::Page;
 use ngc_setup_sheet::{write_warning_facts, write_warnings as write_shop_warnings};
-use ngc_text::{Sink, WriteFault};
+use ngc_text::{Sink, WriteFault, write_all};
 use ngc_tool_figures::write_tool_figures;
 use ngc_tool_warnings::write_tool_warnings;
 use ngc_word_warnings::write_word_warnings;
