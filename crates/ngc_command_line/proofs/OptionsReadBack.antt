@@ -949,27 +949,27 @@ FindsPlace machine tools program system cuts json None = ⊥
 FindsPlace machine tools program system cuts json (Some found) = (found.0 ≡ codes "place") × (first_of (codes "machine") found.1 ≡ Some machine)
     × (first_of (codes "tools") found.1 ≡ Some tools) × (first_of (codes "program") found.1 ≡ program) × (first_of (codes "system") found.1 ≡ system)
     × (first_of (codes "cuts") found.1 ≡ cuts) × (is_set (codes "json") found.1 ≡ json)
-    × (change_texts found.1 ≡ no_texts)
+    × (change_texts found.1 ≡ no_texts) × (first_of (codes "dialect") found.1 ≡ None)
 
 place_finds : (machine tools : Text) (program system : Option Text) (cuts : Option ℕ) (json : Bool)
     → FindsPlace machine tools program system (text_of cuts) json (subcommand_of ngc_app (place_words machine tools program system cuts json))
 unfolding clap_on_literals
-place_finds machine tools None None None false = (refl, refl, refl, refl, refl, refl, refl, refl)
-place_finds machine tools None None None true = (refl, refl, refl, refl, refl, refl, refl, refl)
-place_finds machine tools None None (Some cuts) false = (refl, refl, refl, refl, refl, refl, refl, refl)
-place_finds machine tools None None (Some cuts) true = (refl, refl, refl, refl, refl, refl, refl, refl)
-place_finds machine tools None (Some system) None false = (refl, refl, refl, refl, refl, refl, refl, refl)
-place_finds machine tools None (Some system) None true = (refl, refl, refl, refl, refl, refl, refl, refl)
-place_finds machine tools None (Some system) (Some cuts) false = (refl, refl, refl, refl, refl, refl, refl, refl)
-place_finds machine tools None (Some system) (Some cuts) true = (refl, refl, refl, refl, refl, refl, refl, refl)
-place_finds machine tools (Some program) None None false = (refl, refl, refl, refl, refl, refl, refl, refl)
-place_finds machine tools (Some program) None None true = (refl, refl, refl, refl, refl, refl, refl, refl)
-place_finds machine tools (Some program) None (Some cuts) false = (refl, refl, refl, refl, refl, refl, refl, refl)
-place_finds machine tools (Some program) None (Some cuts) true = (refl, refl, refl, refl, refl, refl, refl, refl)
-place_finds machine tools (Some program) (Some system) None false = (refl, refl, refl, refl, refl, refl, refl, refl)
-place_finds machine tools (Some program) (Some system) None true = (refl, refl, refl, refl, refl, refl, refl, refl)
-place_finds machine tools (Some program) (Some system) (Some cuts) false = (refl, refl, refl, refl, refl, refl, refl, refl)
-place_finds machine tools (Some program) (Some system) (Some cuts) true = (refl, refl, refl, refl, refl, refl, refl, refl)
+place_finds machine tools None None None false = (refl, refl, refl, refl, refl, refl, refl, refl, refl)
+place_finds machine tools None None None true = (refl, refl, refl, refl, refl, refl, refl, refl, refl)
+place_finds machine tools None None (Some cuts) false = (refl, refl, refl, refl, refl, refl, refl, refl, refl)
+place_finds machine tools None None (Some cuts) true = (refl, refl, refl, refl, refl, refl, refl, refl, refl)
+place_finds machine tools None (Some system) None false = (refl, refl, refl, refl, refl, refl, refl, refl, refl)
+place_finds machine tools None (Some system) None true = (refl, refl, refl, refl, refl, refl, refl, refl, refl)
+place_finds machine tools None (Some system) (Some cuts) false = (refl, refl, refl, refl, refl, refl, refl, refl, refl)
+place_finds machine tools None (Some system) (Some cuts) true = (refl, refl, refl, refl, refl, refl, refl, refl, refl)
+place_finds machine tools (Some program) None None false = (refl, refl, refl, refl, refl, refl, refl, refl, refl)
+place_finds machine tools (Some program) None None true = (refl, refl, refl, refl, refl, refl, refl, refl, refl)
+place_finds machine tools (Some program) None (Some cuts) false = (refl, refl, refl, refl, refl, refl, refl, refl, refl)
+place_finds machine tools (Some program) None (Some cuts) true = (refl, refl, refl, refl, refl, refl, refl, refl, refl)
+place_finds machine tools (Some program) (Some system) None false = (refl, refl, refl, refl, refl, refl, refl, refl, refl)
+place_finds machine tools (Some program) (Some system) None true = (refl, refl, refl, refl, refl, refl, refl, refl, refl)
+place_finds machine tools (Some program) (Some system) (Some cuts) false = (refl, refl, refl, refl, refl, refl, refl, refl, refl)
+place_finds machine tools (Some program) (Some system) (Some cuts) true = (refl, refl, refl, refl, refl, refl, refl, refl, refl)
 
 place_cuts_taken : (machine tools : Text) (program system : Option Text) (cuts : ℕ) (json : Bool) → value_kinds false (Unsigned 1 65535) (decimal cuts) ≡ []
     → IsTaken (place_words machine tools program system (Some cuts) json)
@@ -1011,6 +1011,7 @@ requested_place machine tools program system cuts json (Some found) (ToPlace pla
       cuts_read cuts place.cuts range read,
       are.1.json ∙ finds.6,
       none_replaced found.1 place.changes are.1.changes finds.7,
+      are.1.dialect ∙ finds.8,
     )
 requested_place machine tools program system cuts json (Some found) (ToList list) range finds are =
     other_name (codes "place") (codes "list") (sym finds.0 ∙ are.0) (λ lengths. omega (arith, lengths))

@@ -315,7 +315,8 @@ place_sound =
     let margin = set_is_sound FitsCuts _ refl refl refl (λ v none. no_cuts (codes "margin") v refl) in
     let from_travel = set_is_sound FitsCuts _ refl refl refl (λ v none. no_cuts (codes "travel-margin") v refl) in
     let rapids = set_is_sound FitsCuts _ refl refl refl (λ v none. no_cuts (codes "rapids") v refl) in
-    (machine, (tools, (program, (system, (cuts, (json, (origin, (margin, (from_travel, (rapids, (help_is_sound FitsCuts _ refl refl, tt)))))))))))
+    let dialect = set_is_sound FitsCuts _ refl refl refl (λ v none. no_cuts (codes "dialect") v refl) in
+    (machine, (tools, (program, (system, (cuts, (json, (origin, (margin, (from_travel, (rapids, (dialect, (help_is_sound FitsCuts _ refl refl, tt))))))))))))
 
 place_values : (words : List Text) → level_fault place_shape [] nothing_held words false [] ≡ [] → HasPlaceValues (rows_after place_shape.rules [] words)
 place_values words none =

@@ -136,13 +136,13 @@ report_app = fold with_rule (new_app (codes "report"))
     ∷ travel_margin_option ∷ rapids_option ∷ dialect_option ∷ [])
 
 -- `place --machine FILE --tools FILE [--program FILE] [--system SYSTEM] [--cuts N] [--json]
--- [--origin SYSTEM=X,Y,Z].. ..`
+-- [--origin SYSTEM=X,Y,Z].. .. [--dialect NAME]`
 abbrev pub place_app : App
 place_app = fold with_rule (new_app (codes "place"))
     (required_file (codes "machine") ∷ required_file (codes "tools")
     ∷ file_option (codes "program") ∷ file_option (codes "system") ∷ cuts_option
     ∷ flag (codes "json") ∷ origin_option ∷ margin_option
-    ∷ travel_margin_option ∷ rapids_option ∷ [])
+    ∷ travel_margin_option ∷ rapids_option ∷ dialect_option ∷ [])
 
 -- `--tool N`, with a number from 1 to 9,999
 abbrev pub tool_option : Rule

@@ -243,6 +243,7 @@ pub record ArePlaceOptions (rows : List Row) (options : PlaceOptions) : Type 0 w
   pub cuts : AreCuts (first_of (codes "cuts") rows) options.cuts
   pub json : options.json ≡ is_set (codes "json") rows
   pub changes : changes_in rows ≡ Some options.changes
+  pub dialect : option_map (λ name. name.now) options.dialect ≡ first_of (codes "dialect") rows
 
 -- the number of a tool: none without a text, otherwise the number from 1 to 9,999 whose decimal the
 -- text is; a plus sign may precede it
@@ -472,6 +473,7 @@ IsPlaceRequest machine tools program system cuts json (ToPlace place) =
     × (option_map (λ name. name.now) place.program ≡ program)
     × (option_map (λ name. name.now) place.system ≡ system)
     × (place.cuts ≡ unwrap_or cuts 8) × (place.json ≡ json) × (place.changes ≡ no_changes)
+    × (option_map (λ name. name.now) place.dialect ≡ None)
 IsPlaceRequest machine tools program system cuts json other = ⊥
 
 -- `adapt` is requested, with these options

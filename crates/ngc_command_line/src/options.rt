@@ -274,6 +274,8 @@ pub struct PlaceOptions<'a> {
     pub json: bool,
     /// What replaces keys of the machine file.
     pub changes: Changes,
+    /// The control in whose language the program is written. Without one it is our own language.
+    pub dialect: Option<&'a str>,
     ghost some_cuts: { 1 ≤ cuts },
 }
 

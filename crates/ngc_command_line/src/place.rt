@@ -5,8 +5,8 @@ ghost use Rattle.clap.specs.Words.{found_of, rows_of};
 ghost use Rattle.ngc_command_line.specs.Meant.{ArePlaceOptions, HasPlaceValues, changes_in};
 
 use crate::arguments::{
-    CUTS, MARGIN, ORIGIN, PROGRAM, RAPIDS, REQUIRED_MACHINE, REQUIRED_TOOLS, TRAVEL_MARGIN,
-    flag_is_set, help_end, required,
+    CUTS, DIALECT, MARGIN, ORIGIN, PROGRAM, RAPIDS, REQUIRED_MACHINE, REQUIRED_TOOLS,
+    TRAVEL_MARGIN, flag_is_set, help_end, required,
 };
 use crate::certify::cuts_of;
 use crate::options::PlaceOptions;
@@ -41,6 +41,7 @@ pub(crate) static PLACE: SubcommandRow<'static> = SubcommandRow {
         MARGIN,
         TRAVEL_MARGIN,
         RAPIDS,
+        DIALECT,
     ],
 };
 
@@ -57,5 +58,6 @@ pub(crate) fn place_options<'a>(found: &ArgMatches<'a>, changes: Changes) -> Pla
         cuts: cuts_of(found),
         json: flag_is_set(found, "json"),
         changes,
+        dialect: found.get_str("dialect"),
     }
 }

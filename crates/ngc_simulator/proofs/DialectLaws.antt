@@ -30,11 +30,13 @@ use Rattle.ngc_inputs.proofs.JobLaws.{if_known, keeps_same}
 use Rattle.ngc_inputs.proofs.SetupLaws.{on_placed}
 use Rattle.ngc_inputs.proofs.UnreadLaws.{AllRead, all_read, placed_read}
 use Rattle.ngc_simulator.specs.Answers.{DialectComes, dialect_inputs, source_input}
+use Rattle.ngc_simulator.specs.DialectPlaces.{PlacesDialect}
 use Rattle.ngc_simulator.specs.Dialects.{IsSent, ListsDialect, OnDialect, StopsDialect, NotesFault, NotesRefusal}
 use Rattle.ngc_simulator.specs.Dialects.{CertifiesDialect, CertifiesJob, ChecksDialect, OnDialectJob}
 use Rattle.ngc_simulator.specs.declared.dialects.DialectFiles.{DialectFiles}
 use Rattle.ngc_simulator.specs.declared.dialects.Sent.{Sent}
 use Rattle.ngc_simulator.specs.declared.done.Done.{Done}
+use Rattle.ngc_simulator.specs.declared.place_request.PlaceRequest.{PlaceRequest}
 use Rattle.ngc_simulator.specs.declared.done.Done.TheVariants.{Quietly, WithNotes}
 use Rattle.ngc_simulator.proofs.AdaptLaws.{told_none}
 
@@ -151,6 +153,15 @@ certify_read d setup source cuts format old new (Err (answers.Input e)) certifie
 certify_read d setup source cuts format old new (Err (answers.Read e)) certifies = absurd certifies.2
 certify_read d setup source cuts format old new (Err (answers.Certificate e)) certifies = absurd certifies.2
 certify_read d setup source cuts format old new (Err _) certifies = refl
+
+-- where an origin may lie is found for files that were read
+pub place_read : (d : Dialect) (setup : Setup) (source : List ℕ) (request : PlaceRequest) (old new : Option (List ℕ)) (outcome : Result Done AnswerFault) →
+    PlacesDialect d setup source request old new outcome → IfErr outcome (λ fault. unread_by fault ≡ None)
+place_read d setup source request old new (Ok done) places = tt
+place_read d setup source request old new (Err (answers.Input e)) places = absurd places.2
+place_read d setup source request old new (Err (answers.Read e)) places = absurd places.2
+place_read d setup source request old new (Err (answers.Certificate e)) places = absurd places.2
+place_read d setup source request old new (Err _) places = refl
 
 -- ---- what a command does on a job
 

@@ -65,6 +65,7 @@ use Rattle.ngc_inputs.specs.Unread.{Input, OfProgram, OfCertificate, OfEvents, O
 use Rattle.ngc_adapt_program.specs.declared.request.Request.{Request}
 use Rattle.ngc_adapt_program.specs.Requests.{control_named, dropped_codes}
 use Rattle.ngc_simulator.specs.Adapting.{Adapts, IsRequest}
+use Rattle.ngc_simulator.specs.DialectPlaces.{PlacesDialect}
 use Rattle.ngc_simulator.specs.Dialects.{CertifiesDialect, ChecksDialect, ListsDialect, OnDialect}
 use Rattle.ngc_simulator.specs.Dialects.{StopsDialect}
 use Rattle.ngc_simulator.specs.Making.{Makes, OnDump, has_source}
@@ -389,14 +390,38 @@ PlaceWrittenOn bytes options system old new outcome =
     IfSome (bytes (option_map (λ name. name.now) options.program))
     (λ text. PlaceWritten setup text (place_request options system) old new outcome))
 
+abbrev pub OwnPlaceResult : FileBytes → PlaceOptions → System → Option (List ℕ) →
+    Option (List ℕ) → Result Done AnswerFault → Type 0
+OwnPlaceResult bytes options system old new outcome =
+    Comes (ReportsPlacedRefusal (requested_form options.json) bytes (Some options.machine.now)
+    (Some options.tools.now) options.changes old new) OfCertifying (PlaceWrittenOn bytes options system old new)
+    outcome
+
+abbrev pub DialectPlaceResult : List ℕ → FileBytes → PlaceOptions → System → Option (List ℕ) →
+    Option (List ℕ) → Result Done AnswerFault → Type 0
+DialectPlaceResult control bytes options system old new outcome =
+    let machine : Option (List ℕ) = Some options.machine.now in
+    let tools : Option (List ℕ) = Some options.tools.now in
+    DialectComes (StopsDialect control bytes machine tools options.changes)
+    (λ o. OnDialect control bytes machine tools options.changes
+    (option_map (λ name. name.now) options.program)
+    (λ d setup source. PlacesDialect d setup source (place_request options system) old new o))
+    old new outcome
+
+abbrev pub PlaceResultIn : Option (List ℕ) → FileBytes → PlaceOptions → System →
+    Option (List ℕ) → Option (List ℕ) → Result Done AnswerFault → Type 0
+PlaceResultIn None bytes options system old new outcome =
+    OwnPlaceResult bytes options system old new outcome
+PlaceResultIn (Some control) bytes options system old new outcome =
+    DialectPlaceResult control bytes options system old new outcome
+
 -- a system that isn't known is rejected before a file is read
 abbrev pub PlaceResult : FileBytes → PlaceOptions → Option System → Option (List ℕ) →
     Option (List ℕ) → Result Done AnswerFault → Type 0
 PlaceResult bytes options None old new outcome =
     (outcome ≡ Err answers.UnknownSystem) × Keeps old new
 PlaceResult bytes options (Some system) old new outcome =
-    Comes (ReportsPlacedRefusal (requested_form options.json) bytes (Some options.machine.now)
-    (Some options.tools.now) options.changes old new) OfCertifying (PlaceWrittenOn bytes options system old new)
+    PlaceResultIn (option_map (λ name. name.now) options.dialect) bytes options system old new
     outcome
 
 -- the system that is named, G54 without a name
@@ -735,12 +760,22 @@ report_inputs options =
     shop_inputs (Some options.machine.now) (Some options.tools.now)
     ++ program_input (option_map (λ name. name.now) options.program) ∷ []
 
+abbrev pub own_place_inputs : PlaceOptions → List Input
+own_place_inputs options =
+    shop_inputs (Some options.machine.now) (Some options.tools.now)
+    ++ program_input (option_map (λ name. name.now) options.program) ∷ []
+
+abbrev pub place_inputs_in : Option (List ℕ) → PlaceOptions → List Input
+place_inputs_in None options = own_place_inputs options
+place_inputs_in (Some control) options =
+    dialect_inputs (Some options.machine.now) (Some options.tools.now)
+    (option_map (λ name. name.now) options.program)
+
 -- where the system is known
 abbrev pub place_inputs : PlaceOptions → Option System → List Input
 place_inputs options None = []
 place_inputs options (Some system) =
-    shop_inputs (Some options.machine.now) (Some options.tools.now)
-    ++ program_input (option_map (λ name. name.now) options.program) ∷ []
+    place_inputs_in (option_map (λ name. name.now) options.dialect) options
 
 -- where the request is known
 abbrev pub adapt_inputs : AdaptOptions → List Input
@@ -809,7 +844,7 @@ IsQuiet (commands.Live options) = options.dialect ≡ None
 IsQuiet (commands.Draw options) = Unit {0}
 IsQuiet (commands.Show options) = Unit {0}
 IsQuiet (commands.Report options) = Unit {0}
-IsQuiet (commands.Place options) = Unit {0}
+IsQuiet (commands.Place options) = options.dialect ≡ None
 IsQuiet (commands.Adapt options) = ⊥
 IsQuiet (commands.Machine options) = ⊥
 IsQuiet (commands.Explain number) = Unit {0}

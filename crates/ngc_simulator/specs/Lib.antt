@@ -13,6 +13,7 @@ pub mod Mistaken
 pub mod Status
 pub mod Adapting
 pub mod Dialects
+pub mod DialectPlaces
 pub mod DialectRuns
 pub mod Certifying
 pub mod Placing

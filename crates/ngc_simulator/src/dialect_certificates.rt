@@ -18,21 +18,25 @@ use ngc_checker::{CheckReadFault, check_job_source};
 use ngc_command_line::{CertifyOptions, CheckOptions, Format};
 use ngc_dialect_execution::DialectFault;
 use ngc_dialect_job::dialect_job;
-use ngc_inputs::{AnswerFault, Files, open_file};
+use ngc_dialect_reader::Dialect;
+use ngc_inputs::{AnswerFault, Files, Shop, open_file};
 use ngc_job::Job;
 use ngc_text::{Sink, Source, write_all};
 use std::alloc::Global;
 
-/// Returns the job of a program, or notes on why it is refused.
-pub(crate) fn job_of(alloc: Global, sent: Sent) -> Result<Result<Job<Global>, Notes>, AnswerFault>
+/// Returns the job of a program's text, or notes on why it is refused.
+pub(crate) fn job_of_text(
+    alloc: Global,
+    dialect: Dialect,
+    text: &[u8],
+    shop: Shop,
+) -> Result<Result<Job<Global>, Notes>, AnswerFault>
     ensures job { IfOk result (λ made. MatchResult made
-        (λ j. IsDialectJob sent.dialect sent.text.items
-        (setup_of sent.shop.machine sent.shop.tools) j)
-        (NotesRefusal sent.dialect (setup_of sent.shop.machine sent.shop.tools) sent.text.items)) }
+        (λ j. IsDialectJob dialect text.now (setup_of shop.machine shop.tools) j)
+        (NotesRefusal dialect (setup_of shop.machine shop.tools) text.now)) }
     ensures fault { IfErr result (λ e. e ≡ AnswerFault.Memory) }
 {
-    let (machine, tools) = (sent.shop.machine, sent.shop.tools);
-    match dialect_job(alloc, sent.dialect, sent.text.as_slice(), machine, tools) {
+    match dialect_job(alloc, dialect, text, shop.machine, shop.tools) {
         Ok(job) => Ok(Ok(job)),
         Err(refusal) => match refusal.fault {
             DialectFault::Memory => Err(AnswerFault::Memory),
@@ -42,6 +46,18 @@ pub(crate) fn job_of(alloc: Global, sent: Sent) -> Result<Result<Job<Global>, No
             }
         },
     }
+}
+
+/// Returns the job of a program, or notes on why it is refused.
+pub(crate) fn job_of(alloc: Global, sent: Sent) -> Result<Result<Job<Global>, Notes>, AnswerFault>
+    ensures job { IfOk result (λ made. MatchResult made
+        (λ j. IsDialectJob sent.dialect sent.text.items
+        (setup_of sent.shop.machine sent.shop.tools) j)
+        (NotesRefusal sent.dialect (setup_of sent.shop.machine sent.shop.tools) sent.text.items)) }
+    ensures fault { IfErr result (λ e. e ≡ AnswerFault.Memory) }
+{
+    let shop = sent.shop;
+    job_of_text(alloc, sent.dialect, sent.text.as_slice(), shop)
 }
 
 // Writes the certificate that is made for a job.

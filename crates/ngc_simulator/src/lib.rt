@@ -7,6 +7,7 @@ mod certifier;
 mod checking;
 mod dialect_certificates;
 mod dialect_lister;
+mod dialect_places;
 mod dialect_runs;
 mod dialects;
 mod done;

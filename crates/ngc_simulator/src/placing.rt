@@ -12,13 +12,15 @@ ghost use Rattle.ngc_program_report.specs.Coordinates.{line_of};
 ghost use Rattle.ngc_program_report.specs.Texts.{is_on};
 ghost use Rattle.ngc_inputs.specs.Faults.{FailsByOutput, OfCertifying};
 ghost use Rattle.ngc_inputs.specs.Unread.{FailsByInput, SourceFails};
-ghost use Rattle.ngc_simulator.specs.Answers.{PlaceResult, place_inputs, place_request};
+ghost use Rattle.ngc_simulator.specs.Answers.{OwnPlaceResult, PlaceResult, own_place_inputs};
+ghost use Rattle.ngc_simulator.specs.Answers.{place_inputs, place_request};
 ghost use Rattle.ngc_simulator.specs.Answers.{requested_system};
 ghost use Rattle.ngc_simulator.specs.Placing.{IsHere, OfPlacing, PlaceWritten, PlacesJob};
 ghost use Rattle.ngc_simulator.specs.Placing.{placement_text};
 ghost use Rattle.ngc_shifted_program.specs.Shifted.{Execution};
 
 use crate::certifier::{plans_for, refused};
+use crate::dialect_places::place_dialect;
 use crate::done::Done;
 use crate::mistaken_files::read_placed_reporting;
 use crate::place_request::PlaceRequest;
@@ -157,7 +159,7 @@ pub fn place_program<A: Allocator + Copy, R: Source, W: Sink>(
     place_job(alloc, &program, &job, request, output)
 }
 
-fn request_of(options: &PlaceOptions<'_>, system: System) -> PlaceRequest
+pub(crate) fn request_of(options: &PlaceOptions<'_>, system: System) -> PlaceRequest
     ensures { result ≡ place_request options.now system }
 {
     PlaceRequest {
@@ -167,20 +169,19 @@ fn request_of(options: &PlaceOptions<'_>, system: System) -> PlaceRequest
     }
 }
 
-// Writes where the origin of a system may lie. If a machine file or a tool table is refused, its
-// mistake is written.
-fn place_named<F: Files, W: Sink>(
+// Writes where the origin of a system may lie, for a program in our own language. If a machine file or
+// a tool table is refused, its mistake is written.
+fn place_own<F: Files, W: Sink>(
     alloc: Global,
     options: &PlaceOptions<'_>,
     system: System,
     files: &mut F,
     output: &mut W,
 ) -> Result<Done, AnswerFault>
-    ensures comes { PlaceResult (F.bytes files.old) options.now (Some system)
-        (W.written output.old) (W.written output.new) result }
+    ensures comes { OwnPlaceResult (F.bytes files.old) options.now system (W.written output.old)
+        (W.written output.new) result }
     ensures unread { FailsByInput (SourceFails F.R.remaining F.R.failures) (F.bytes files.old)
-        (place_inputs options.now (Some system)) (F.failures files.old) (F.failures files.new)
-        result }
+        (own_place_inputs options.now) (F.failures files.old) (F.failures files.new) result }
     ensures sink { FailsByOutput result (W.failures output.old) (W.failures output.new) }
 {
     let request = request_of(options, system);
@@ -217,5 +218,8 @@ pub(crate) fn place_files<F: Files, W: Sink>(
     let Some(system) = system_named(options.system) else {
         return Err(AnswerFault::UnknownSystem);
     };
-    place_named(alloc, options, system, files, output)
+    match options.dialect {
+        None => place_own(alloc, options, system, files, output),
+        Some(control) => place_dialect(alloc, control, options, system, files, output),
+    }
 }

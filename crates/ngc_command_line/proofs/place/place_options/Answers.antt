@@ -12,4 +12,5 @@ returns c = record {
   cuts = c.cuts_of.ensures;
   json = c.flag_is_set.ensures;
   changes = c.requires.changes;
+  dialect = c.get_str-3.ensures ∙ first_value-rows (found_of c.args.found.now) (codes "dialect");
 }

@@ -8,14 +8,14 @@ use Rattle.ngc_inputs.proofs.UnreadLaws.{certify_told, placed_read, reported_bef
 use Rattle.ngc_inputs.specs.Unread.{OfProgram, SourceFails, shop_inputs, unread_by}
 use Rattle.ngc_inputs.specs.declared.fault.AnswerFault.TheVariants as answers
 use Rattle.ngc_simulator.proofs.PlaceLaws.{placed_files, requested_placing}
-use Rattle.ngc_simulator.specs.Answers.{PlaceResult, PlaceWrittenOn, place_inputs, program_input}
+use Rattle.ngc_simulator.specs.Answers.{OwnPlaceResult, PlaceWrittenOn, own_place_inputs, program_input}
 use Rattle.ngc_simulator.specs.Mistaken.{ReportsPlacedRefusal}
-use Rattle.ngc_simulator.proofs.placing.place_named.Goals as goal
+use Rattle.ngc_simulator.proofs.placing.place_own.Goals as goal
 
 pub returns-in_err-shop-clause-comes : goal.returns-in_err-shop-clause-comes
 returns-in_err-shop-clause-comes g c =
     turned _ c.in_err-shop.field-0.0
-    (PlaceResult (g.F.Files.bytes c.args.files.now) c.args.options.now (Some c.args.system) (g.W.Sink.written c.args.output.now)
+    (OwnPlaceResult (g.F.Files.bytes c.args.files.now) c.args.options.now c.args.system (g.W.Sink.written c.args.output.now)
     (g.W.Sink.written c.read_placed_reporting.new.output)) c.from_residual.ensures.1
     (inl (subst (λ (f : Form). ReportsPlacedRefusal f (g.F.Files.bytes c.args.files.now) (Some c.args.options.now.machine.now) (Some c.args.options.now.tools.now) c.args.options.now.changes
     (g.W.Sink.written c.args.output.now) (g.W.Sink.written c.read_placed_reporting.new.output) c.in_err-shop.field-0.0)
@@ -24,7 +24,7 @@ returns-in_err-shop-clause-comes g c =
 pub returns-in_err-source-clause-comes : goal.returns-in_err-source-clause-comes
 returns-in_err-source-clause-comes g c =
     turned _ (answers.Input c.in_err-source.field-0.0)
-    (PlaceResult (g.F.Files.bytes c.args.files.now) c.args.options.now (Some c.args.system) (g.W.Sink.written c.args.output.now)
+    (OwnPlaceResult (g.F.Files.bytes c.args.files.now) c.args.options.now c.args.system (g.W.Sink.written c.args.output.now)
     (g.W.Sink.written c.read_placed_reporting.new.output)) c.from_residual-in_err-source.ensures.1
     (inl (tt, inl (subst (λ (o : Option (List ℕ)). Keeps o (g.W.Sink.written c.read_placed_reporting.new.output)) c.in_ok-shop.ensures.said.1 (keeps_same _))))
 
@@ -44,9 +44,9 @@ returns-in_err-place_program-clause-comes g c =
     let fault = c.in_err-place_program.field-0.0 in
     let new = g.W.Sink.written c.place_program.new.output in
     turned _ fault
-    (PlaceResult (g.F.Files.bytes c.args.files.now) c.args.options.now (Some c.args.system) (g.W.Sink.written c.args.output.now) new)
+    (OwnPlaceResult (g.F.Files.bytes c.args.files.now) c.args.options.now c.args.system (g.W.Sink.written c.args.output.now) new)
     c.from_residual-in_err-place_program.ensures.1
-    (subst (λ (o : Option (List ℕ)). PlaceResult (g.F.Files.bytes c.args.files.now) c.args.options.now (Some c.args.system) o new (Err fault))
+    (subst (λ (o : Option (List ℕ)). OwnPlaceResult (g.F.Files.bytes c.args.files.now) c.args.options.now c.args.system o new (Err fault))
     c.in_ok-shop.ensures.said.1
     (inr (
       c.in_err-place_program.ensures.faults,
@@ -60,7 +60,7 @@ returns-in_err-place_program-clause-comes g c =
 pub returns-in_err-shop-clause-unread : goal.returns-in_err-shop-clause-unread
 returns-in_err-shop-clause-unread g c =
     unread_told (SourceFails g.F.R.Source.remaining g.F.R.Source.failures) (g.F.Files.bytes c.args.files.now)
-    (place_inputs c.args.options.now (Some c.args.system)) _ _ _ c.in_err-shop.field-0.0 c.from_residual.ensures.1
+    (own_place_inputs c.args.options.now) _ _ _ c.in_err-shop.field-0.0 c.from_residual.ensures.1
     (reported_before (SourceFails g.F.R.Source.remaining g.F.R.Source.failures) (g.F.Files.bytes c.args.files.now)
     (shop_inputs (Some c.args.options.now.machine.now) (Some c.args.options.now.tools.now))
     (program_input (option_map (λ n. n.now) c.args.options.now.program) ∷ []) _ _ (unread_by c.in_err-shop.field-0.0) c.in_err-shop.ensures.unread)
@@ -68,7 +68,7 @@ returns-in_err-shop-clause-unread g c =
 pub returns-in_err-source-clause-unread : goal.returns-in_err-source-clause-unread
 returns-in_err-source-clause-unread g c =
     unread_told (SourceFails g.F.R.Source.remaining g.F.R.Source.failures) (g.F.Files.bytes c.args.files.now)
-    (place_inputs c.args.options.now (Some c.args.system)) _ _ _
+    (own_place_inputs c.args.options.now) _ _ _
     (answers.Input c.in_err-source.field-0.0) c.from_residual-in_err-source.ensures.1
     (unopened (SourceFails g.F.R.Source.remaining g.F.R.Source.failures) (g.F.Files.bytes c.args.files.now)
     (shop_inputs (Some c.args.options.now.machine.now) (Some c.args.options.now.tools.now)) OfProgram
@@ -79,7 +79,7 @@ returns-in_err-source-clause-unread g c =
 pub returns-in_err-place_program-clause-unread : goal.returns-in_err-place_program-clause-unread
 returns-in_err-place_program-clause-unread g c =
     unread_told (SourceFails g.F.R.Source.remaining g.F.R.Source.failures) (g.F.Files.bytes c.args.files.now)
-    (place_inputs c.args.options.now (Some c.args.system)) _ _ _ c.in_err-place_program.field-0.0 c.from_residual-in_err-place_program.ensures.1
+    (own_place_inputs c.args.options.now) _ _ _ c.in_err-place_program.field-0.0 c.from_residual-in_err-place_program.ensures.1
     (certify_told (SourceFails g.F.R.Source.remaining g.F.R.Source.failures) (g.F.Files.bytes c.args.files.now)
     (shop_inputs (Some c.args.options.now.machine.now) (Some c.args.options.now.tools.now))
     (option_map (λ n. n.now) c.args.options.now.program) _ _ c.in_err-place_program.field-0.0 c.in_err-place_program.ensures.faults
