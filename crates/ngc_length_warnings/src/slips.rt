@@ -51,13 +51,7 @@ fn mounted_slip(kind: Kind, force: Nm, down: bool, tool: &Option<Tool>) -> Optio
     }
 }
 
-fn paced_slip(
-    kind: Kind,
-    force: Nm,
-    down: bool,
-    tool: &Option<Tool>,
-    pace: &Pace,
-) -> Option<Slip>
+fn paced_slip(kind: Kind, force: Nm, down: bool, tool: &Option<Tool>, pace: &Pace) -> Option<Slip>
     ensures { result ≡ paced_slip kind force down tool.now pace.now }
 {
     match pace {

@@ -46,7 +46,11 @@ fn say_remark<W: Sink>(slip: &Slip, page: &mut Page, output: &mut W)
     match slip {
         Slip::Missing { tool, offset } =>
             say!(page, output; b"tool ", number(tool), b" has ", millimetres(offset)),
-        Slip::Other { tool, offset, force } =>
+        Slip::Other {
+            tool,
+            offset,
+            force,
+        } =>
             say!(page, output; millimetres(force), b" is in force, and tool ", number(tool), b" has ", millimetres(offset)),
     }
 }
@@ -58,7 +62,11 @@ fn say_numbers<W: Sink>(slip: &Slip, page: &mut Page, output: &mut W)
     match slip {
         Slip::Missing { tool, offset } =>
             say!(page, output; b",\"tool\":", number(tool), b",\"offset\":", signed(offset)),
-        Slip::Other { tool, offset, force } =>
+        Slip::Other {
+            tool,
+            offset,
+            force,
+        } =>
             say!(page, output; b",\"tool\":", number(tool), b",\"offset\":", signed(offset), b",\"in_force\":", signed(force)),
     }
 }

@@ -64,7 +64,23 @@ pub fn write_length_warnings<A: Allocator, W: Sink>(
     ensures counts { CountsFailure (W.failures output.old) (W.failures output.new) result }
 {
     let mut page = Page::new();
-    say_kind(form, Kind::Missing, machine, frames, commands, &mut page, output);
-    say_kind(form, Kind::Other, machine, frames, commands, &mut page, output);
+    say_kind(
+        form,
+        Kind::Missing,
+        machine,
+        frames,
+        commands,
+        &mut page,
+        output,
+    );
+    say_kind(
+        form,
+        Kind::Other,
+        machine,
+        frames,
+        commands,
+        &mut page,
+        output,
+    );
     page.finish(output)
 }

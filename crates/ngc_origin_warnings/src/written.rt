@@ -77,9 +77,7 @@ fn collect_warnings<A: Allocator, W: Sink>(
     let mut walk = FrameWalk::start(history);
     let mut warned = Warned::none();
     for (index, command) in commands.iter().enumerate() {
-        let origin = new_origin(
-            machine, lowest, history, &mut walk, &warned, index, command,
-        );
+        let origin = new_origin(machine, lowest, history, &mut walk, &warned, index, command);
         match collect_warning(chunk, form, command.line, &origin, sink) {
             Ok(()) => warned = warned.with(&origin),
             Err(fault) => return Err(fault),

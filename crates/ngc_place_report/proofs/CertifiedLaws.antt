@@ -17,7 +17,8 @@ use Rattle.ngc_place.specs.declared.axis.Axis.TheVariants.{X, Y, Z}
 use Rattle.ngc_place.specs.declared.interval.Interval.{Interval}
 use Rattle.ngc_place.specs.declared.programs.Program.{Program as Marked}
 use Rattle.ngc_place.proofs.GrowingIntervals.{both_law, found_law, hold_within}
-use Rattle.ngc_shifted_program.specs.Shifted.{AreMoved, Executed, Execution, MoveAt, executed_at}
+use Rattle.ngc_shifted_program.specs.Executions.{Executed, Execution}
+use Rattle.ngc_shifted_program.specs.Shifted.{AreMoved, MoveAt, executed_at}
 use Rattle.ngc_place_report.specs.Certified.{EndsAreCertified, IsCertified, IsCertifiedAt, ShiftsAreCertified}
 use Rattle.ngc_place_report.specs.Findings.{IsFinding, IsMarkedAlong}
 use Rattle.ngc_place_report.specs.Range.{coordinate, in_range, part_in_range, whole_steps}

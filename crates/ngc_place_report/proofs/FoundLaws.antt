@@ -10,7 +10,8 @@ use Rattle.ngc_place.specs.Shifts.{along}
 use Rattle.ngc_place.specs.declared.axis.Axis.{Axis}
 use Rattle.ngc_place.specs.declared.interval.Interval.{Interval}
 use Rattle.ngc_place.specs.declared.programs.Program.{Program as Marked}
-use Rattle.ngc_shifted_program.specs.Shifted.{AreBothMarks, AreMoved, Executed, Execution, MoveAt, executed_at}
+use Rattle.ngc_shifted_program.specs.Executions.{Executed, Execution}
+use Rattle.ngc_shifted_program.specs.Shifted.{AreBothMarks, AreMoved, MoveAt, executed_at}
 use Rattle.ngc_place_report.specs.Findings.{AreMarked, IsAlongAxis, IsFinding, MoveAtEnds, unmarked}
 use Rattle.ngc_place_report.specs.Staying.{staying_of}
 use Rattle.ngc_place_report.specs.declared.placement.AlongAxis.{AlongAxis}

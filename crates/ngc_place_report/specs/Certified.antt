@@ -9,7 +9,8 @@ use Rattle.ngc_job.specs.Job.{JobData}
 use Rattle.ngc_place.specs.Shifts.{along}
 use Rattle.ngc_place.specs.declared.axis.Axis.{Axis}
 use Rattle.ngc_place.specs.declared.interval.Interval.{Interval}
-use Rattle.ngc_shifted_program.specs.Shifted.{Executed, Execution, MoveAt, executed_at}
+use Rattle.ngc_shifted_program.specs.Executions.{Executed, Execution}
+use Rattle.ngc_shifted_program.specs.Shifted.{MoveAt, executed_at}
 use Rattle.ngc_place_report.specs.Findings.{IsAlongAxis, IsMarkedAlong}
 use Rattle.ngc_place_report.specs.declared.placement.AlongAxis.{AlongAxis}
 use Rattle.ngc_place_report.specs.declared.placement.Finding.TheVariants.{Fits}

@@ -10,7 +10,8 @@ use Rattle.ngc_place.specs.declared.axis.Axis.TheVariants.{X, Y, Z}
 use Rattle.ngc_place.specs.declared.interval.Interval.{Interval}
 use Rattle.ngc_place.specs.declared.programs.Program.{Program as Marked}
 use Rattle.ngc_shifted_program.specs.Origins.{origin_in}
-use Rattle.ngc_shifted_program.specs.Shifted.{Execution, MoveAt}
+use Rattle.ngc_shifted_program.specs.Executions.{Execution}
+use Rattle.ngc_shifted_program.specs.Shifted.{MoveAt}
 use Rattle.ngc_place_report.specs.Range.{coordinate, part_in_range}
 use Rattle.ngc_place_report.specs.Staying.{staying_of}
 use Rattle.ngc_place_report.specs.declared.placement.AlongAxis.{AlongAxis}

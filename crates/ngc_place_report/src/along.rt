@@ -2,7 +2,7 @@
 ghost use Rattle.std.specs.Prelude.{◌≡◌, ◌≤◌, true, IfOk, IfSome, unsigned_abs};
 ghost use Rattle.ngc_place.specs.Longest.{IsInLimit};
 ghost use Rattle.ngc_place.specs.Shifts.{SHIFT_LIMIT, IsShift, along as shift_along};
-ghost use Rattle.ngc_shifted_program.specs.Shifted.{Execution};
+ghost use Rattle.ngc_shifted_program.specs.Executions.{Execution, IsExecution};
 ghost use Rattle.ngc_place_report.specs.Findings as spec;
 
 use crate::placement::{AlongAxis, Finding, Here, Placement};
@@ -45,9 +45,9 @@ fn interval_along<A: Allocator>(
 }
 
 /// Returns whether the commands move at both ends of an interval as their marks state.
-fn move_at_ends<A: Allocator + Copy, P: PartProgram<A>>(
+fn move_at_ends<A: Allocator + Copy>(
     alloc: A,
-    program: &P,
+    program: &PartProgram<'_, A>,
     job: &Job<A>,
     system: System,
     axis: Axis,
@@ -55,7 +55,7 @@ fn move_at_ends<A: Allocator + Copy, P: PartProgram<A>>(
     interval: Interval,
 ) -> Result<bool, AllocError>
     requires { IsInLimit interval }
-    ensures { (does : Execution) → P.is_execution program.now does →
+    ensures { (does : Execution) → IsExecution program.now does →
         IfOk result (λ yes. spec.MoveAtEnds does job.now system
         axis programs.entry.off programs.entry.on interval yes) }
 {
@@ -69,9 +69,9 @@ fn move_at_ends<A: Allocator + Copy, P: PartProgram<A>>(
 }
 
 /// Returns the interval that is found along an axis if the commands move at both ends of it.
-fn finding_along<A: Allocator + Copy, P: PartProgram<A>>(
+fn finding_along<A: Allocator + Copy>(
     alloc: A,
-    program: &P,
+    program: &PartProgram<'_, A>,
     job: &Job<A>,
     system: System,
     axis: Axis,
@@ -79,7 +79,7 @@ fn finding_along<A: Allocator + Copy, P: PartProgram<A>>(
     cuts: u16,
 ) -> Result<Finding, AllocError>
     requires { 1 ≤ cuts }
-    ensures { (does : Execution) → P.is_execution program.now does →
+    ensures { (does : Execution) → IsExecution program.now does →
         IfOk result (λ finding. spec.IsFinding does job.now
         system axis cuts programs.entry.off programs.entry.on finding) }
 {
@@ -105,16 +105,16 @@ fn unmarked() -> AlongAxis
 }
 
 /// Returns what is known of the shifts along an axis.
-fn find_along<A: Allocator + Copy, P: PartProgram<A>>(
+fn find_along<A: Allocator + Copy>(
     alloc: A,
-    program: &P,
+    program: &PartProgram<'_, A>,
     job: &Job<A>,
     system: System,
     axis: Axis,
     cuts: u16,
 ) -> Result<AlongAxis, AllocError>
     requires { 1 ≤ cuts }
-    ensures { (does : Execution) → P.is_execution program.now does →
+    ensures { (does : Execution) → IsExecution program.now does →
         IfOk result (λ a. spec.IsAlongAxis does job.now system
         axis cuts a) }
 {
@@ -149,16 +149,16 @@ fn find_along<A: Allocator + Copy, P: PartProgram<A>>(
 /// Which commands move is found by executing the program with the origin one step further. Each
 /// interval is tested by executing the program at both of its ends. `cuts` is at least 1, and `here`
 /// states whether the program fits where the origin is.
-pub fn find_placement<A: Allocator + Copy, P: PartProgram<A>>(
+pub fn find_placement<A: Allocator + Copy>(
     alloc: A,
-    program: &P,
+    program: &PartProgram<'_, A>,
     job: &Job<A>,
     system: System,
     here: Here,
     cuts: u16,
 ) -> Result<Placement, AllocError>
     requires { 1 ≤ cuts }
-    ensures { (does : Execution) → P.is_execution program.now does →
+    ensures { (does : Execution) → IsExecution program.now does →
         IfOk result (λ p. spec.IsPlacement does job.now system
         here cuts p) }
 {

@@ -2,47 +2,15 @@
 use Rattle.std.specs.Prelude.{◌≡◌, ℕ, ℤ, List, Bool, true, false, Option, Some, None, Result, Ok, Err}
 use Rattle.ngc_fixed_length.specs.declared.modes.System.{System}
 use Rattle.ngc_fixed_length.specs.declared.points.StepPos.{StepPos}
-use Rattle.ngc_line_reader.specs.Grammar.{Reading}
-use Rattle.ngc_line_reader.specs.ProgramText.{AreReadings, ProgramText}
 use Rattle.ngc_machine_files.specs.Machine.{MachineFile}
 use Rattle.ngc_machine_files.specs.declared.tools.Tool.{Tool}
 use Rattle.ngc_commands.specs.declared.command.Command.{Command}
-use Rattle.ngc_canonical.specs.Meaning.{Program, meaning, parsed_program}
 use Rattle.ngc_canonical.specs.State.{Setup}
 use Rattle.ngc_job.specs.Job.{JobData, commands_in}
 use Rattle.ngc_place.specs.Marks.{AreMarks}
 use Rattle.ngc_place.specs.declared.programs.Program.{Program as Marked}
+use Rattle.ngc_shifted_program.specs.Executions.{Executed, Execution}
 use Rattle.ngc_shifted_program.specs.Origins.{machine_shifted}
-
--- the commands at both settings of block delete
-pub record Executed : Type 0 where
-  pub off : List Command
-  pub on : List Command
-
-abbrev pub executed_of : JobData → Executed
-executed_of j = record { off = commands_in false j; on = commands_in true j }
-
-abbrev pub both_executed : {E : Type 0} → Result (List Command) E → Result (List Command) E →
-    Option Executed
-both_executed (Ok off) (Ok on) = Some (record { off = off; on = on })
-both_executed (Ok off) (Err fault) = None
-both_executed (Err fault) on = None
-
--- What a program does on a machine with its tools, in whatever language it is written: its commands
--- at both settings, or none if it is refused at a setting.
-abbrev pub Execution : Type 0
-Execution = Setup → Option Executed
-
--- that of a program in our own language
-abbrev pub execution_of : Program → Execution
-execution_of program setup =
-    both_executed (meaning program setup false) (meaning program setup true)
-
--- what a program of this text does; each of its lines has exactly one reading
-pub record IsOwnExecution (text : ProgramText) (does : Execution) : Type 0 where
-  pub readings : List Reading
-  pub are : AreReadings text.lines readings
-  pub is : does ≡ execution_of (parsed_program text readings)
 
 abbrev pub executed_on : Execution → List Tool → Option MachineFile → Option Executed
 executed_on does tools None = None

@@ -2,6 +2,7 @@
 ghost use Rattle.std.specs.Prelude.{◌≡◌, List, Bool, true, false, IfOk, MatchOption, option_map};
 ghost use Rattle.ngc_place.specs.Marks.{AreMarks};
 ghost use Rattle.ngc_place.specs.Shifts.{IsShift};
+ghost use Rattle.ngc_shifted_program.specs.Executions.{Execution, IsExecution, executed_of};
 ghost use Rattle.ngc_shifted_program.specs.Shifted as spec;
 
 use crate::origin::with_shifted_origin;
@@ -27,15 +28,15 @@ pub struct Marks<A: Allocator> {
 
 /// Executes a program on the machine of a job with an origin shifted. Returns `None` if the origin
 /// is out of range there or the program is refused.
-pub fn executed_at<A: Allocator + Copy, P: PartProgram<A>>(
+pub fn executed_at<A: Allocator + Copy>(
     alloc: A,
-    program: &P,
+    program: &PartProgram<'_, A>,
     job: &Job<A>,
     system: System,
     by: &StepPos,
 ) -> Result<Option<Job<A>>, AllocError>
-    ensures { (does : spec.Execution) → P.is_execution program.now does →
-        IfOk result (λ found. option_map (λ j. spec.executed_of j) found
+    ensures { (does : Execution) → IsExecution program.now does →
+        IfOk result (λ found. option_map (λ j. executed_of j) found
         ≡ spec.executed_at does job.now system by.now) }
 {
     let machine = match with_shifted_origin(alloc, job.machine(), system, by)? {
@@ -57,8 +58,8 @@ pub fn marks_between<A: Allocator + Copy>(
     requires { IsShift by.now }
     ensures { IfOk result (λ found. MatchOption found
         ((off on : List Bool) →
-        spec.AreBothMarks job.now by.now (spec.executed_of shifted.now) off on → ⊥)
-        (λ m. spec.AreBothMarks job.now by.now (spec.executed_of shifted.now) m.off.items
+        spec.AreBothMarks job.now by.now (executed_of shifted.now) off on → ⊥)
+        (λ m. spec.AreBothMarks job.now by.now (executed_of shifted.now) m.off.items
         m.on.items)) }
 {
     let step = job.machine().step;
@@ -77,19 +78,19 @@ pub fn marks_between<A: Allocator + Copy>(
 
 /// Returns whether the program, executed with the origin shifted, has the commands that its marks
 /// state, at both settings of block delete.
-pub fn move_at<A: Allocator + Copy, P: PartProgram<A>>(
+pub fn move_at<A: Allocator + Copy>(
     alloc: A,
-    program: &P,
+    program: &PartProgram<'_, A>,
     job: &Job<A>,
     system: System,
     by: &StepPos,
     programs: Programs,
 ) -> Result<bool, AllocError>
     requires { IsShift by.now }
-    ensures yes { (does : spec.Execution) → P.is_execution program.now does →
+    ensures yes { (does : Execution) → IsExecution program.now does →
         IfOk result (λ yes. yes ≡ true →
         spec.MoveAt does job.now system programs.entry.off programs.entry.on by.now) }
-    ensures no { (does : spec.Execution) → P.is_execution program.now does →
+    ensures no { (does : Execution) → IsExecution program.now does →
         IfOk result (λ yes. yes ≡ false →
         spec.MoveAt does job.now system programs.entry.off programs.entry.on by.now → ⊥) }
 {

@@ -13,7 +13,7 @@ use Rattle.ngc_canonical.specs.declared.fault.ProgramFault.TheVariants as progra
 use Rattle.ngc_certificate.specs.declared.fault.MakeFault.TheVariants.{Memory}
 use Rattle.ngc_certificate_text.specs.declared.piece.Setting.{Setting}
 use Rattle.ngc_command_line.specs.declared.options.PlaceOptions.{PlaceOptions}
-use Rattle.ngc_shifted_program.specs.Shifted.{Execution, IsOwnExecution, execution_of}
+use Rattle.ngc_shifted_program.specs.Executions.{Execution, IsOwnExecution, execution_of}
 use Rattle.ngc_inputs.specs.Faults.{OfCertifying}
 use Rattle.ngc_inputs.specs.Jobs.{refused_at}
 use Rattle.ngc_inputs.specs.Setups.{FileBytes, KeepsFiles}

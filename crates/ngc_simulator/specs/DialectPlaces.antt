@@ -1,19 +1,13 @@
 -- The result of finding at which shifts of an origin a program for another control fits. Our own.
-use Rattle.std.specs.Prelude.{ℕ, List, Option, Result, true, false}
+use Rattle.std.specs.Prelude.{ℕ, List, Option, Result}
 use Rattle.ngc_canonical.specs.State.{Setup}
-use Rattle.ngc_dialect_execution.specs.Program.{meaning_in}
 use Rattle.ngc_dialect_reader.specs.declared.dialect.Dialect.{Dialect}
 use Rattle.ngc_inputs.specs.declared.fault.AnswerFault.{AnswerFault}
-use Rattle.ngc_shifted_program.specs.Shifted.{Execution, both_executed}
+use Rattle.ngc_shifted_program.specs.Executions.{dialect_execution}
 use Rattle.ngc_simulator.specs.Dialects.{OnDialectJob}
 use Rattle.ngc_simulator.specs.Placing.{PlacesJob}
 use Rattle.ngc_simulator.specs.declared.done.Done.{Done}
 use Rattle.ngc_simulator.specs.declared.place_request.PlaceRequest.{PlaceRequest}
-
--- what a program's text does on a machine with its tools
-abbrev pub dialect_execution : Dialect → List ℕ → Execution
-dialect_execution d source setup =
-    both_executed (meaning_in d setup false source) (meaning_in d setup true source)
 
 abbrev pub PlacesDialect : Dialect → Setup → List ℕ → PlaceRequest → Option (List ℕ) →
     Option (List ℕ) → Result Done AnswerFault → Type 0

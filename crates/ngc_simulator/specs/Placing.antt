@@ -15,7 +15,7 @@ use Rattle.ngc_report.specs.declared.form.Form.{Form}
 use Rattle.ngc_report.specs.declared.form.Form.TheVariants.{Words, Json}
 use Rattle.ngc_program_report.specs.Coordinates.{line_of}
 use Rattle.ngc_program_report.specs.Texts.{is_on}
-use Rattle.ngc_shifted_program.specs.Shifted.{Execution, execution_of}
+use Rattle.ngc_shifted_program.specs.Executions.{Execution, execution_of}
 use Rattle.ngc_place_report.specs.Texts.{document_text, words_text}
 use Rattle.ngc_place_report.specs.Findings.{IsPlacement}
 use Rattle.ngc_place_report.specs.declared.placement.Here.{Here}

@@ -1,9 +1,8 @@
 //! Where programs for other controls fit.
-ghost use Rattle.std.specs.Prelude.{◌≡◌, IfOk, Some, option_map};
+ghost use Rattle.std.specs.Prelude.{Some};
 ghost use Rattle.ngc_canonical.specs.Interpreter.{setup_of};
-ghost use Rattle.ngc_shifted_program.specs.Shifted.{Execution, executed_of};
 ghost use Rattle.ngc_simulator.specs.Answers.{DialectPlaceResult, place_inputs_in, place_request};
-ghost use Rattle.ngc_simulator.specs.DialectPlaces.{PlacesDialect, dialect_execution};
+ghost use Rattle.ngc_simulator.specs.DialectPlaces.{PlacesDialect};
 ghost use Rattle.ngc_inputs.specs.Faults.{FailsByOutput};
 ghost use Rattle.ngc_inputs.specs.Unread.{FailsByInput, SourceFails};
 
@@ -13,46 +12,11 @@ use crate::done::Done;
 use crate::place_request::PlaceRequest;
 use crate::placing::{place_job, request_of};
 use ngc_command_line::PlaceOptions;
-use ngc_dialect_execution::DialectFault;
-use ngc_dialect_job::dialect_job;
-use ngc_dialect_reader::Dialect;
 use ngc_fixed_length::System;
 use ngc_inputs::{AnswerFault, Files};
-use ngc_job::Job;
-use ngc_machine_files::{Machine, Tools};
 use ngc_shifted_program::PartProgram;
 use ngc_text::Sink;
-use std::alloc::{AllocError, Allocator, Global};
-
-/// The text of a program for a control.
-#[derive(Clone, Copy)]
-struct SentProgram<'a> {
-    dialect: Dialect,
-    text: &'a [u8],
-}
-
-impl<A: Allocator + Copy> PartProgram<A> for SentProgram<'_> {
-    ghost is_execution = { λ p does. does ≡ dialect_execution p.dialect p.text.now };
-
-    fn execute(
-        &self,
-        alloc: A,
-        machine: Machine<A>,
-        tools: Tools<A>,
-    ) -> Result<Option<Job<A>>, AllocError>
-        ensures { (does : Execution) → does ≡ dialect_execution self.now.dialect self.now.text.now →
-            IfOk result (λ found. option_map (λ j. executed_of j) found
-            ≡ does (setup_of machine tools)) }
-    {
-        match dialect_job(alloc, self.dialect, self.text, machine, tools) {
-            Ok(job) => Ok(Some(job)),
-            Err(refusal) => match refusal.fault {
-                DialectFault::Memory => Err(AllocError),
-                DialectFault::At { .. } => Ok(None),
-            },
-        }
-    }
-}
+use std::alloc::Global;
 
 // Writes where the origin of a system may lie, or returns notes on why the program is refused.
 fn place_sent<W: Sink>(
@@ -74,7 +38,7 @@ fn place_sent<W: Sink>(
     let text = text.as_slice();
     match job_of_text(alloc, dialect, text, shop)? {
         Ok(job) => {
-            let program = SentProgram { dialect, text };
+            let program = PartProgram::Other { dialect, text };
             place_job(alloc, &program, &job, request, output)?;
             Ok(Done::Quietly)
         }

@@ -17,7 +17,7 @@ ghost use Rattle.ngc_simulator.specs.Answers.{place_inputs, place_request};
 ghost use Rattle.ngc_simulator.specs.Answers.{requested_system};
 ghost use Rattle.ngc_simulator.specs.Placing.{IsHere, OfPlacing, PlaceWritten, PlacesJob};
 ghost use Rattle.ngc_simulator.specs.Placing.{placement_text};
-ghost use Rattle.ngc_shifted_program.specs.Shifted.{Execution};
+ghost use Rattle.ngc_shifted_program.specs.Executions.{Execution, IsExecution};
 
 use crate::certifier::{plans_for, refused};
 use crate::dialect_places::place_dialect;
@@ -103,14 +103,14 @@ fn write_placement<A: Allocator, W: Sink>(
 /// Writes whether the program of a job fits where the origin of a coordinate system is, and the shifts
 /// along each axis alone at which it fits. For any fault nothing is written, except that a prefix is
 /// written if a write fails (902).
-pub(crate) fn place_job<A: Allocator + Copy, P: PartProgram<A>, W: Sink>(
+pub(crate) fn place_job<A: Allocator + Copy, W: Sink>(
     alloc: A,
-    program: &P,
+    program: &PartProgram<'_, A>,
     job: &Job<A>,
     request: PlaceRequest,
     output: &mut W,
 ) -> Result<(), AnswerFault>
-    ensures places { (does : Execution) → P.is_execution program.now does →
+    ensures places { (does : Execution) → IsExecution program.now does →
         PlacesJob does job.now request (W.written output.old) (W.written output.new) result }
     ensures sink { FailsByOutput result (W.failures output.old) (W.failures output.new) }
     ensures faults { IfErr result OfPlacing }
@@ -156,7 +156,7 @@ pub fn place_program<A: Allocator + Copy, R: Source, W: Sink>(
         Ok(job) => job,
         Err(refusal) => return Err(refused(refusal)),
     };
-    place_job(alloc, &program, &job, request, output)
+    place_job(alloc, &PartProgram::Own(&program), &job, request, output)
 }
 
 pub(crate) fn request_of(options: &PlaceOptions<'_>, system: System) -> PlaceRequest

@@ -2,7 +2,8 @@ use Rattle.std.proofs.Common.{◌≡◌, Option, subst}
 use Rattle.std.specs.Prelude.{option_map}
 use Rattle.std.proofs.lemmas.Option.{MatchOption-at_none, MatchOption-at_some}
 use Rattle.ngc_job.specs.Job.{JobData}
-use Rattle.ngc_shifted_program.specs.Shifted.{executed_at, executed_of}
+use Rattle.ngc_shifted_program.specs.Executions.{executed_of}
+use Rattle.ngc_shifted_program.specs.Shifted.{executed_at}
 use Rattle.ngc_place_report.proofs.FoundLaws.{marked_along, refused_along, unexplained_along}
 use Rattle.ngc_place_report.proofs.along.find_along.Goals as goal
 
