@@ -15,7 +15,7 @@ use Rattle.ngc_dialect_rules.specs.declared.plain.Plain.TheVariants as plain
 use Rattle.ngc_dialect_execution.specs.declared.fault.Cause.{Cause}
 use Rattle.ngc_dialect_execution.specs.declared.fault.Cause.TheVariants as causes
 use Rattle.ngc_dialect_execution.specs.declared.fault.Refusal.{Refusal}
-use Rattle.ngc_dialect_execution.specs.declared.fault.Refusal.TheVariants.{Because, TooManyNames, Memory}
+use Rattle.ngc_dialect_execution.specs.declared.fault.Refusal.TheVariants.{Because, Memory}
 use Rattle.ngc_dialect_execution.specs.Executed.{executed, lines_from}
 use Rattle.ngc_dialect_execution.specs.Faults.{Says, caused}
 
@@ -84,7 +84,6 @@ pub line_refused : (setup : Setup) (line : ℕ) (ps : List Plain) (i : ℕ) (d p
 line_refused setup line ps i d p words s (Because e) view whole h at is on leads says =
     ap (caused causes.Plain) (sym leads ∙ line_next setup line ps i d p words s h at is on)
     ∙ refused_first (execute_words setup (pairs_of words) (record s { line = line })) (λ t. left setup line ps (i + 1) [] t) e says
-line_refused setup line ps i d p words s TooManyNames view whole h at is on leads says = tt
 line_refused setup line ps i d p words s Memory view whole h at is on leads says = tt
 
 -- after the last part nothing is left
@@ -121,7 +120,6 @@ refused_line setup line ps qs i d p words given s start (Because e) view other h
     ap (λ (xs : List Plain). caused causes.Plain (executed setup (lines_from line [] xs) start)) (sym all)
     ∙ line_refused setup line ps i d p words s (Because e) view (executed setup (lines_from line [] ps) start) h at is on leads
     (ap (λ (ws : List Word). caused causes.Plain (execute_words setup (pairs_of ws) (record s { line = line }))) (sym same) ∙ says)
-refused_line setup line ps qs i d p words given s start TooManyNames view other h at is on same all leads says = tt
 refused_line setup line ps qs i d p words given s start Memory view other h at is on same all leads says = tt
 
 -- the whole result, once nothing is left

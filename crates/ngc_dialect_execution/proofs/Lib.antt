@@ -2,7 +2,7 @@
 pub mod Lawful
 -- One plain line after another.
 pub mod FoldSteps
--- What a line says and sets, and its words.
+-- The words of statements.
 pub mod LineSteps
 -- The first line of a text.
 pub mod FirstLine
@@ -12,3 +12,9 @@ pub mod Reaching
 pub mod TextSteps
 -- What steps return, passed on; the moves of a cycle, one after another.
 pub mod Passing
+-- A line of statements: it has flow, or it takes effect.
+pub mod StatementSteps
+-- One line of a program after another.
+pub mod ProgramSteps
+-- One line of a program's flow after another.
+pub mod FlowSteps

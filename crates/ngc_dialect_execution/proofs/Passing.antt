@@ -16,7 +16,7 @@ use Rattle.ngc_dialect_rules.specs.Rules.{plain_lines}
 use Rattle.ngc_dialect_execution.specs.declared.fault.Cause.{Cause}
 use Rattle.ngc_dialect_execution.specs.declared.fault.Cause.TheVariants as causes
 use Rattle.ngc_dialect_execution.specs.declared.fault.Refusal.{Refusal}
-use Rattle.ngc_dialect_execution.specs.declared.fault.Refusal.TheVariants.{Because, TooManyNames, Memory}
+use Rattle.ngc_dialect_execution.specs.declared.fault.Refusal.TheVariants.{Because, Memory}
 use Rattle.ngc_dialect_execution.specs.Executed.{executed, lines_at}
 use Rattle.ngc_dialect_execution.specs.Faults.{◌>>=◌, caused, Says}
 use Rattle.ngc_dialect_execution.specs.Taken.{Between, known_of, with_state, with_series, plain_taken, move_taken, moves_taken, start_taken, cycle_taken, cycle_if, words_taken}
@@ -26,14 +26,12 @@ pub goes_on : {X Y Z : Type 0} (view : X → Y) (seen : X → Z) (f : Y → Resu
     Says view r says → ((x : X) → f (view x) ≡ Ok (seen x)) → Says seen r (says >>= f)
 goes_on view seen f (Ok x) says e rest = ap (λ s. s >>= f) e ∙ rest x
 goes_on view seen f (Err (Because cause)) says e rest = ap (λ s. s >>= f) e
-goes_on view seen f (Err TooManyNames) says e rest = tt
 goes_on view seen f (Err Memory) says e rest = tt
 
 -- a refusal of the first step is one of both
 pub stops : {X Y Z W : Type 0} (view : X → Y) (seen : W → Z) (f : Y → Result Z Cause) (refusal : Refusal) (says : Result Y Cause) →
     Says view (Err refusal) says → Says seen (Err refusal) (says >>= f)
 stops view seen f (Because cause) says e = ap (λ s. s >>= f) e
-stops view seen f TooManyNames says e = tt
 stops view seen f Memory says e = tt
 
 -- after a first step that succeeded both return what the second returns

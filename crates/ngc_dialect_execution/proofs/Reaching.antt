@@ -1,5 +1,5 @@
 -- What a program's plain lines lead to.
-use Rattle.std.proofs.Common.{◌≡◌, ℕ, List, [], ◌∷◌, ◌++◌, Bool, true, false, Result, Ok, Err, refl, sym, ◌∙◌, ap, subst}
+use Rattle.std.proofs.Common.{◌≡◌, ℕ, zero, suc, ℤ, slice_get, List, [], ◌∷◌, ◌++◌, Bool, true, false, Result, Ok, Err, refl, sym, ◌∙◌, ap, subst}
 use Rattle.std.specs.Prelude.{if◌then◌else◌, ◌&&◌, IfOk, Option, Some, None}
 use Rattle.ngc_canonical.specs.declared.fault.Fault.{Fault}
 use Rattle.ngc_canonical.specs.declared.fault.Fault.TheVariants.{NoEnd}
@@ -25,15 +25,28 @@ use Rattle.ngc_line_reader.specs.Program.{split_lines}
 use Rattle.ngc_dialect_execution.specs.declared.fault.Cause.{Cause}
 use Rattle.ngc_dialect_execution.specs.declared.fault.Cause.TheVariants as causes
 use Rattle.ngc_dialect_execution.specs.declared.fault.DialectFault.{DialectFault}
-use Rattle.ngc_dialect_execution.specs.declared.program.LinesBefore.{LinesBefore}
-use Rattle.ngc_dialect_execution.specs.declared.program.Mark.{Mark}
-use Rattle.ngc_dialect_execution.specs.declared.program.Mark.TheVariants.{Begins, Ends, IsLine}
+use Rattle.ngc_dialect_execution.specs.declared.text.LinesBefore.{LinesBefore}
+use Rattle.ngc_dialect_execution.specs.declared.text.Mark.{Mark}
+use Rattle.ngc_dialect_execution.specs.declared.text.Mark.TheVariants.{Begins, Ends, IsLine}
 use Rattle.ngc_dialect_execution.specs.Executed.{PlainLine, executed, lines_at}
-use Rattle.ngc_dialect_execution.specs.Faults.{◌>>=◌ as ◌>>=c◌, caused, ProgramSays}
+use Rattle.ngc_dialect_execution.specs.declared.lines.Taken.{Taken}
+use Rattle.ngc_dialect_execution.specs.declared.lines.Taken.TheVariants.{Done, HasFlow}
+use Rattle.ngc_dialect_flow.specs.declared.effect.Effect.{Effect}
+use Rattle.ngc_dialect_flow.specs.declared.effect.Effect.TheVariants as effects
+use Rattle.ngc_dialect_flow.specs.Next.{needs_values, next, skipped}
+use Rattle.ngc_dialect_flow.specs.Places.{Plan}
+use Rattle.ngc_dialect_flow.specs.Returning.{returned}
+use Rattle.ngc_dialect_flow.specs.State.{Flow, begun}
+use Rattle.ngc_dialect_parameters.specs.declared.statement.Statement.{Statement}
+use Rattle.ngc_dialect_parameters.specs.Stored.{Stored}
+use Rattle.ngc_dialect_parameters.specs.Storing.{called, set_by_all}
+use Rattle.ngc_dialect_execution.specs.Ending.{at, commands_of, finished}
+use Rattle.ngc_dialect_execution.specs.Faults.{◌>>=◌ as ◌>>=c◌, caused, stored_cause, ProgramSays}
+use Rattle.ngc_dialect_execution.specs.Flow.{FlowProgress, Outcome, effect_done, effect_taken, ends, flow_line_taken, flow_statements_taken, flow_taken, line_or_end, number_at, other_words, others_taken, passed_over, said_if, stepped, then_on, turned, values_from, with_values}
 use Rattle.ngc_dialect_execution.specs.Laws.{AreLawful, AreExecuted, IsReached}
-use Rattle.ngc_dialect_execution.specs.Program.{at, is_end, commands_of, finished, go_on, lines_taken, marked_taken, meaning_in}
-use Rattle.ngc_dialect_execution.specs.Taken.{Between, Progress, END, ended_at, is_deleted, known_of, line_taken, parts_taken, said_at, start_progress, statements_taken, with_state, words_taken, plain_taken, move_taken, moves_taken, with_series, start_taken, cycle_taken, cycle_if}
-use Rattle.ngc_dialect_execution.specs.Text.{first_byte, lines_after, mark_of, no_lines}
+use Rattle.ngc_dialect_execution.specs.Program.{go_from, go_on, lines_taken, marked_taken, meaning_in}
+use Rattle.ngc_dialect_execution.specs.Taken.{Between, Progress, Said, END, done_at, ended_at, has_flow, is_deleted, known_of, line_taken, parts_taken, said_at, start_progress, statements_taken, with_state, words_of, words_taken, plain_taken, move_taken, moves_taken, with_series, start_taken, cycle_taken, cycle_if}
+use Rattle.ngc_dialect_execution.specs.Text.{ProgramLines, first_byte, is_end, lines_after, mark_of, no_lines, number_of, program_of}
 use Rattle.ngc_dialect_execution.proofs.Lawful.{are_lawful, in_order}
 
 -- plain lines lead from a state to another
@@ -139,31 +152,44 @@ words_lead setup line words b =
     (λ made. after_plain setup line words (lines_at line made.1) made.0 b (executed setup (lines_at line made.1) b.state) refl)
 
 -- the result leads on
-abbrev LeadsOn : Setup → State → Result Progress Cause → Type 0
-LeadsOn setup s r = IfOk r (λ (p : Progress). Leads setup s p.between.state)
+abbrev LeadsOn : Setup → State → Result (Taken × Progress) Cause → Type 0
+LeadsOn setup s r = IfOk r (λ (x : Taken × Progress). Leads setup s x.1.between.state)
+
+-- a line takes effect
+effect_leads : (setup : Setup) (line : ℕ) (text : List ℕ) (said : List Statement) (words : List Word) (p : Progress) →
+    IfOk (done_at setup line text said words p) (λ (q : Progress). Leads setup p.between.state q.between.state)
+unfolding done_at
+effect_leads setup line text said words p =
+    after_any (λ (q : Progress). Leads setup p.between.state q.between.state) (caused stored_cause (set_by_all text said p.values)) _
+    (λ k. after_step (λ (c : Between). Leads setup p.between.state c.state) (λ (q : Progress). Leads setup p.between.state q.between.state)
+    (words_taken setup line words p.between) _ (words_lead setup line words p.between) (λ b leads. leads))
+
+either_leads : (setup : Setup) (s : State) (b : Bool) (x y : Result (Taken × Progress) Cause) → LeadsOn setup s x → LeadsOn setup s y
+    → LeadsOn setup s (if b then x else y)
+either_leads setup s true x y h k = h
+either_leads setup s false x y h k = k
 
 statements_lead : (setup : Setup) (line : ℕ) (text : List ℕ) (parts : List Part) (p : Progress) →
     LeadsOn setup p.between.state (statements_taken setup line text parts p)
 unfolding statements_taken
 statements_lead setup line text parts p =
-    after_any (λ (q : Progress). Leads setup p.between.state q.between.state) (said_at p.values text parts) _
-    (λ said. after_step (λ (c : Between). Leads setup p.between.state c.state) (λ (q : Progress). Leads setup p.between.state q.between.state)
-    (words_taken setup line said.words p.between) _ (words_lead setup line said.words p.between) (λ b leads. leads))
+    after_any (λ (x : Taken × Progress). Leads setup p.between.state x.1.between.state) (said_at p.values text parts) _
+    (λ said. either_leads setup p.between.state (has_flow p.between.dialect said.statements) _ _ (stays_there setup p.between.state)
+    (after_step (λ (q : Progress). Leads setup p.between.state q.between.state) (λ (x : Taken × Progress). Leads setup p.between.state x.1.between.state)
+    (done_at setup line text said.statements (words_of said.statements) p) _
+    (effect_leads setup line text said.statements (words_of said.statements) p) (λ q leads. leads)))
 
 parts_lead : (setup : Setup) (block_delete : Bool) (line : ℕ) (bytes : List ℕ) (parts : List Part) (p : Progress) →
     LeadsOn setup p.between.state (parts_taken setup block_delete line bytes parts p)
-parts_lead setup block_delete line bytes parts p = by_test (block_delete && is_deleted parts) where
-  by_test : (out : Bool) →
-      (let same : Result Progress Cause = Ok p in
-      LeadsOn setup p.between.state (if out then same else statements_taken setup line (text bytes) parts p))
-  by_test true = stays_there setup p.between.state
-  by_test false = statements_lead setup line (text bytes) parts p
+parts_lead setup block_delete line bytes parts p =
+    either_leads setup p.between.state (block_delete && is_deleted parts) _ _ (stays_there setup p.between.state)
+    (statements_lead setup line (text bytes) parts p)
 
 line_leads : (setup : Setup) (block_delete : Bool) (line : ℕ) (bytes : List ℕ) (p : Progress) →
     LeadsOn setup p.between.state (line_taken setup block_delete line bytes p)
 unfolding line_taken
 line_leads setup block_delete line bytes p =
-    after_any (λ (q : Progress). Leads setup p.between.state q.between.state) (caused causes.Reading (line_of p.between.dialect bytes)) _
+    after_any (λ (x : Taken × Progress). Leads setup p.between.state x.1.between.state) (caused causes.Reading (line_of p.between.dialect bytes)) _
     (λ parts. parts_lead setup block_delete line bytes parts p)
 
 marked_leads : (setup : Setup) (block_delete : Bool) (line : ℕ) (mark : Mark) (bytes : List ℕ) (p : Progress) →
@@ -171,6 +197,92 @@ marked_leads : (setup : Setup) (block_delete : Bool) (line : ℕ) (mark : Mark) 
 marked_leads setup block_delete line Begins bytes p = stays_there setup p.between.state
 marked_leads setup block_delete line Ends bytes p = stays_there setup p.between.state
 marked_leads setup block_delete line IsLine bytes p = line_leads setup block_delete line bytes p
+
+-- ---- a line of the flow
+
+abbrev FlowLeads : Setup → State → Result (Effect × FlowProgress) Cause → Type 0
+FlowLeads setup s r = IfOk r (λ (x : Effect × FlowProgress). Leads setup s x.1.progress.between.state)
+
+either_flow : (setup : Setup) (s : State) (b : Bool) (x y : Result (Effect × FlowProgress) Cause) → FlowLeads setup s x → FlowLeads setup s y
+    → FlowLeads setup s (if b then x else y)
+either_flow setup s true x y h k = h
+either_flow setup s false x y h k = k
+
+-- an effect moves nothing
+abbrev Stays : Progress → Result Progress Cause → Type 0
+Stays p r = IfOk r (λ (q : Progress). q.between ≡ p.between)
+
+values_stay : (p : Progress) (r : Result Stored Cause) → Stays p (with_values p r)
+values_stay p (Ok k) = refl
+values_stay p (Err e) = tt
+
+effect_stays : (effect : Effect) (arguments : List (Option ℤ)) (p : Progress) → Stays p (effect_taken effect arguments p)
+effect_stays effects.Stay arguments p = refl
+effect_stays effects.Enter arguments p = values_stay p (caused stored_cause (called arguments p.values))
+effect_stays (effects.Return value) arguments p = values_stay p (caused stored_cause (returned value p.values))
+effect_stays effects.End arguments p = refl
+
+abbrev with_effect : Effect → Result Progress Cause → Result (Effect × Progress) Cause
+with_effect effect r = r >>=c λ q. Ok (effect, q)
+
+abbrev with_flow : Flow → Result (Effect × Progress) Cause → Result (Effect × FlowProgress) Cause
+with_flow flow r = r >>=c λ done. Ok (done.0, record { progress = done.1; flow = flow })
+
+effect_done_stays : (setup : Setup) (flow : Flow) (effect : Effect) (arguments : List (Option ℤ)) (p : Progress) →
+    FlowLeads setup p.between.state (with_flow flow (effect_done effect arguments p))
+effect_done_stays setup flow effect arguments p = by (effect_taken effect arguments p) (effect_stays effect arguments p) where
+  by : (r : Result Progress Cause) → Stays p r → FlowLeads setup p.between.state (with_flow flow (with_effect effect r))
+  by (Ok q) same = subst (λ (b : Between). Leads setup p.between.state b.state) (sym same) (stays_there setup p.between.state)
+  by (Err e) same = tt
+
+stepped_leads : (setup : Setup) (plan : Plan) (text : List ℕ) (said : Said) (s : Flow) (p : Progress) →
+    FlowLeads setup p.between.state (stepped plan text said s p)
+unfolding stepped
+stepped_leads setup plan text said s p =
+    after_any (λ (x : Effect × FlowProgress). Leads setup p.between.state x.1.progress.between.state)
+    (caused causes.Flow (next plan (values_from text said) s)) _
+    (λ step. effect_done_stays setup step.0 step.1 said.arguments p)
+
+turned_leads : (setup : Setup) (plan : Plan) (text : List ℕ) (said : Said) (s : Flow) (p : Progress) →
+    FlowLeads setup p.between.state (turned plan text said s p)
+turned_leads setup plan text said s p =
+    either_flow setup p.between.state p.between.state.ended _ _ (stays_there setup p.between.state) (stepped_leads setup plan text said s p)
+
+flow_from_there : (setup : Setup) (s t : State) (r : Result (Effect × FlowProgress) Cause) → Leads setup s t → FlowLeads setup t r → FlowLeads setup s r
+flow_from_there setup s t (Ok x) first leads = on_leads setup s t x.1.progress.between.state first leads
+flow_from_there setup s t (Err e) first leads = tt
+
+others_lead : (setup : Setup) (plan : Plan) (line : ℕ) (text : List ℕ) (said : Said) (r : FlowProgress) →
+    FlowLeads setup r.progress.between.state (others_taken setup plan line text said r)
+unfolding others_taken
+others_lead setup plan line text said r =
+    after_step (λ (q : Progress). Leads setup r.progress.between.state q.between.state)
+    (λ (x : Effect × FlowProgress). Leads setup r.progress.between.state x.1.progress.between.state)
+    (done_at setup line text said.statements (other_words (words_of said.statements)) r.progress) _
+    (effect_leads setup line text said.statements (other_words (words_of said.statements)) r.progress)
+    (λ q leads. flow_from_there setup r.progress.between.state q.between.state (turned plan text said r.flow q) leads
+    (turned_leads setup plan text said r.flow q))
+
+flow_statements_lead : (setup : Setup) (plan : Plan) (line : ℕ) (text : List ℕ) (parts : List Part) (r : FlowProgress) →
+    FlowLeads setup r.progress.between.state (flow_statements_taken setup plan line text parts r)
+unfolding flow_statements_taken
+flow_statements_lead setup plan line text parts r =
+    after_any (λ (x : Effect × FlowProgress). Leads setup r.progress.between.state x.1.progress.between.state)
+    (said_if (needs_values plan r.flow) r.progress.values text parts) _ (λ said. others_lead setup plan line text said r)
+
+passed_stays : (setup : Setup) (r : FlowProgress) → FlowLeads setup r.progress.between.state (passed_over r)
+passed_stays setup r =
+    after_any (λ (x : Effect × FlowProgress). Leads setup r.progress.between.state x.1.progress.between.state)
+    (caused causes.Flow (skipped r.flow)) _ (λ s. stays_there setup r.progress.between.state)
+
+flow_line_leads : (setup : Setup) (block_delete : Bool) (plan : Plan) (line : ℕ) (bytes : List ℕ) (r : FlowProgress) →
+    FlowLeads setup r.progress.between.state (flow_line_taken setup block_delete plan line bytes r)
+unfolding flow_line_taken
+flow_line_leads setup block_delete plan line bytes r =
+    after_any (λ (x : Effect × FlowProgress). Leads setup r.progress.between.state x.1.progress.between.state)
+    (caused causes.Reading (line_of r.progress.between.dialect bytes)) _
+    (λ parts. either_flow setup r.progress.between.state (block_delete && is_deleted parts) _ _ (passed_stays setup r)
+    (flow_statements_lead setup plan line (text bytes) parts r))
 
 -- ---- a program
 
@@ -193,39 +305,77 @@ finish_executed setup last p reached =
     (caused_state setup (lines_at last END) p.between p.between.front (executed setup (lines_at last END) p.between.state) refl)
     (λ b leads. handed_out setup b.state (on_from setup p.between.state b.state reached leads)))
 
-went_on : (setup : Setup) (s : State) (r : Result Progress DialectFault) (rest : Progress → Result (List Command) DialectFault) → IsReached setup s →
-    IfOk r (λ (q : Progress). Leads setup s q.between.state) → ((q : Progress) → IsReached setup q.between.state → IfOk (rest q) (AreExecuted setup))
-    → IfOk (go_on r rest) (AreExecuted setup)
-went_on setup s (Err e) rest reached leads more = tt
-went_on setup s (Ok q) rest reached leads more = by_ended q.between.state.ended refl where
-  there : IsReached setup q.between.state
-  there = on_from setup s q.between.state reached leads
-
-  by_ended : (b : Bool) → q.between.state.ended ≡ b
-      → (let all : Result (List Command) DialectFault = Ok q.between.state.commands in IfOk (if b then all else rest q) (AreExecuted setup))
-  by_ended true e = record { state = q.between.state; reached = there; ended = e; are = refl }
-  by_ended false e = more q there
-
 either : (Q : List Command → Type 0) (b : Bool) (last more : Result (List Command) DialectFault) → IfOk last Q → IfOk more Q
     → IfOk (if b then last else more) Q
 either Q true last more l m = l
 either Q false last more l m = m
 
-lines_executed : (setup : Setup) (block_delete : Bool) (before : LinesBefore) (lines : List (List ℕ)) (p : Progress) → IsReached setup p.between.state →
-    IfOk (lines_taken setup block_delete before lines p) (AreExecuted setup)
+-- a program's flow, from a line on
+then_executed : (setup : Setup) (line : ℕ) (s : State) (r : Result (Effect × FlowProgress) DialectFault) (rest : FlowProgress → Outcome) → IsReached setup s
+    → IfOk r (λ (x : Effect × FlowProgress). Leads setup s x.1.progress.between.state)
+    → ((q : FlowProgress) → IsReached setup q.progress.between.state → IfOk (rest q) (AreExecuted setup))
+    → IfOk (then_on setup line r rest) (AreExecuted setup)
+then_executed setup line s (Err e) rest reached leads more = tt
+then_executed setup line s (Ok x) rest reached leads more =
+    let there : IsReached setup x.1.progress.between.state = on_from setup s x.1.progress.between.state reached leads in
+    either (AreExecuted setup) (ends x.0) _ _ (finish_executed setup line x.1.progress there) (more x.1 there)
+
+line_executed : (setup : Setup) (found : Option (List ℕ)) (over : Outcome) (line : List ℕ → Outcome) → IfOk over (AreExecuted setup)
+    → ((bytes : List ℕ) → IfOk (line bytes) (AreExecuted setup)) → IfOk (line_or_end found over line) (AreExecuted setup)
+line_executed setup None over line h k = h
+line_executed setup (Some bytes) over line h k = k bytes
+
+flow_executed : (setup : Setup) (block_delete : Bool) (plan : Plan) (program : ProgramLines) (fuel : ℕ) (r : FlowProgress) →
+    IsReached setup r.progress.between.state → IfOk (flow_taken setup block_delete plan program fuel r) (AreExecuted setup)
+unfolding flow_taken
+flow_executed setup block_delete plan program zero r reached =
+    line_executed setup (slice_get program.lines r.flow.line) _ _ (finish_executed setup program.last r.progress reached) (λ bytes. tt)
+flow_executed setup block_delete plan program (suc fuel) r reached =
+    line_executed setup (slice_get program.lines r.flow.line) _ _ (finish_executed setup program.last r.progress reached)
+    (λ bytes. then_executed setup (number_at r) r.progress.between.state
+    (at (number_at r) (flow_line_taken setup block_delete plan (number_at r) bytes r)) _ reached
+    (at_any (λ (x : Effect × FlowProgress). Leads setup r.progress.between.state x.1.progress.between.state) (number_at r) _
+    (flow_line_leads setup block_delete plan (number_at r) bytes r))
+    (λ q there. flow_executed setup block_delete plan program fuel q there))
+
+-- the lines of a text
+went_from : (setup : Setup) (t : Taken) (q : Progress) (flow rest : Progress → Outcome) → IsReached setup q.between.state
+    → IfOk (flow q) (AreExecuted setup) → IfOk (rest q) (AreExecuted setup) → IfOk (go_from t q flow rest) (AreExecuted setup)
+went_from setup HasFlow q flow rest there f m = f
+went_from setup Done q flow rest there f m = by_ended q.between.state.ended refl where
+  by_ended : (b : Bool) → q.between.state.ended ≡ b
+      → (let all : Outcome = Ok q.between.state.commands in IfOk (if b then all else rest q) (AreExecuted setup))
+  by_ended true e = record { state = q.between.state; reached = there; ended = e; are = refl }
+  by_ended false e = m
+
+went_on : (setup : Setup) (s : State) (r : Result (Taken × Progress) DialectFault) (flow rest : Progress → Outcome) → IsReached setup s →
+    IfOk r (λ (x : Taken × Progress). Leads setup s x.1.between.state)
+    → ((q : Progress) → IsReached setup q.between.state → IfOk (flow q) (AreExecuted setup))
+    → ((q : Progress) → IsReached setup q.between.state → IfOk (rest q) (AreExecuted setup))
+    → IfOk (go_on r flow rest) (AreExecuted setup)
+went_on setup s (Err e) flow rest reached leads f more = tt
+went_on setup s (Ok x) flow rest reached leads f more =
+    let there : IsReached setup x.1.between.state = on_from setup s x.1.between.state reached leads in
+    went_from setup x.0 x.1 flow rest there (f x.1 there) (more x.1 there)
+
+lines_executed : (setup : Setup) (block_delete : Bool) (program : ProgramLines) (before : LinesBefore) (lines : List (List ℕ)) (p : Progress) →
+    IsReached setup p.between.state → IfOk (lines_taken setup block_delete program before lines p) (AreExecuted setup)
 unfolding lines_taken
-lines_executed setup block_delete before [] p reached = finish_executed setup before.number p reached
-lines_executed setup block_delete before (bytes ∷ rest) p reached =
+lines_executed setup block_delete program before [] p reached = finish_executed setup (number_of before.count) p reached
+lines_executed setup block_delete program before (bytes ∷ rest) p reached =
     let now : LinesBefore = lines_after before (first_byte bytes) in
     let mark : Mark = mark_of before p.between.dialect (first_byte bytes) in
-    either (AreExecuted setup) (is_end mark) _ _ (finish_executed setup now.number p reached)
-    (went_on setup p.between.state (at now.number (marked_taken setup block_delete now.number mark bytes p)) _ reached
-    (at_any (λ (q : Progress). Leads setup p.between.state q.between.state) now.number _ (marked_leads setup block_delete now.number mark bytes p))
-    (λ q there. lines_executed setup block_delete now rest q there))
+    let number : ℕ = number_of now.count in
+    either (AreExecuted setup) (is_end mark) _ _ (finish_executed setup number p reached)
+    (went_on setup p.between.state (at number (marked_taken setup block_delete number mark bytes p)) _ _ reached
+    (at_any (λ (x : Taken × Progress). Leads setup p.between.state x.1.between.state) number _
+    (marked_leads setup block_delete number mark bytes p))
+    (λ q there. flow_executed setup block_delete _ program _ (record { progress = q; flow = begun before.count }) there)
+    (λ q there. lines_executed setup block_delete program now rest q there))
 
 program_executed : (d : Dialect) (setup : Setup) (block_delete : Bool) (text : List ℕ) → IfOk (meaning_in d setup block_delete text) (AreExecuted setup)
 program_executed d setup block_delete text =
-    lines_executed setup block_delete no_lines (split_lines text) (start_progress d setup.machine) (start_reached setup)
+    lines_executed setup block_delete (program_of d text) no_lines (split_lines text) (start_progress d setup.machine) (start_reached setup)
 
 -- ---- what a call returns
 

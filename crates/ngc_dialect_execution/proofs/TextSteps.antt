@@ -12,13 +12,17 @@ use Rattle.ngc_dialect_execution.specs.declared.fault.Cause.TheVariants as cause
 use Rattle.ngc_dialect_execution.specs.declared.fault.DialectFault.{DialectFault}
 use Rattle.ngc_dialect_execution.specs.declared.fault.DialectFault.TheVariants as faults
 use Rattle.ngc_dialect_execution.specs.declared.fault.Refusal.{Refusal}
-use Rattle.ngc_dialect_execution.specs.declared.fault.Refusal.TheVariants.{Because, TooManyNames, Memory}
-use Rattle.ngc_dialect_execution.specs.declared.program.LinesBefore.{LinesBefore}
-use Rattle.ngc_dialect_execution.specs.declared.program.Mark.{Mark}
+use Rattle.ngc_dialect_execution.specs.declared.fault.Refusal.TheVariants.{Because, Memory}
+use Rattle.ngc_dialect_execution.specs.declared.lines.Taken.{Taken}
+use Rattle.ngc_dialect_execution.specs.declared.lines.Taken.TheVariants.{Done, HasFlow}
+use Rattle.ngc_dialect_execution.specs.declared.text.LinesBefore.{LinesBefore}
+use Rattle.ngc_dialect_execution.specs.declared.text.Mark.{Mark}
+use Rattle.ngc_dialect_execution.specs.Ending.{at, commands_of, finished}
 use Rattle.ngc_dialect_execution.specs.Faults.{◌>>=◌, FailsBy, ProgramSays, Says, at_line}
-use Rattle.ngc_dialect_execution.specs.Program.{at, commands_of, finished, go_on, is_end, lines_taken, marked_taken}
+use Rattle.ngc_dialect_execution.specs.Flow.{Outcome, flow_from}
+use Rattle.ngc_dialect_execution.specs.Program.{go_from, go_on, lines_taken, marked_taken}
 use Rattle.ngc_dialect_execution.specs.Taken.{Between, Progress, ended_at}
-use Rattle.ngc_dialect_execution.specs.Text.{first_byte, lines_after, mark_of}
+use Rattle.ngc_dialect_execution.specs.Text.{ProgramLines, first_byte, is_end, lines_after, mark_of, number_of}
 
 yes : {A : Type 0} (b : Bool) (x y : A) → b ≡ true → (if b then x else y) ≡ x
 yes true x y e = refl
@@ -28,90 +32,95 @@ no : {A : Type 0} (b : Bool) (x y : A) → b ≡ false → (if b then x else y) 
 no true x y e = absurd (cc e)
 no false x y e = refl
 
--- what pass says of a line
-pub record Passes (before now : LinesBefore) (d : Dialect) (mark : Mark) (bytes : List ℕ) : Type 0 where
+-- what is said of a line that the text passes
+pub record Passes (before now : LinesBefore) (d : Dialect) (mark : Mark) (bytes : List ℕ) (line : ℕ) : Type 0 where
   pub is : mark ≡ mark_of before d (first_byte bytes)
   pub after : now ≡ lines_after before (first_byte bytes)
+  pub number : line ≡ number_of now.count
 
 -- the percent sign that ends the program
-pub at_end : (setup : Setup) (block_delete : Bool) (before now : LinesBefore) (mark : Mark) (bytes : List ℕ) (rest : List (List ℕ)) (p : Progress) →
-    Passes before now p.between.dialect mark bytes → is_end mark ≡ true
-    → lines_taken setup block_delete before (bytes ∷ rest) p ≡ finished setup now.number p
+pub at_end : (setup : Setup) (block_delete : Bool) (program : ProgramLines) (before now : LinesBefore) (mark : Mark) (bytes : List ℕ) (line : ℕ)
+    (rest : List (List ℕ)) (p : Progress) → Passes before now p.between.dialect mark bytes line → is_end mark ≡ true
+    → lines_taken setup block_delete program before (bytes ∷ rest) p ≡ finished setup line p
 unfolding lines_taken
-at_end setup block_delete before now mark bytes rest p h ends =
+at_end setup block_delete program before now mark bytes line rest p h ends =
     yes (is_end (mark_of before p.between.dialect (first_byte bytes))) _ _ (ap is_end (sym h.is) ∙ ends)
-    ∙ ap (λ (n : LinesBefore). finished setup n.number p) (sym h.after)
+    ∙ ap (λ (n : LinesBefore). finished setup (number_of n.count) p) (sym h.after) ∙ ap (λ (n : ℕ). finished setup n p) (sym h.number)
 
 -- another line
-next : (setup : Setup) (block_delete : Bool) (before now : LinesBefore) (mark : Mark) (bytes : List ℕ) (rest : List (List ℕ)) (p : Progress) →
-    Passes before now p.between.dialect mark bytes → is_end mark ≡ false
-    → lines_taken setup block_delete before (bytes ∷ rest) p
-    ≡ go_on (at now.number (marked_taken setup block_delete now.number mark bytes p)) (λ q. lines_taken setup block_delete now rest q)
+next : (setup : Setup) (block_delete : Bool) (program : ProgramLines) (before now : LinesBefore) (mark : Mark) (bytes : List ℕ) (line : ℕ)
+    (rest : List (List ℕ)) (p : Progress) → Passes before now p.between.dialect mark bytes line → is_end mark ≡ false
+    → lines_taken setup block_delete program before (bytes ∷ rest) p
+    ≡ go_on (at line (marked_taken setup block_delete line mark bytes p)) (λ q. flow_from setup block_delete program before.count q)
+    (λ q. lines_taken setup block_delete program now rest q)
 unfolding lines_taken
-next setup block_delete before now mark bytes rest p h on =
+next setup block_delete program before now mark bytes line rest p h on =
     let is : Mark = mark_of before p.between.dialect (first_byte bytes) in
+    let flow : Progress → Outcome = λ q. flow_from setup block_delete program before.count q in
+    let after : LinesBefore → Progress → Outcome = λ n q. lines_taken setup block_delete program n rest q in
+    let by : ℕ → LinesBefore → Mark → Outcome = λ number n m. go_on (at number (marked_taken setup block_delete number m bytes p)) flow (after n) in
     no (is_end is) _ _ (ap is_end (sym h.is) ∙ on)
-    ∙ ap (λ (m : Mark).
-    go_on (at (lines_after before (first_byte bytes)).number (marked_taken setup block_delete (lines_after before (first_byte bytes)).number m bytes p))
-    (λ q. lines_taken setup block_delete (lines_after before (first_byte bytes)) rest q)) (sym h.is)
-    ∙ ap (λ (n : LinesBefore). go_on (at n.number (marked_taken setup block_delete n.number mark bytes p)) (λ q. lines_taken setup block_delete n rest q))
-    (sym h.after)
+    ∙ ap (by (number_of (lines_after before (first_byte bytes)).count) (lines_after before (first_byte bytes))) (sym h.is)
+    ∙ ap (λ (n : LinesBefore). by (number_of n.count) n mark) (sym h.after) ∙ ap (λ (n : ℕ). by n now mark) (sym h.number)
 
-taken : (setup : Setup) (block_delete : Bool) (before now : LinesBefore) (mark : Mark) (bytes : List ℕ) (rest : List (List ℕ)) (p q : Progress) →
-    Passes before now p.between.dialect mark bytes → is_end mark ≡ false → marked_taken setup block_delete now.number mark bytes p ≡ Ok q
-    → lines_taken setup block_delete before (bytes ∷ rest) p
-    ≡ (if q.between.state.ended then Ok q.between.state.commands else lines_taken setup block_delete now rest q)
-taken setup block_delete before now mark bytes rest p q h on e =
-    next setup block_delete before now mark bytes rest p h on
-    ∙ ap (λ (r : Result Progress Cause). go_on (at now.number r) (λ u. lines_taken setup block_delete now rest u)) e
+taken : (setup : Setup) (block_delete : Bool) (program : ProgramLines) (before now : LinesBefore) (mark : Mark) (bytes : List ℕ) (line : ℕ)
+    (rest : List (List ℕ)) (p : Progress) (x : Taken × Progress) →
+    Passes before now p.between.dialect mark bytes line → is_end mark ≡ false → marked_taken setup block_delete line mark bytes p ≡ Ok x
+    → lines_taken setup block_delete program before (bytes ∷ rest) p
+    ≡ go_from x.0 x.1 (λ q. flow_from setup block_delete program before.count q) (λ q. lines_taken setup block_delete program now rest q)
+taken setup block_delete program before now mark bytes line rest p x h on e =
+    next setup block_delete program before now mark bytes line rest p h on
+    ∙ ap (λ (r : Result (Taken × Progress) Cause).
+    go_on (at line r) (λ q. flow_from setup block_delete program before.count q) (λ u. lines_taken setup block_delete program now rest u)) e
 
 -- the program goes on
-pub goes_on : (setup : Setup) (block_delete : Bool) (before now : LinesBefore) (mark : Mark) (bytes : List ℕ) (rest : List (List ℕ)) (p q : Progress) →
-    Passes before now p.between.dialect mark bytes → is_end mark ≡ false → marked_taken setup block_delete now.number mark bytes p ≡ Ok q
+pub goes_on : (setup : Setup) (block_delete : Bool) (program : ProgramLines) (before now : LinesBefore) (mark : Mark) (bytes : List ℕ) (line : ℕ)
+    (rest : List (List ℕ)) (p q : Progress) →
+    Passes before now p.between.dialect mark bytes line → is_end mark ≡ false → marked_taken setup block_delete line mark bytes p ≡ Ok (Done, q)
     → q.between.state.ended ≡ false
-    → lines_taken setup block_delete before (bytes ∷ rest) p ≡ lines_taken setup block_delete now rest q
-goes_on setup block_delete before now mark bytes rest p q h on e still =
-    taken setup block_delete before now mark bytes rest p q h on e ∙ no q.between.state.ended _ _ still
+    → lines_taken setup block_delete program before (bytes ∷ rest) p ≡ lines_taken setup block_delete program now rest q
+goes_on setup block_delete program before now mark bytes line rest p q h on e still =
+    taken setup block_delete program before now mark bytes line rest p (Done, q) h on e ∙ no q.between.state.ended _ _ still
 
 -- the line ends the program
-pub ends_there : (setup : Setup) (block_delete : Bool) (before now : LinesBefore) (mark : Mark) (bytes : List ℕ) (rest : List (List ℕ)) (p q : Progress) →
-    Passes before now p.between.dialect mark bytes → is_end mark ≡ false → marked_taken setup block_delete now.number mark bytes p ≡ Ok q
+pub ends_there : (setup : Setup) (block_delete : Bool) (program : ProgramLines) (before now : LinesBefore) (mark : Mark) (bytes : List ℕ) (line : ℕ)
+    (rest : List (List ℕ)) (p q : Progress) →
+    Passes before now p.between.dialect mark bytes line → is_end mark ≡ false → marked_taken setup block_delete line mark bytes p ≡ Ok (Done, q)
     → q.between.state.ended ≡ true
-    → lines_taken setup block_delete before (bytes ∷ rest) p ≡ Ok q.between.state.commands
-ends_there setup block_delete before now mark bytes rest p q h on e over =
-    taken setup block_delete before now mark bytes rest p q h on e ∙ yes q.between.state.ended _ _ over
+    → lines_taken setup block_delete program before (bytes ∷ rest) p ≡ Ok q.between.state.commands
+ends_there setup block_delete program before now mark bytes line rest p q h on e over =
+    taken setup block_delete program before now mark bytes line rest p (Done, q) h on e ∙ yes q.between.state.ended _ _ over
+
+-- the flow begins at the line
+pub flow_begins : (setup : Setup) (block_delete : Bool) (program : ProgramLines) (before now : LinesBefore) (mark : Mark) (bytes : List ℕ) (line : ℕ)
+    (rest : List (List ℕ)) (p q : Progress) →
+    Passes before now p.between.dialect mark bytes line → is_end mark ≡ false → marked_taken setup block_delete line mark bytes p ≡ Ok (HasFlow, q)
+    → lines_taken setup block_delete program before (bytes ∷ rest) p ≡ flow_from setup block_delete program before.count q
+flow_begins setup block_delete program before now mark bytes line rest p q h on e =
+    taken setup block_delete program before now mark bytes line rest p (HasFlow, q) h on e
 
 -- the fault of a line
-refused_at : {A B : Type 0} (line : ℕ) (view : B → A) (refusal : Refusal) (r : Result A Cause) → Says view (Err refusal) r
+pub refused_at : {A B : Type 0} (line : ℕ) (view : B → A) (refusal : Refusal) (r : Result A Cause) → Says view (Err refusal) r
     → FailsBy {Y = A} (at_line line refusal) (at line r)
-refused_at line view (Because cause) r says = by_cause cause says where
-  by_cause : (c : Cause) → r ≡ Err c → FailsBy (faults.At line c) (at line r)
-  by_cause causes.TooManyNames e = tt
-  by_cause causes.Flow e = ap (at line) e
-  by_cause (causes.Reading fault) e = ap (at line) e
-  by_cause (causes.Value cause) e = ap (at line) e
-  by_cause (causes.Rule fault) e = ap (at line) e
-  by_cause (causes.Plain fault) e = ap (at line) e
-refused_at line view TooManyNames r says = tt
+refused_at line view (Because cause) r says = ap (at line) says
 refused_at line view Memory r says = tt
 
-fails_on : (fault : DialectFault) (r : Result Progress DialectFault) (rest : Progress → Result (List Command) DialectFault) → FailsBy fault r
-    → FailsBy fault (go_on r rest)
-fails_on (faults.At line causes.TooManyNames) r rest h = tt
-fails_on (faults.At line causes.Flow) r rest h = ap (λ (x : Result Progress DialectFault). go_on x rest) h
-fails_on (faults.At line (causes.Reading f)) r rest h = ap (λ (x : Result Progress DialectFault). go_on x rest) h
-fails_on (faults.At line (causes.Value c)) r rest h = ap (λ (x : Result Progress DialectFault). go_on x rest) h
-fails_on (faults.At line (causes.Rule f)) r rest h = ap (λ (x : Result Progress DialectFault). go_on x rest) h
-fails_on (faults.At line (causes.Plain f)) r rest h = ap (λ (x : Result Progress DialectFault). go_on x rest) h
-fails_on faults.Memory r rest h = tt
+-- a fault of the first step is one of both
+pub fails_first : {X Y : Type 0} (fault : DialectFault) (r : Result X DialectFault) (rest : Result X DialectFault → Result Y DialectFault) →
+    ((e : DialectFault) → rest (Err e) ≡ Err e) → FailsBy fault r → FailsBy fault (rest r)
+fails_first (faults.At line cause) r rest passes h = ap rest h ∙ passes (faults.At line cause)
+fails_first faults.Memory r rest passes h = tt
 
-pub refused_there : {B : Type 0} (setup : Setup) (block_delete : Bool) (before now : LinesBefore) (mark : Mark) (bytes : List ℕ) (rest : List (List ℕ))
-    (p : Progress) (view : B → Progress) (refusal : Refusal) → Passes before now p.between.dialect mark bytes → is_end mark ≡ false
-    → Says view (Err refusal) (marked_taken setup block_delete now.number mark bytes p)
-    → FailsBy (at_line now.number refusal) (lines_taken setup block_delete before (bytes ∷ rest) p)
-refused_there setup block_delete before now mark bytes rest p view refusal h on says =
-    subst (FailsBy (at_line now.number refusal)) (sym (next setup block_delete before now mark bytes rest p h on))
-    (fails_on (at_line now.number refusal) _ (λ q. lines_taken setup block_delete now rest q) (refused_at now.number view refusal _ says))
+pub refused_there : {B : Type 0} (setup : Setup) (block_delete : Bool) (program : ProgramLines) (before now : LinesBefore) (mark : Mark) (bytes : List ℕ)
+    (line : ℕ) (rest : List (List ℕ)) (p : Progress) (view : B → Taken × Progress) (refusal : Refusal) →
+    Passes before now p.between.dialect mark bytes line → is_end mark ≡ false
+    → Says view (Err refusal) (marked_taken setup block_delete line mark bytes p)
+    → FailsBy (at_line line refusal) (lines_taken setup block_delete program before (bytes ∷ rest) p)
+refused_there setup block_delete program before now mark bytes line rest p view refusal h on says =
+    subst (FailsBy (at_line line refusal)) (sym (next setup block_delete program before now mark bytes line rest p h on))
+    (fails_first (at_line line refusal) (at line (marked_taken setup block_delete line mark bytes p))
+    (λ r. go_on r (λ q. flow_from setup block_delete program before.count q) (λ q. lines_taken setup block_delete program now rest q)) (λ e. refl)
+    (refused_at line view refusal (marked_taken setup block_delete line mark bytes p) says))
 
 -- ---- after a step of a program, in the same words
 
@@ -119,24 +128,12 @@ refused_there setup block_delete before now mark bytes rest p view refusal h on 
 pub said_as : {X Y : Type 0} (view : X → Y) (r : Result X DialectFault) (m n : Result Y DialectFault) → m ≡ n → ProgramSays view r n → ProgramSays view r m
 said_as view r m n e says = subst (ProgramSays view r) (sym e) says
 
-pub fails_as : {Y : Type 0} (fault : DialectFault) (m n : Result Y DialectFault) → m ≡ n → FailsBy fault n → FailsBy fault m
-fails_as fault m n e says = subst (FailsBy fault) (sym e) says
-
 -- the end of a program that is refused
 pub end_refused : {B : Type 0} (setup : Setup) (last : ℕ) (p : Progress) (view : B → Between) (refusal : Refusal) →
     Says view (Err refusal) (ended_at setup last p.between)
     → FailsBy (at_line last refusal) (finished setup last p)
 unfolding finished
-end_refused setup last p view (Because cause) says = by_cause cause says where
-  by_cause : (c : Cause) → ended_at setup last p.between ≡ Err c
-      → FailsBy (faults.At last c) (at last (ended_at setup last p.between >>= λ b. commands_of b.state))
-  by_cause causes.TooManyNames e = tt
-  by_cause causes.Flow e = ap (λ (r : Result Between Cause). at last (r >>= λ b. commands_of b.state)) e
-  by_cause (causes.Reading fault) e = ap (λ (r : Result Between Cause). at last (r >>= λ b. commands_of b.state)) e
-  by_cause (causes.Value cause) e = ap (λ (r : Result Between Cause). at last (r >>= λ b. commands_of b.state)) e
-  by_cause (causes.Rule fault) e = ap (λ (r : Result Between Cause). at last (r >>= λ b. commands_of b.state)) e
-  by_cause (causes.Plain fault) e = ap (λ (r : Result Between Cause). at last (r >>= λ b. commands_of b.state)) e
-end_refused setup last p view TooManyNames says = tt
+end_refused setup last p view (Because cause) says = ap (λ (r : Result Between Cause). at last (r >>= λ b. commands_of b.state)) says
 end_refused setup last p view Memory says = tt
 
 finish_as : (setup : Setup) (last : ℕ) (p : Progress) (b : Between) → ended_at setup last p.between ≡ Ok b
@@ -155,23 +152,25 @@ finish_lacks setup last p b e still = finish_as setup last p b e ∙ ap (at last
 
 -- ---- in the words of a call
 
-pub passes : (before now : LinesBefore) (d e : Dialect) (mark : Mark) (bytes : List ℕ) → mark ≡ mark_of before d (first_byte bytes) → d ≡ e
-    → now ≡ lines_after before (first_byte bytes)
-    → Passes before now e mark bytes
-passes before now d e mark bytes is same after = record { is = is ∙ ap (λ (x : Dialect). mark_of before x (first_byte bytes)) same; after = after }
+pub passes : (before now : LinesBefore) (d e : Dialect) (mark : Mark) (bytes : List ℕ) (line : ℕ) → mark ≡ mark_of before d (first_byte bytes) → d ≡ e
+    → now ≡ lines_after before (first_byte bytes) → line ≡ number_of now.count
+    → Passes before now e mark bytes line
+passes before now d e mark bytes line is same after number =
+    record { is = is ∙ ap (λ (x : Dialect). mark_of before x (first_byte bytes)) same; after = after; number = number }
 
-pub first_left : (setup : Setup) (block_delete : Bool) (before : LinesBefore) (lines rest : List (List ℕ)) (bytes : List ℕ) (p : Progress)
-    (whole : Result (List Command) DialectFault) → lines ≡ bytes ∷ rest → lines_taken setup block_delete before lines p ≡ whole
-    → whole ≡ lines_taken setup block_delete before (bytes ∷ rest) p
-first_left setup block_delete before lines rest bytes p whole split leads =
-    sym leads ∙ ap (λ (ls : List (List ℕ)). lines_taken setup block_delete before ls p) split
+pub first_left : (setup : Setup) (block_delete : Bool) (program : ProgramLines) (before : LinesBefore) (lines rest : List (List ℕ)) (bytes : List ℕ)
+    (p : Progress) (whole : Outcome) → lines ≡ bytes ∷ rest → lines_taken setup block_delete program before lines p ≡ whole
+    → whole ≡ lines_taken setup block_delete program before (bytes ∷ rest) p
+first_left setup block_delete program before lines rest bytes p whole split leads =
+    sym leads ∙ ap (λ (ls : List (List ℕ)). lines_taken setup block_delete program before ls p) split
 
-pub none_left : (setup : Setup) (block_delete : Bool) (before : LinesBefore) (lines : List (List ℕ)) (p : Progress)
-    (whole : Result (List Command) DialectFault) → lines ≡ [] → lines_taken setup block_delete before lines p ≡ whole
-    → whole ≡ finished setup before.number p
+pub none_left : (setup : Setup) (block_delete : Bool) (program : ProgramLines) (before : LinesBefore) (lines : List (List ℕ)) (p : Progress)
+    (whole : Outcome) (last : ℕ) → lines ≡ [] → last ≡ number_of before.count → lines_taken setup block_delete program before lines p ≡ whole
+    → whole ≡ finished setup last p
 unfolding lines_taken
-none_left setup block_delete before lines p whole none leads =
-    sym leads ∙ ap (λ (ls : List (List ℕ)). lines_taken setup block_delete before ls p) none
+none_left setup block_delete program before lines p whole last none number leads =
+    sym leads ∙ ap (λ (ls : List (List ℕ)). lines_taken setup block_delete program before ls p) none
+    ∙ ap (λ (n : ℕ). finished setup n p) (sym number)
 
 pub refused_as : {Y : Type 0} (found fault : DialectFault) (m n : Result Y DialectFault) → found ≡ fault → m ≡ n → FailsBy fault n → FailsBy found m
 refused_as found fault m n is same says = subst (λ (f : DialectFault). FailsBy f m) (sym is) (subst (FailsBy fault) (sym same) says)

@@ -4,4 +4,6 @@ pub mod Taken
 pub mod Views
 pub mod Laws
 pub mod Text
+pub mod Ending
+pub mod Flow
 pub mod Program

@@ -1,8 +1,10 @@
 -- A line of another control: its parts are read, its values computed, and its words become plain
 -- lines, which are executed. Our own.
-use Rattle.std.specs.Prelude.{ℕ, pos, ◌&&◌, List, [], ◌∷◌, ◌++◌, Bool, true, false, Option, Some}
+use Rattle.std.specs.Prelude.{ℕ, ◌*◌, ◌==◌, ℤ, pos, ◌&&◌, ◌||◌, List, [], ◌∷◌, Bool, true, false, Option, Some}
 use Rattle.std.specs.Prelude.{None, Result, Ok, Err}
 use Rattle.std.specs.Prelude.{if◌then◌else◌}
+use Rattle.std.specs.List.{list_any}
+use Rattle.std.specs.Ordering.{int_eq}
 use Rattle.ngc_machine_files.specs.Machine.{MachineFile}
 use Rattle.ngc_line_reader.specs.declared.letter.Letter.TheVariants as letters
 use Rattle.ngc_canned_cycles.specs.declared.cycle.CycleMove.{CycleMove}
@@ -12,14 +14,17 @@ use Rattle.ngc_dialect_reader.specs.declared.part.Part.{Part}
 use Rattle.ngc_dialect_reader.specs.declared.part.PartKind.{PartKind}
 use Rattle.ngc_dialect_reader.specs.declared.part.PartKind.TheVariants as kinds
 use Rattle.ngc_dialect_reader.specs.Line.{line_of}
+use Rattle.ngc_dialect_reader.specs.Table.{switches_of}
 use Rattle.ngc_dialect_reader.specs.Text.{text}
 use Rattle.ngc_dialect_parameters.specs.declared.fault.EvaluationFault.{EvaluationFault}
 use Rattle.ngc_dialect_parameters.specs.declared.statement.Statement.{Statement}
 use Rattle.ngc_dialect_parameters.specs.declared.statement.Statement.TheVariants as statements
 use Rattle.ngc_dialect_parameters.specs.declared.statement.Word.{Word}
-use Rattle.ngc_dialect_parameters.specs.Known.{Known as Values}
-use Rattle.ngc_dialect_parameters.specs.Evaluation.{line_values}
-use Rattle.ngc_dialect_parameters.specs.Settings.{after_all, named_after_all}
+use Rattle.ngc_dialect_numbers.specs.Numbers.{ONE}
+use Rattle.ngc_dialect_parameters.specs.Known.{Known as Values, known_from}
+use Rattle.ngc_dialect_parameters.specs.Evaluation.{Sums, line_values}
+use Rattle.ngc_dialect_parameters.specs.Stored.{Stored}
+use Rattle.ngc_dialect_parameters.specs.Storing.{none_stored, set_by_all}
 use Rattle.ngc_dialect_drilling.specs.Holes.{cycle_of}
 use Rattle.ngc_dialect_drilling.specs.Moves.{move_lines, stop_lines}
 use Rattle.ngc_dialect_rules.specs.declared.code.Code.{Code}
@@ -33,8 +38,10 @@ use Rattle.ngc_dialect_rules.specs.Front.{start_front}
 use Rattle.ngc_dialect_rules.specs.Rules.{plain_lines}
 use Rattle.ngc_dialect_execution.specs.declared.fault.Cause.{Cause}
 use Rattle.ngc_dialect_execution.specs.declared.fault.Cause.TheVariants as causes
+use Rattle.ngc_dialect_execution.specs.declared.lines.Taken.{Taken}
+use Rattle.ngc_dialect_execution.specs.declared.lines.Taken.TheVariants.{Done, HasFlow}
 use Rattle.ngc_dialect_execution.specs.Executed.{executed, lines_at}
-use Rattle.ngc_dialect_execution.specs.Faults.{◌>>=◌, caused}
+use Rattle.ngc_dialect_execution.specs.Faults.{◌>>=◌, caused, stored_cause}
 
 -- what is known between two lines, besides the program's parameters
 pub record Between : Type 0 where
@@ -49,23 +56,13 @@ start d machine = record {
   state = start_state machine;
 }
 
--- what is known between two lines of a program: also the values of its parameters
+-- what is known between two lines of a program: also what it has set
 pub record Progress : Type 0 where
-  pub values : Values
+  pub values : Stored
   pub between : Between
 
--- no parameter is set, and the control's are unknown
-abbrev pub no_values : Dialect → Values
-no_values d = record {
-  dialect = d;
-  numbers = λ _. None;
-  names = λ _. None;
-  control_numbers = λ _. None;
-  control_names = λ _. None;
-}
-
 abbrev pub start_progress : Dialect → MachineFile → Progress
-start_progress d machine = record { values = no_values d; between = start d machine }
+start_progress d machine = record { values = none_stored d; between = start d machine }
 
 -- ---- words
 
@@ -139,42 +136,47 @@ ended_at setup line b = do
 
 -- ---- a line
 
--- The words so far with those of one more statement. Line numbers, labels, settings, percent signs
--- and Grbl's $H have none.
-abbrev pub with_statement : Statement → List Word → Result (List Word) Cause
-with_statement (statements.Word w) ws = Ok (ws ++ w ∷ [])
-with_statement (statements.Flow keyword count) ws = Err causes.Flow
-with_statement (statements.LabelNamed name) ws = Err causes.Flow
-with_statement (statements.GoTo n) ws = Err causes.Flow
-with_statement (statements.Loop holds n) ws = Err causes.Flow
-with_statement (statements.EndLoop n) ws = Err causes.Flow
-with_statement _ ws = Ok ws
-
--- the words of statements, or the first that isn't executed
-abbrev pub words_of : List Statement → List Word → Result (List Word) Cause
-words_of [] ws = Ok ws
-words_of (s ∷ rest) ws = with_statement s ws >>= λ more. words_of rest more
+-- the values of the control's parameters are unknown
+abbrev pub known_values : Stored → Values
+known_values k = known_from k (λ _. None) (λ _. None)
 
 abbrev pub without_place : EvaluationFault → Cause
 without_place e = causes.Value e.cause
 
--- what a line says, with its values
+-- what a line says, with its values, and the arguments of an O word
 pub record Said : Type 0 where
   pub statements : List Statement
-  pub words : List Word
+  pub arguments : List (Option ℤ)
 
-unfoldable pub said_at : Values → List ℕ → List Part → Result Said Cause
-said_at k text parts = do
-  sums ← caused without_place (line_values k text parts)
-  words ← words_of sums.done []
-  Ok (record { statements = sums.done; words = words })
+abbrev pub said_of : Sums → Said
+said_of sums = record { statements = sums.done; arguments = sums.stack }
 
--- the values after the settings of a line with this text
-abbrev pub with_settings : List ℕ → List Statement → Values → Values
-with_settings text statements k = record k {
-  numbers = λ n. after_all statements n (k.numbers n);
-  names = λ name. named_after_all text statements name (k.names name);
-}
+-- what a line with this text and these parts says
+unfoldable pub said_at : Stored → List ℕ → List Part → Result Said Cause
+said_at k text parts =
+    caused without_place (line_values (known_values k) text parts) >>= λ sums. Ok (said_of sums)
+
+-- the words of statements
+abbrev pub words_of : List Statement → List Word
+words_of [] = []
+words_of (statements.Word w ∷ rest) = w ∷ words_of rest
+words_of (_ ∷ rest) = words_of rest
+
+-- the M code with this number
+abbrev pub is_m : ℕ → Word → Bool
+is_m number w = (w.letter == 77) && int_eq w.value (pos (number * ONE))
+
+-- whether a statement decides which line is next; GRBL has no M98 and no M99
+abbrev pub decides : Dialect → Statement → Bool
+decides d (statements.Word w) = (switches_of d).labels && (is_m 98 w || is_m 99 w)
+decides d (statements.Flow keyword count) = true
+decides d (statements.GoTo n) = true
+decides d (statements.Loop holds n) = true
+decides d (statements.EndLoop n) = true
+decides d _ = false
+
+abbrev pub has_flow : Dialect → List Statement → Bool
+has_flow d said = list_any (decides d) said
 
 -- whether a line begins with /
 abbrev pub is_delete : PartKind → Bool
@@ -185,23 +187,36 @@ abbrev pub is_deleted : List Part → Bool
 is_deleted [] = false
 is_deleted (p ∷ parts) = is_delete p.kind
 
--- A line with this text and these parts: its words take effect, and its settings. All values are
--- those before the line, but for Fanuc's settings.
-unfoldable pub statements_taken : Setup → ℕ → List ℕ → List Part → Progress → Result Progress Cause
-statements_taken setup line text parts p = do
-  said ← said_at p.values text parts
-  b ← words_taken setup line said.words p.between
-  Ok (record { values = with_settings text said.statements p.values; between = b })
+-- a line with this text takes effect: its settings are made, and its words executed
+unfoldable pub done_at : Setup → ℕ → List ℕ → List Statement → List Word → Progress →
+    Result Progress Cause
+done_at setup line text said words p = do
+  k ← caused stored_cause (set_by_all text said p.values)
+  b ← words_taken setup line words p.between
+  Ok (record { values = k; between = b })
+
+-- what was done, and what is known then
+abbrev pub as_done : Result Progress Cause → Result (Taken × Progress) Cause
+as_done r = r >>= λ p. Ok (Done, p)
+
+-- A line with this text and these parts. All values are those before the line, but for Fanuc's
+-- settings. A line that has flow isn't executed here.
+unfoldable pub statements_taken :
+    Setup → ℕ → List ℕ → List Part → Progress → Result (Taken × Progress) Cause
+statements_taken setup line text parts p =
+    said_at p.values text parts >>= λ said.
+    if has_flow p.between.dialect said.statements then Ok (HasFlow, p)
+    else as_done (done_at setup line text said.statements (words_of said.statements) p)
 
 -- a line by its parts, unless block delete takes it out
-abbrev pub parts_taken :
-    Setup → Bool → ℕ → List ℕ → List Part → Progress → Result Progress Cause
+abbrev pub parts_taken : Setup → Bool → ℕ → List ℕ → List Part → Progress →
+    Result (Taken × Progress) Cause
 parts_taken setup block_delete line bytes parts p =
-    if block_delete && is_deleted parts then Ok p
+    if block_delete && is_deleted parts then Ok (Done, p)
     else statements_taken setup line (text bytes) parts p
 
 -- a line, without its line feed
-unfoldable pub line_taken : Setup → Bool → ℕ → List ℕ → Progress → Result Progress Cause
+unfoldable pub line_taken : Setup → Bool → ℕ → List ℕ → Progress → Result (Taken × Progress) Cause
 line_taken setup block_delete line bytes p = do
   parts ← caused causes.Reading (line_of p.between.dialect bytes)
   parts_taken setup block_delete line bytes parts p

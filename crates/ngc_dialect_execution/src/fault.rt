@@ -1,8 +1,13 @@
 //! Why a program of another control isn't executed.
-ghost use Rattle.std.specs.Prelude.{◌≡◌};
+ghost use Rattle.std.specs.Prelude.{◌≡◌, Result};
+ghost use Rattle.ngc_dialect_parameters.specs.Stored.{Stored};
+ghost use Rattle.ngc_dialect_parameters.specs.Storing.{Stores};
+ghost use Rattle.ngc_dialect_parameters.specs.declared.fault.StoreFault.{StoreFault as Fault};
+ghost use Rattle.ngc_dialect_execution.specs.Faults.{Says, caused, stored_cause};
 ghost use Rattle.ngc_dialect_execution.specs.Faults.{at_line as located};
 
-use ngc_dialect_parameters::Cause as ValueCause;
+use ngc_dialect_flow::Cause as FlowCause;
+use ngc_dialect_parameters::{Cause as ValueCause, StoreFault};
 use ngc_dialect_reader::LineFault;
 use ngc_dialect_rules::Fault as RuleFault;
 use thiserror::Error;
@@ -16,8 +21,8 @@ pub enum Cause {
     Value(ValueCause),
     /// 139: over 10,000 names.
     TooManyNames,
-    /// 205: O words, subprograms, loops and jumps.
-    Flow,
+    /// 136, 137, 138, 211: a subprogram, loop or jump can't be executed.
+    Flow(FlowCause),
     /// 101, 204, 205, 211, 252: the dialect's rules refuse the line.
     Rule(RuleFault),
     /// The fault of a plain line that the line became.
@@ -35,18 +40,17 @@ impl Cause {
             Cause::Reading(fault) => fault.cause.number(),
             Cause::Value(cause) => cause.number(),
             Cause::TooManyNames => 139,
-            Cause::Flow => 205,
+            Cause::Flow(cause) => cause.number(),
             Cause::Rule(fault) => fault.cause.number(),
             Cause::Plain(fault) => fault.number(),
         }
     }
 }
 
-/// Why a line isn't executed: its cause, or lack of space for names or of memory.
+/// Why a line isn't executed: its cause, or lack of memory.
 #[derive(Clone, Copy)]
 pub enum Refusal {
     Because(Cause),
-    TooManyNames,
     Memory,
 }
 
@@ -77,10 +81,19 @@ pub(crate) fn at_line(line: u32, refusal: Refusal) -> DialectFault
 {
     match refusal {
         Refusal::Because(cause) => DialectFault::At { line, cause },
-        Refusal::TooManyNames => DialectFault::At {
-            line,
-            cause: Cause::TooManyNames,
-        },
         Refusal::Memory => DialectFault::Memory,
+    }
+}
+
+/// Returns the outcome of storing parameters, with the refusal for its fault.
+pub(crate) fn stored(outcome: Result<(), StoreFault>) -> Result<(), Refusal>
+    ensures { (new : Stored) (says : Result Stored Fault) → Stores outcome new says
+        → Says (λ _. new) result (caused stored_cause says) }
+{
+    match outcome {
+        Ok(()) => Ok(()),
+        Err(StoreFault::TooDeep) => Err(Refusal::Because(Cause::Flow(FlowCause::TooDeep))),
+        Err(StoreFault::TooManyNames) => Err(Refusal::Because(Cause::TooManyNames)),
+        Err(StoreFault::Memory) => Err(Refusal::Memory),
     }
 }

@@ -2,15 +2,18 @@
 //! language, and our own interpreter executes them.
 #![tactic(auto)]
 
+mod doing;
 mod fault;
+mod flow;
 mod fold;
 pub mod laws;
 mod lines;
 mod program;
 mod reading;
+mod text;
 mod words;
 
 pub use fault::{Cause, DialectFault, Refusal};
-pub use lines::DialectInterpreter;
+pub use lines::{DialectInterpreter, Taken};
 pub use program::interpret_dialect;
 pub use words::WordInterpreter;

@@ -1,3 +1,4 @@
+pub mod Flow
 pub mod Lines
 pub mod Plain
 pub mod Rules

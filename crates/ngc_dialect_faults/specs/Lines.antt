@@ -13,6 +13,7 @@ use Rattle.ngc_dialect_rules.specs.declared.code.Code.TheVariants.{G, M}
 use Rattle.ngc_dialect_rules.specs.declared.fault.About.{About}
 use Rattle.ngc_dialect_rules.specs.declared.fault.About.TheVariants as about
 use Rattle.ngc_dialect_rules.specs.declared.fault.Fault.{Fault as RuleFault}
+use Rattle.ngc_dialect_faults.specs.Flow.{flow_words}
 use Rattle.ngc_dialect_faults.specs.Plain.{plain_words}
 use Rattle.ngc_dialect_faults.specs.Rules.{rule_end, rule_words}
 use Rattle.ngc_dialect_faults.specs.Values.{reading_words, value_words}
@@ -53,7 +54,7 @@ abbrev pub cause_text : Cause → List ℕ
 cause_text (Reading fault) = reading_words fault.cause
 cause_text (Value cause) = value_words cause
 cause_text TooManyNames = codes "over 10,000 names"
-cause_text Flow = codes "subprograms, loops and jumps: not supported"
+cause_text (Flow cause) = flow_words cause
 cause_text (Rule fault) = rule_text fault
 cause_text (Plain fault) = plain_words fault ++ plain_end fault
 

@@ -9,6 +9,7 @@ ghost use Rattle.ngc_dialect_faults.specs.Lines.{beginning, cause_text, code_tex
 ghost use Rattle.ngc_dialect_faults.specs.Lines.{digit_text, fault_line, fault_text, plain_end};
 ghost use Rattle.ngc_dialect_faults.specs.Lines.{point_text, rule_text, tenths_text, word_text};
 
+use crate::flow::flow_words;
 use crate::plain::plain_words;
 use crate::reading::{reading_words, value_words};
 use crate::rules::{rule_end, rule_words};
@@ -91,7 +92,7 @@ fn say_cause<W: Sink>(cause: &Cause, page: &mut Page, output: &mut W)
         Cause::Reading(fault) => say!(page, output; Part::Text(reading_words(fault.cause))),
         Cause::Value(cause) => say!(page, output; Part::Text(value_words(*cause))),
         Cause::TooManyNames => say!(page, output; b"over 10,000 names"),
-        Cause::Flow => say!(page, output; b"subprograms, loops and jumps: not supported"),
+        Cause::Flow(cause) => say!(page, output; Part::Text(flow_words(*cause))),
         Cause::Rule(fault) => say_rule(fault, page, output),
         Cause::Plain(fault) =>
             say!(page, output; Part::Text(plain_words(*fault)), plain_end(fault)),

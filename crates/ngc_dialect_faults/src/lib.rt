@@ -3,6 +3,7 @@
 #![tactic(auto)]
 
 mod fault_line;
+mod flow;
 mod plain;
 mod reading;
 mod rules;

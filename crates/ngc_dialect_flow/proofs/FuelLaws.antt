@@ -20,7 +20,7 @@ use Rattle.ngc_dialect_flow.specs.declared.table.Row.{Row}
 use Rattle.ngc_dialect_flow.specs.Places.{Plan}
 use Rattle.ngc_dialect_flow.specs.State.{Flow, depth, after, go, burnt, burn}
 use Rattle.ngc_dialect_flow.specs.Loops as l
-use Rattle.ngc_dialect_flow.specs.Words.{Values, holds, argument, or_zero, loop_holds, jump_in, label_in, word_in, has_m, needed}
+use Rattle.ngc_dialect_flow.specs.Words.{Values, holds, argument, or_zero, loop_holds, jump_in, label_in, word_in, only_word, has_m, needed}
 use Rattle.ngc_dialect_flow.specs.Marks.{whole_of, number_label}
 use Rattle.ngc_dialect_flow.specs.declared.search.Search.TheVariants as searches
 use Rattle.ngc_dialect_flow.specs.declared.mark.Label.TheVariants as labels
@@ -188,8 +188,11 @@ call_times_keeps plan v s x = after_any (c.line_with plan v.text searches.Progra
     (bind (c.enter callers.Program (after e) (x.1 - 1) s) _ (Kept s) (BothKept s) (enter_keeps callers.Program (after e) (x.1 - 1) s) (λ t g. g)))
 
 m98_keeps : (plan : Plan) (v : Values) (s : Flow) → IfOk (c.m98_at plan v s) (BothKept s)
-m98_keeps plan v s = after_any (needed (word_in 80 v.statements)) _ (BothKept s)
-    (λ p. after_any (c.times plan.dialect p (word_in 76 v.statements)) _ (BothKept s) (λ x. call_times_keeps plan v s x))
+m98_keeps plan v s =
+    after_any (only_word 80 v.statements) _ (BothKept s) (λ program.
+    after_any (only_word 76 v.statements) _ (BothKept s) (λ count.
+    after_any (needed program) _ (BothKept s) (λ p.
+    after_any (c.times plan.dialect p count) _ (BothKept s) (λ x. call_times_keeps plan v s x))))
 
 jump_keeps : (z : Option ℤ) (plan : Plan) (v : Values) (s : Flow) → IfOk (n.jump_with z plan v s) (Kept s)
 jump_keeps None plan v s = refl
@@ -203,7 +206,7 @@ plain_keeps plan v s = if_ok (has_m 98 v) _ _ (BothKept s) (m98_keeps plan v s)
 kind_keeps : (kind : LineKind) (plan : Plan) (row : Row) (v : Values) (s : Flow) → IfOk (n.by_kind kind plan row v s) (BothKept s)
 kind_keeps kinds.Blank plan row v s = refl
 kind_keeps kinds.Plain plan row v s = plain_keeps plan v s
-kind_keeps kinds.Percent plan row v s = if_ok (list_all (λ r. n.is_blank r.kind) (take s.line plan.rows)) _ _ (BothKept s) refl refl
+kind_keeps kinds.Percent plan row v s = refl
 kind_keeps kinds.Program plan row v s = refl
 kind_keeps (kinds.Word k) plan row v s = o_word_keeps k plan row v s
 kind_keeps kinds.Loop plan row v s = plainly_keeps (l.begin_while row.end (loop_holds v.statements) s) s (begin_keeps row.end (loop_holds v.statements) s)

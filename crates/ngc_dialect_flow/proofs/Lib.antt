@@ -2,6 +2,8 @@
 pub mod PlaceLaws
 -- One more line of the pass over a program.
 pub mod PassLaws
+-- The names that a return sets, and the end of the call.
+pub mod ReturnLaws
 -- There is room for one more.
 pub mod Room
 -- Each step takes one unit of fuel.

@@ -1,13 +1,15 @@
 -- One more line of the pass over a program's lines, from the last to the first.
-use Rattle.std.proofs.Common.{◌≡◌, ℕ, suc, ◌+◌, ◌<◌, List, [], ◌∷◌, ◌++◌, length, map, drop, get_or, Result, Ok, Err, OnOk, subst, ap, sym, ◌∙◌, arith}
+use Rattle.std.proofs.Common.{◌≡◌, ℕ, suc, ◌+◌, ◌<◌, List, [], ◌∷◌, ◌++◌, length, map, drop, reverse, get_or, ◌≤◌, Option, Result, Ok, Err, OnOk, subst, ap, sym, ◌∙◌, arith}
+use Rattle.std.proofs.Math.Path.{fun_ext}
 use Rattle.std.proofs.Math.Seq.{drop-cons}
-use Rattle.std.proofs.lemmas.List.{drop-map, reverse-append}
+use Rattle.std.proofs.lemmas.List.{drop-map, reverse-append, reverse-reverse}
 use Rattle.ngc_dialect_reader.specs.declared.dialect.Dialect.{Dialect}
 use Rattle.ngc_dialect_flow.specs.declared.mark.Mark.{Mark}
+use Rattle.ngc_dialect_flow.specs.declared.table.Place.{Place}
 use Rattle.ngc_dialect_flow.specs.declared.table.Row.{Row}
 use Rattle.ngc_dialect_flow.specs.declared.table.Table.{Table}
 use Rattle.ngc_dialect_flow.specs.Marks.{Line, line_in}
-use Rattle.ngc_dialect_flow.specs.Places.{lines_in, placed_by, place_in, row_of, rows_in, place_of, rows_of, Covers}
+use Rattle.ngc_dialect_flow.specs.Places.{Plan, lines_in, placed_by, place_in, plan_in, row_of, rows_in, place_of, rows_of, dialect_of, Covers}
 
 -- the line at an index, and the lines after it
 pub dropped : {R : Type 0} (d : Dialect) (now : R → List ℕ) (xs : List R) (i : ℕ) (x e : R) → i < length xs → x ≡ get_or xs i e →
@@ -51,3 +53,16 @@ covers_next {A} t u d k now xs i x e h f g c more =
     let rest = drop (i + 1) (lines_in d (map now xs)) in
     subst (λ (ls : List Line). Covers u ls i) (sym (dropped d now xs i x e h f))
     (subst (λ (y : Dialect). Covers u (line_in y (now x) ∷ rest) i) g (more rest c))
+
+abbrev made : Dialect → List Row → (List ℕ → Option Place) → Plan
+made d rows place = record { dialect = d; rows = rows; place = place }
+
+-- the plan of a table that covers all lines, with its rows in order
+pub plan_made : {A : Type 0} (t : Table A) (d : Dialect) (texts : List (List ℕ)) (i : ℕ) (rows : List Row) → dialect_of t ≡ d → i ≤ 0
+    → Covers t (drop i (lines_in d texts)) i → rows ≡ reverse (rows_of t) → made (dialect_of t) rows (place_of t) ≡ plan_in d texts
+plan_made t d texts i rows is first covers order =
+    let zero : i ≡ 0 = omega (arith, first) in
+    let whole : Covers t (lines_in d texts) 0 = subst (λ (n : ℕ). Covers t (drop n (lines_in d texts)) n) zero covers in
+    ap (λ (x : Dialect). made x rows (place_of t)) is
+    ∙ ap (λ (rs : List Row). made d rs (place_of t)) (order ∙ ap reverse whole.rows ∙ reverse-reverse (rows_in (lines_in d texts) 0))
+    ∙ ap (λ (f : List ℕ → Option Place). made d (rows_in (lines_in d texts) 0) f) (fun_ext whole.places)

@@ -21,7 +21,7 @@ use Rattle.ngc_dialect_flow.specs.Marks.{whole_of, number_label}
 use Rattle.ngc_dialect_flow.specs.Places.{Plan, key_with}
 use Rattle.ngc_dialect_flow.specs.State.{Flow, depth, after, go, with_calls}
 use Rattle.ngc_dialect_flow.specs.Loops.{last_of, without_last, on}
-use Rattle.ngc_dialect_flow.specs.Words.{Values, argument, label_in, word_in, needed}
+use Rattle.ngc_dialect_flow.specs.Words.{Values, argument, label_in, word_in, only_word, needed}
 
 -- the one line with a label
 abbrev pub only : Option Place → Result ℕ Cause
@@ -83,8 +83,9 @@ call_times plan v s x =
 -- M98
 abbrev pub m98_at : Plan → Values → Flow → Result (Flow × Effect) Cause
 m98_at plan v s =
-    needed (word_in 80 v.statements) >>= λ p.
-    times plan.dialect p (word_in 76 v.statements) >>= λ x. call_times plan v s x
+    only_word 80 v.statements >>= λ program.
+    only_word 76 v.statements >>= λ count.
+    needed program >>= λ p. times plan.dialect p count >>= λ x. call_times plan v s x
 
 -- the line with a number of its own
 abbrev pub jump_to : Plan → List ℕ → ℤ → Flow → Result Flow Cause

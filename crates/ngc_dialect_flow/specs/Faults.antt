@@ -16,3 +16,4 @@ cause_number causes.TooManyLoops = 137
 cause_number causes.TooManyLines = 138
 cause_number causes.WordMissing = 211
 cause_number causes.NotWhole = 211
+cause_number causes.WordTwice = 211

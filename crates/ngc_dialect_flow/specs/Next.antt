@@ -1,7 +1,6 @@
 -- One step of the flow: the line's words are executed, and then it says which line is next.
-use Rattle.std.specs.Prelude.{ℕ, ◌||◌, not, ℤ, List, [], ◌∷◌, take, slice_get, Bool, true, false}
+use Rattle.std.specs.Prelude.{ℕ, ◌||◌, ℤ, List, [], ◌∷◌, slice_get, Bool, true, false}
 use Rattle.std.specs.Prelude.{Option, Some, None, Result, Ok, Err, if◌then◌else◌}
-use Rattle.std.specs.List.{list_all}
 use Rattle.ngc_line_reader.specs.Scan.{◌>>=◌}
 use Rattle.ngc_dialect_reader.specs.declared.part.Keyword.{Keyword}
 use Rattle.ngc_dialect_reader.specs.declared.part.Keyword.TheVariants as words
@@ -76,18 +75,12 @@ plain plan v s =
     if has_m 99 v then m99_at plan v s else (
     if has_m 2 v || has_m 30 v then Ok (s, effects.End) else plainly (jump_at plan v s)))
 
-abbrev pub is_blank : LineKind → Bool
-is_blank kinds.Blank = true
-is_blank _ = false
-
--- a percent sign begins the program if only blank lines are before it; else it ends the program
-abbrev pub percent : Plan → Flow → Result (Flow × Effect) Cause
-percent plan s = if list_all (λ row. is_blank row.kind) (take s.line plan.rows) then Ok (on s, effects.Stay) else Ok (s, effects.End)
-
+-- Labels, percent signs and lines without parts do nothing: the text decides which percent sign ends
+-- the program.
 abbrev pub by_kind : LineKind → Plan → Row → Values → Flow → Result (Flow × Effect) Cause
 by_kind kinds.Blank plan row v s = Ok (on s, effects.Stay)
 by_kind kinds.Plain plan row v s = plain plan v s
-by_kind kinds.Percent plan row v s = percent plan s
+by_kind kinds.Percent plan row v s = Ok (on s, effects.Stay)
 by_kind kinds.Program plan row v s = Ok (on s, effects.Stay)
 by_kind (kinds.Word k) plan row v s = o_word k plan row v s
 by_kind kinds.Loop plan row v s = plainly (begin_while row.end (loop_holds v.statements) s)

@@ -68,6 +68,14 @@ pub record Plan : Type 0 where
   pub rows : List Row
   pub place : List ℕ → Option Place
 
+-- the plan of a program's lines, without their line feeds
+abbrev pub plan_in : Dialect → List (List ℕ) → Plan
+plan_in d texts = record {
+  dialect = d;
+  rows = rows_in (lines_in d texts) 0;
+  place = place_in (lines_in d texts) 0;
+}
+
 -- the place that a table has for a key
 abbrev pub place_of : {A : Type 0} → Table A → List ℕ → Option Place
 place_of t q = get_by (λ key. slice_cmp nat_cmp q key.items) t.places

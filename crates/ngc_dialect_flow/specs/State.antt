@@ -51,6 +51,6 @@ with_loops loops s = record { line = s.line; seeking = s.seeking; loops = loops;
 abbrev pub with_calls : List Call → Flow → Flow
 with_calls calls s = record { line = s.line; seeking = s.seeking; loops = s.loops; calls = calls; fuel = s.fuel }
 
--- before a program's first line; 2,000,000 lines are executed at most
-abbrev pub begun : Flow
-begun = record { line = 0; seeking = false; loops = []; calls = []; fuel = 2000000 }
+-- before line n; 2,000,000 lines are executed at most from there on
+abbrev pub begun : ℕ → Flow
+begun n = record { line = n; seeking = false; loops = []; calls = []; fuel = 2000000 }

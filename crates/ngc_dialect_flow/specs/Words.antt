@@ -1,5 +1,5 @@
 -- What the flow takes from the values of a line.
-use Rattle.std.specs.Prelude.{ℕ, ◌*◌, ◌==◌, ◌&&◌, ℤ, pos, List, [], ◌∷◌, slice_get, Bool, false}
+use Rattle.std.specs.Prelude.{ℕ, ◌*◌, ◌==◌, ◌&&◌, nat_lt, ℤ, pos, List, [], ◌∷◌, filter, length, slice_get, Bool, false}
 use Rattle.std.specs.Prelude.{Option, Some, None, Result, Ok, Err, if◌then◌else◌}
 use Rattle.std.specs.List.{list_any}
 use Rattle.std.specs.Ordering.{int_eq}
@@ -51,6 +51,16 @@ abbrev pub word_in : ℕ → List Statement → Option ℤ
 word_in letter [] = None
 word_in letter (statements.Word w ∷ rest) = if w.letter == letter then Some w.value else word_in letter rest
 word_in letter (_ ∷ rest) = word_in letter rest
+
+abbrev pub is_word : ℕ → Statement → Bool
+is_word letter (statements.Word w) = w.letter == letter
+is_word letter _ = false
+
+-- the value of the only word with a letter, if there is one
+abbrev pub only_word : ℕ → List Statement → Result (Option ℤ) Cause
+only_word letter all =
+    if nat_lt 1 (length (filter (is_word letter) all)) then Err causes.WordTwice
+    else Ok (word_in letter all)
 
 -- whether a statement is the code with this letter and number
 abbrev pub is_code : ℕ → ℕ → Statement → Bool

@@ -13,7 +13,7 @@ use crate::mark::{Label, number_label, whole_of};
 use crate::search::Search;
 use crate::state::{Call, CallKind, State, after};
 use crate::table::Table;
-use crate::words::{argument, label_in, needed, word_in};
+use crate::words::{argument, label_in, needed, only_word, word_in};
 use ngc_dialect_numbers::Number;
 use ngc_dialect_parameters::LineValues;
 use ngc_dialect_reader::{Dialect, DialectLine};
@@ -139,8 +139,10 @@ impl State {
             (spec.m98_at (plan_of table.now) (values_of line.now values.now) (flow_of self.old)) }
     {
         let statements = values.statements.as_slice();
-        let program = needed(word_in(b'P', statements))?;
-        let (program, count) = times(table.dialect, program, word_in(b'L', statements))?;
+        let program = only_word(b'P', statements)?;
+        let count = only_word(b'L', statements)?;
+        let program = needed(program)?;
+        let (program, count) = times(table.dialect, program, count)?;
         let label = Some(Label::Number(program));
         let first = table.line_with(line, Search::Program, label)?;
         if count == 0 {

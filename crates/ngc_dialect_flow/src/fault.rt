@@ -25,6 +25,8 @@ pub enum Cause {
     WordMissing,
     #[error("P or L isn't a whole number")]
     NotWhole,
+    #[error("P or L is there twice")]
+    WordTwice,
 }
 
 impl Cause {
@@ -42,7 +44,7 @@ impl Cause {
             | Cause::NotCalled => 136,
             Cause::TooDeep | Cause::TooManyLoops => 137,
             Cause::TooManyLines => 138,
-            Cause::WordMissing | Cause::NotWhole => 211,
+            Cause::WordMissing | Cause::NotWhole | Cause::WordTwice => 211,
         }
     }
 }

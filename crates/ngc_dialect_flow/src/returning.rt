@@ -1,7 +1,7 @@
 //! What the parameters become when a call ends.
-ghost use Rattle.std.specs.Prelude.{◌<◌, OnOk};
-ghost use Rattle.ngc_dialect_parameters.specs.Stored.{depth_of};
-ghost use Rattle.ngc_dialect_flow.specs.Returning.{HasReturned};
+ghost use Rattle.ngc_dialect_parameters.specs.Stored.{stored_in};
+ghost use Rattle.ngc_dialect_parameters.specs.Storing.{Stores};
+ghost use Rattle.ngc_dialect_flow.specs.Returning.{returned};
 
 use crate::words::or_zero;
 use ngc_dialect_numbers::Number;
@@ -15,8 +15,7 @@ pub fn leave_with<A: Allocator + Copy>(
     parameters: &mut Parameters<A>,
     value: Option<Number>,
 ) -> Result<(), StoreFault>
-    ensures { 0 < depth_of parameters.old
-        → OnOk result (HasReturned value parameters.old parameters.new) }
+    ensures { Stores result (stored_in parameters.new) (returned value (stored_in parameters.old)) }
 {
     match parameters.set_named(b"_VALUE", or_zero(value)) {
         Ok(()) => {}

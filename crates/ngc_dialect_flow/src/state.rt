@@ -1,5 +1,5 @@
 //! Where the flow of a program is.
-ghost use Rattle.std.specs.Prelude.{◌≡◌, ◌+◌, filter};
+ghost use Rattle.std.specs.Prelude.{◌≡◌, ◌+◌, ◌==◌, filter, not};
 ghost use Rattle.ngc_line_reader.specs.Scan.{Gives};
 ghost use Rattle.ngc_dialect_flow.specs.State as spec;
 ghost use Rattle.ngc_dialect_flow.specs.State.{flow_of};
@@ -117,12 +117,12 @@ fn leave_loops(loops: &mut ArrayVec<Loop, 32>, depth: usize, line: usize)
 }
 
 impl State {
-    /// Returns the state before a program's first line.
-    pub fn new() -> State
-        ensures { flow_of result ≡ spec.begun }
+    /// Returns the state before a line, from 0. From there on 2,000,000 lines are executed at most.
+    pub fn new(line: usize) -> State
+        ensures { flow_of result ≡ spec.begun line }
     {
         State {
-            line: 0,
+            line,
             seeking: false,
             loops: ArrayVec::new(),
             calls: ArrayVec::new(),
@@ -135,6 +135,13 @@ impl State {
         ensures { result ≡ (flow_of self.now).line }
     {
         self.line
+    }
+
+    /// Returns whether one more line may be executed.
+    pub fn has_fuel(&self) -> bool
+        ensures { result ≡ not ((flow_of self.now).fuel == 0) }
+    {
+        self.fuel != 0
     }
 
     /// Returns the number of calls inside one another.

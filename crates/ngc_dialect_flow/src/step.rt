@@ -169,18 +169,6 @@ impl State {
         Ok(Effect::Stay)
     }
 
-    // A percent sign begins the program or ends it.
-    fn pass_percent<A: Allocator + Copy>(&mut self, table: &Table<A>) -> Effect
-        ensures { Ok (flow_of self.new, result) ≡ spec.percent (plan_of table.now) (flow_of self.old) }
-    {
-        if table.is_blank_before(self.line) {
-            self.go_on();
-            Effect::Stay
-        } else {
-            Effect::End
-        }
-    }
-
     fn pass_row<A: Allocator + Copy>(
         &mut self,
         table: &Table<A>,
@@ -193,12 +181,11 @@ impl State {
             (flow_of self.old)) }
     {
         match row.kind {
-            LineKind::Blank | LineKind::Program => {
+            LineKind::Blank | LineKind::Percent | LineKind::Program => {
                 self.go_on();
                 Ok(Effect::Stay)
             }
             LineKind::Plain => self.pass_plain(table, line, values),
-            LineKind::Percent => Ok(self.pass_percent(table)),
             LineKind::Word(keyword) => self.pass_word(keyword, table, row, line, values),
             LineKind::Loop => {
                 self.begin_while(row.end, loop_holds(values.statements.as_slice()))?;

@@ -1,8 +1,6 @@
 ghost use Rattle.std.specs.Prelude.{◌≡◌, ◌==◌, ◌+◌, ℕ, List, [], ◌∷◌, ◌++◌, IfOk, OnOk, length, map};
-ghost use Rattle.std.specs.Prelude.{option_map, slice_get, take};
-ghost use Rattle.std.specs.List.{list_all};
+ghost use Rattle.std.specs.Prelude.{option_map, slice_get};
 ghost use Rattle.ngc_dialect_flow.specs.Marks.{Line, line_in};
-ghost use Rattle.ngc_dialect_flow.specs.Next.{is_blank};
 ghost use Rattle.ngc_dialect_flow.specs.Places as spec;
 ghost use Rattle.ngc_dialect_flow.specs.Places.{place_of, rows_of};
 
@@ -133,11 +131,7 @@ impl<A: Allocator + Copy> Table<A> {
     /// Returns the table of a program's lines, without their line feeds, in one pass over them. The
     /// only error is refused memory.
     pub fn new(alloc: A, dialect: Dialect, lines: &[&[u8]]) -> Result<Table<A>, AllocError>
-        ensures rows { IfOk result (λ t. rows_of t
-            ≡ spec.rows_in (spec.lines_in dialect (map (λ l. l.now) lines.now)) 0) }
-        ensures places { IfOk result (λ t. (q : List ℕ) → place_of t q
-            ≡ spec.place_in (spec.lines_in dialect (map (λ l. l.now) lines.now)) 0 q) }
-        ensures dialect { IfOk result (λ t. spec.dialect_of t ≡ dialect) }
+        ensures { IfOk result (λ t. spec.plan_of t ≡ spec.plan_in dialect (map (λ l. l.now) lines.now)) }
     {
         let mut table = Table {
             dialect,
@@ -175,15 +169,5 @@ impl<A: Allocator + Copy> Table<A> {
         ensures { result ≡ slice_get (rows_of self.now) line }
     {
         self.rows.get(line).copied()
-    }
-
-    // Returns whether all lines before a line are blank.
-    pub(crate) fn is_blank_before(&self, line: usize) -> bool
-        ensures { result ≡ list_all (λ row. is_blank row.kind) (take line (rows_of self.now)) }
-    {
-        self.rows
-            .iter()
-            .take(line)
-            .all(|row| matches!(row.kind, LineKind::Blank))
     }
 }

@@ -1,5 +1,5 @@
 //! What the flow takes from the values of a line.
-ghost use Rattle.std.specs.Prelude.{◌≡◌, slice_get};
+ghost use Rattle.std.specs.Prelude.{◌≡◌, filter, length, slice_get};
 ghost use Rattle.std.specs.List.{list_any};
 ghost use Rattle.ngc_dialect_flow.specs.Words as spec;
 
@@ -56,6 +56,34 @@ pub(crate) fn word_in(letter: u8, statements: &[Statement]) -> Option<Number>
         }
     }
     None
+}
+
+fn is_word(letter: u8, statement: &Statement) -> bool
+    ensures { result ≡ spec.is_word letter statement.now }
+{
+    match statement {
+        Statement::Word(word) => word.letter == letter,
+        _ => false,
+    }
+}
+
+fn count_words(letter: u8, statements: &[Statement]) -> usize
+    ensures { result ≡ length (filter (spec.is_word letter) statements.now) }
+{
+    statements
+        .iter()
+        .filter(|statement| is_word(letter, statement))
+        .count()
+}
+
+/// Returns the value of the only word with a letter, if there is one.
+pub(crate) fn only_word(letter: u8, statements: &[Statement]) -> Result<Option<Number>, Cause>
+    ensures { result ≡ spec.only_word letter statements.now }
+{
+    if count_words(letter, statements) > 1 {
+        return Err(Cause::WordTwice);
+    }
+    Ok(word_in(letter, statements))
 }
 
 // Returns whether a statement is the code with this letter and number.

@@ -1,5 +1,5 @@
 -- Each part of a line that was read finds its values on the stack.
-use Rattle.std.proofs.Common.{◌≡◌, ℕ, zero, suc, ◌+◌, ◌-◌, ◌≤◌, Bool, true, false, ◌&&◌, ◌||◌, not, List, [], ◌∷◌, ◌++◌, length, take, drop, Option, Some, None, IsSome, is_some, unwrap_or, true≢false, Result, Ok, Err, IfOk, nat_le, nat_eq, codes, bytes_eq, refl, ap, sym, subst, ◌∙◌, arith}
+use Rattle.std.proofs.Common.{◌≡◌, ℕ, zero, suc, ◌+◌, ◌≤◌, Bool, true, false, ◌&&◌, ◌||◌, not, List, [], ◌∷◌, ◌++◌, length, take, drop, Option, Some, None, IsSome, is_some, unwrap_or, true≢false, Result, Ok, Err, IfOk, nat_le, nat_eq, codes, bytes_eq, refl, ap, sym, subst, ◌∙◌, arith}
 use Rattle.std.specs.Prelude.{if◌then◌else◌, ◌==◌}
 use Rattle.std.specs.List.{starts_with}
 use Rattle.std.proofs.Common.{le-leb}
@@ -7,7 +7,6 @@ use Rattle.std.proofs.lemmas.Result.{IfOk-weaker}
 use Rattle.ngc_line_reader.specs.Scan.{◌>>=◌, begins}
 use Rattle.ngc_dialect_reader.specs.declared.dialect.Dialect.{Dialect}
 use Rattle.ngc_dialect_reader.specs.declared.dialect.Switches.{Switches}
-use Rattle.ngc_dialect_reader.specs.declared.fault.Cause.{Cause}
 use Rattle.ngc_dialect_reader.specs.declared.fault.Cause.TheVariants as causes
 use Rattle.ngc_dialect_reader.specs.declared.fault.LineFault.{LineFault}
 use Rattle.ngc_dialect_reader.specs.declared.part.Part.{Part}

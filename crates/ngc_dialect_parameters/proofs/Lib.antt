@@ -6,3 +6,5 @@ pub mod Balance
 pub mod NameLaws
 -- One more setting.
 pub mod SettingLaws
+-- What is stored, value by value; one more parameter of a call; what calls keep.
+pub mod StoredLaws

@@ -8,7 +8,7 @@ use Rattle.std.proofs.lemmas.Bool.{eqb-true}
 use Rattle.std.proofs.lemmas.Bool.Decides.{nat_tests}
 use Rattle.std.proofs.lemmas.Slice.Eq.{bytes_eq-Decides}
 use Rattle.ngc_dialect_parameters.specs.declared.statement.Statement.{Statement}
-use Rattle.ngc_dialect_parameters.specs.Settings.{after, after_all, named_after, named_after_all}
+use Rattle.ngc_dialect_parameters.specs.Settings.{after, after_all}
 
 -- the statement at an index of a list
 here : (ss : List Statement) (i : ℕ) (x : Statement) → i < length ss → x ≡ get_or ss i x → drop i ss ≡ x ∷ drop (i + 1) ss
@@ -21,12 +21,6 @@ pub statement_done : (ss : List Statement) (i : ℕ) (x : Statement) (n : ℕ) (
 statement_done ss i x n v w h e f =
     ap (λ (o : Option ℤ). after_all (drop (i + 1) ss) n o) f
     ∙ ap (λ (l : List Statement). after_all l n v) (sym (here ss i x h e))
-
-pub name_done : (text : List ℕ) (ss : List Statement) (i : ℕ) (x : Statement) (name : List ℕ) (v w : Option ℤ) → i < length ss → x ≡ get_or ss i x →
-    w ≡ named_after text x name v → named_after_all text (drop (i + 1) ss) name w ≡ named_after_all text (drop i ss) name v
-name_done text ss i x name v w h e f =
-    ap (λ (o : Option ℤ). named_after_all text (drop (i + 1) ss) name o) f
-    ∙ ap (λ (l : List Statement). named_after_all text l name v) (sym (here ss i x h e))
 
 below : (n m : ℕ) → n < m → nat_lt n m ≡ true
 below n m h = grind (arith, nat_tests)

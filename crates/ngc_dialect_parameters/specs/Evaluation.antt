@@ -19,7 +19,6 @@ use Rattle.ngc_dialect_parameters.specs.declared.fault.Cause.TheVariants as caus
 use Rattle.ngc_dialect_parameters.specs.declared.fault.EvaluationFault.{EvaluationFault}
 use Rattle.ngc_dialect_parameters.specs.declared.statement.Statement.{Statement}
 use Rattle.ngc_dialect_parameters.specs.declared.statement.Statement.TheVariants as statements
-use Rattle.ngc_dialect_parameters.specs.declared.statement.Word.{Word}
 use Rattle.ngc_dialect_parameters.specs.declared.values.LineValues.{LineValues}
 use Rattle.ngc_dialect_parameters.specs.Index.{index_of}
 use Rattle.ngc_dialect_parameters.specs.Operations.{number_of, valued, negated, applied, operated}

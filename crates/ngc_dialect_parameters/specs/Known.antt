@@ -10,7 +10,7 @@ use Rattle.ngc_dialect_parameters.specs.declared.parameters.Parameters.{Paramete
 use Rattle.ngc_dialect_parameters.specs.Rules.{COUNT, first_of_control, has_macros}
 use Rattle.ngc_dialect_parameters.specs.Settings.{after_all}
 use Rattle.ngc_dialect_parameters.specs.Names.{is_global}
-use Rattle.ngc_dialect_parameters.specs.Stored.{number_in, name_in}
+use Rattle.ngc_dialect_parameters.specs.Stored.{Stored, number_in, name_in}
 
 pub record Known : Type 0 where
   pub dialect : Dialect
@@ -18,6 +18,11 @@ pub record Known : Type 0 where
   pub names : List ℕ → Option ℤ
   pub control_numbers : ℕ → Option ℤ  -- the values that the control has
   pub control_names : List ℕ → Option ℤ
+
+-- by what the program has set
+abbrev pub known_from : Stored → (ℕ → Option ℤ) → (List ℕ → Option ℤ) → Known
+known_from k numbers names =
+    record { dialect = k.dialect; numbers = k.numbers; names = k.names; control_numbers = numbers; control_names = names }
 
 abbrev pub known : {A : Type 0} → Parameters A → (ℕ → Option ℤ) → (List ℕ → Option ℤ) → Known
 known p numbers names =

@@ -5,6 +5,7 @@ pub mod Operations
 pub mod Settings
 pub mod Names
 pub mod Stored
+pub mod Storing
 pub mod Known
 pub mod Evaluation
 pub mod Heights

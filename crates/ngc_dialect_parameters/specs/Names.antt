@@ -10,6 +10,10 @@ use Rattle.ngc_dialect_parameters.specs.declared.names.Names.{Names}
 abbrev pub value_in : {A : Type 0} → Names A → List ℕ → Option ℤ
 value_in names name = get_by (λ key. slice_cmp nat_cmp name key.items) names.table
 
+-- how many names are set
+abbrev pub count_in : {A : Type 0} → Names A → ℕ
+count_in names = names.count
+
 -- names that begin with '_' belong to all calls
 abbrev pub is_global : List ℕ → Bool
 is_global name = begins 95 name

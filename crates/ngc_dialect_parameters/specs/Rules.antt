@@ -8,6 +8,10 @@ use Rattle.ngc_dialect_reader.specs.declared.dialect.Dialect.TheVariants as dial
 abbrev pub COUNT : ℕ
 COUNT = 6000
 
+-- how many names may be set that belong to one call, and how many that belong to all
+abbrev pub NAMES : ℕ
+NAMES = 10000
+
 -- the number from which on parameters belong to the control
 abbrev pub first_of_control : Dialect → ℕ
 first_of_control dialects.LinuxCnc = 5161

@@ -1,11 +1,9 @@
-ghost use Rattle.std.specs.Prelude.{◌≡◌, ℕ, ◌<◌, ◌-◌, ◌↔◌, List};
-ghost use Rattle.std.specs.Prelude.{IfOk, IfErr, OnOk, OnErr, IsTrue, Some, None, Err, slice_index_or};
-ghost use Rattle.std.specs.Prelude.{if◌then◌else◌};
-ghost use Rattle.std.specs.Str.{bytes_eq};
+ghost use Rattle.std.specs.Prelude.{◌≡◌, ◌<◌, ◌↔◌, IfOk, IfErr, OnOk, OnErr, IsTrue, None, true, slice_index_or};
 ghost use Rattle.ngc_dialect_parameters.specs.Names.{is_global as is_global_name};
-ghost use Rattle.ngc_dialect_parameters.specs.Settings.{after, after_all, named_after, named_after_all};
-ghost use Rattle.ngc_dialect_parameters.specs.Stored as spec;
-ghost use Rattle.ngc_dialect_parameters.specs.Stored.{number_in, name_in, depth_of, dialect_of, IsSame};
+ghost use Rattle.ngc_dialect_parameters.specs.Stored.{number_in, name_in, depth_of, dialect_of};
+ghost use Rattle.ngc_dialect_parameters.specs.Stored.{HasLocals, stored_in};
+ghost use Rattle.ngc_dialect_parameters.specs.Storing as spec;
+ghost use Rattle.ngc_dialect_parameters.specs.Storing.{Stores};
 
 use crate::fault::StoreFault;
 use crate::names::Names;
@@ -16,7 +14,7 @@ use crate::values::LineValues;
 use arrayvec::ArrayVec;
 use ngc_dialect_numbers::Number;
 use ngc_dialect_reader::{Dialect, DialectLine};
-use std::alloc::Allocator;
+use std::alloc::{AllocError, Allocator};
 use std::mem;
 
 /// The greatest number of calls inside one another.
@@ -32,13 +30,20 @@ pub(crate) fn is_global(name: &[u8]) -> bool
     }
 }
 
+// Returns the value at an index, or `None` after the last one.
+fn value_at(values: &[Option<Number>], index: usize) -> Option<Number>
+    ensures { result ≡ slice_index_or values.now index None }
+{
+    match values.get(index) {
+        Some(value) => *value,
+        None => None,
+    }
+}
+
 impl<A: Allocator + Copy> Parameters<A> {
     /// Returns the parameters of a program before its first line: none is set.
     pub fn new(alloc: A, dialect: Dialect) -> Result<Parameters<A>, StoreFault>
-        ensures numbers { IfOk result (λ p. (n : ℕ) → number_in p n ≡ None) }
-        ensures names { IfOk result (λ p. (name : List ℕ) → name_in p name ≡ None) }
-        ensures calls { IfOk result (λ p. depth_of p ≡ 0) }
-        ensures dialect { IfOk result (λ p. dialect_of p ≡ dialect) }
+        ensures none { IfOk result (λ p. stored_in p ≡ spec.none_stored dialect) }
         ensures refused { IfErr result (λ e. e ≡ StoreFault.Memory) }
     {
         let mut numbers = match Vec::with_capacity(alloc, COUNT) {
@@ -92,24 +97,29 @@ impl<A: Allocator + Copy> Parameters<A> {
 
     /// Sets a numbered parameter, from 1 to 5999; `None` makes it empty.
     pub fn set(&mut self, index: usize, value: Option<Number>)
-        ensures numbers { (n : ℕ) → number_in self.new n
-            ≡ after (Statement.Set index value) n (number_in self.old n) }
-        ensures names { (name : List ℕ) → name_in self.new name ≡ name_in self.old name }
-        ensures calls { spec.KeepsCalls self.old self.new }
+        ensures { stored_in self.new ≡ spec.with_number index value (stored_in self.old) }
     {
         if index < self.numbers.len() {
             self.numbers[index] = value;
         }
     }
 
-    /// Sets a name, in upper case, of the current call or of all calls.
-    pub fn set_named(&mut self, name: &[u8], value: Number) -> Result<(), StoreFault>
-        ensures names { OnOk result ((other : List ℕ) → name_in self.new other
-            ≡ (if bytes_eq other name.now then Some value else name_in self.old other)) }
-        ensures refused { OnErr result ((other : List ℕ) →
-            name_in self.new other ≡ name_in self.old other) }
-        ensures numbers { (n : ℕ) → number_in self.new n ≡ number_in self.old n }
-        ensures calls { spec.KeepsCalls self.old self.new }
+    // Returns whether there is room for a name.
+    fn has_room(&self, name: &[u8]) -> bool
+        ensures { result ≡ spec.has_room name.now (stored_in self.now) }
+    {
+        if is_global(name) {
+            self.globals.has_room(name)
+        } else {
+            self.locals.has_room(name)
+        }
+    }
+
+    // Sets a name for which there is room.
+    fn store_name(&mut self, name: &[u8], value: Number) -> Result<(), AllocError>
+        requires { spec.has_room name.now (stored_in self.old) ≡ true }
+        ensures set { OnOk result (stored_in self.new ≡ spec.named name.now value (stored_in self.old)) }
+        ensures refused { OnErr result (stored_in self.new ≡ stored_in self.old) }
     {
         if is_global(name) {
             self.globals.set(self.alloc, name, value)
@@ -118,12 +128,25 @@ impl<A: Allocator + Copy> Parameters<A> {
         }
     }
 
+    /// Sets a name, in upper case, of the current call or of all calls. The errors are a name too many
+    /// and refused memory.
+    pub fn set_named(&mut self, name: &[u8], value: Number) -> Result<(), StoreFault>
+        ensures set { Stores result (stored_in self.new)
+            (spec.with_name name.now value (stored_in self.old)) }
+        ensures refused { OnErr result (stored_in self.new ≡ stored_in self.old) }
+    {
+        if !self.has_room(name) {
+            return Err(StoreFault::TooManyNames);
+        }
+        match self.store_name(name, value) {
+            Ok(()) => Ok(()),
+            Err(_) => Err(StoreFault::Memory),
+        }
+    }
+
     fn make(&mut self, line: &DialectLine, statement: &Statement) -> Result<(), StoreFault>
-        ensures numbers { OnOk result ((n : ℕ) → number_in self.new n
-            ≡ after statement.now n (number_in self.old n)) }
-        ensures names { OnOk result ((name : List ℕ) → name_in self.new name
-            ≡ named_after line.now.text.items statement.now name (name_in self.old name)) }
-        ensures calls { spec.KeepsCalls self.old self.new }
+        ensures { Stores result (stored_in self.new)
+            (spec.set_by line.now.text.items statement.now (stored_in self.old)) }
     {
         match statement {
             Statement::Set(index, value) => {
@@ -138,12 +161,8 @@ impl<A: Allocator + Copy> Parameters<A> {
     /// Makes the settings of a line, from left to right, so that the last setting of a parameter
     /// counts. After a fault only those before it are made.
     pub fn apply(&mut self, line: &DialectLine, values: &LineValues) -> Result<(), StoreFault>
-        ensures numbers { OnOk result ((n : ℕ) → number_in self.new n
-            ≡ after_all values.now.statements.items n (number_in self.old n)) }
-        ensures names { OnOk result ((name : List ℕ) → name_in self.new name
-            ≡ named_after_all line.now.text.items values.now.statements.items name
-            (name_in self.old name)) }
-        ensures calls { spec.KeepsCalls self.old self.new }
+        ensures { Stores result (stored_in self.new)
+            (spec.set_by_all line.now.text.items values.now.statements.items (stored_in self.old)) }
     {
         for statement in values.statements.as_slice() {
             match self.make(line, statement) {
@@ -155,7 +174,7 @@ impl<A: Allocator + Copy> Parameters<A> {
     }
 
     fn saved(&self) -> ArrayVec<Option<Number>, 33>
-        ensures { spec.HasLocals self.now result.items }
+        ensures { HasLocals self.now result.items }
     {
         let mut saved = ArrayVec::new();
         for index in 0..local_count(self.dialect) {
@@ -165,32 +184,19 @@ impl<A: Allocator + Copy> Parameters<A> {
     }
 
     fn set_locals(&mut self, values: &[Option<Number>])
-        ensures numbers { (n : ℕ) → number_in self.new n ≡ (if spec.is_local self.old n
-            then slice_index_or values.now (n - 1) None else number_in self.old n) }
-        ensures names { (name : List ℕ) → name_in self.new name ≡ name_in self.old name }
-        ensures calls { spec.KeepsCalls self.old self.new }
+        ensures { stored_in self.new ≡ spec.with_locals values.now (stored_in self.old) }
     {
         for index in 0..local_count(self.dialect) {
-            let value = if index < values.len() {
-                values[index]
-            } else {
-                None
-            };
-            self.set(index + 1, value);
+            self.set(index + 1, value_at(values, index));
         }
     }
-
     /// Begins a call: the numbered parameters from 1 on that belong to calls (30, or 33 in Fanuc's
     /// dialect) take the values of the arguments, and those without one become unset. Names that
     /// don't begin with `_` are unset.
     pub fn enter(&mut self, arguments: &[Option<Number>]) -> Result<(), StoreFault>
-        ensures numbers { OnOk result ((n : ℕ) → number_in self.new n ≡ (if spec.is_local self.old n
-            then slice_index_or arguments.now (n - 1) None else number_in self.old n)) }
-        ensures names { OnOk result ((name : List ℕ) → name_in self.new name
-            ≡ (if is_global_name name then name_in self.old name else None)) }
-        ensures call { OnOk result (spec.HasCall self.old self.new) }
-        ensures depth { depth_of self.old ≡ 10 → result ≡ Err StoreFault.TooDeep }
-        ensures refused { OnErr result (IsSame self.old self.new) }
+        ensures call { Stores result (stored_in self.new)
+            (spec.called arguments.now (stored_in self.old)) }
+        ensures refused { OnErr result (stored_in self.new ≡ stored_in self.old) }
     {
         if self.calls.len() >= DEPTH {
             return Err(StoreFault::TooDeep);
@@ -214,8 +220,7 @@ impl<A: Allocator + Copy> Parameters<A> {
     /// nothing outside of calls, and returns whether there was a call.
     pub fn leave(&mut self) -> bool
         ensures call { IsTrue result ↔ (0 < depth_of self.old) }
-        ensures restored { IsTrue result → spec.IsRestored self.old self.new }
-        ensures none { depth_of self.old ≡ 0 → IsSame self.old self.new }
+        ensures left { stored_in self.new ≡ spec.left (stored_in self.old) }
     {
         match self.calls.pop() {
             Some(call) => {

@@ -1,7 +1,8 @@
 //! Executes programs of other controls, and compares their commands with those of their plain lines
 //! in our own language. Each line of standard input is a dialect, a colon, a program, ` = ` and its
 //! plain lines; lines are separated by ` | `. The word `mill` after the dialect's name selects a
-//! machine with an origin and a home; without it both are 0. It prints the number of commands, or
+//! machine with an origin and a home; without it both are 0. The word `deleted` leaves out the lines
+//! that begin with `/`. It prints the number of commands, or
 //! the first that differs, or the first fault with its line.
 #![tactic(auto)]
 
@@ -84,11 +85,11 @@ fn print_program(
     rt: &impl Print,
     alloc: Global,
     dialect: Dialect,
-    on_mill: bool,
+    word: &str,
     program: &str,
     plain: &str,
 ) -> io::Result<()> {
-    let (Some(machine), Some(tools)) = (machine_of(alloc, on_mill), tools_of(alloc)) else {
+    let (Some(machine), Some(tools)) = (machine_of(alloc, word == "mill"), tools_of(alloc)) else {
         return println!(rt; "no machine");
     };
     let (Ok(text), Ok(plain)) = (text_of(alloc, program), text_of(alloc, plain)) else {
@@ -100,7 +101,7 @@ fn print_program(
         text.as_str().as_bytes(),
         &machine,
         &tools,
-        false,
+        word == "deleted",
     ) {
         Ok(commands) => commands,
         Err(fault) => return print_fault(rt, alloc, &fault),
@@ -126,12 +127,12 @@ fn main(rt: HostRuntime) -> io::Result<()> {
             Some((program, plain)) => (program, plain),
             None => (rest, "M2"),
         };
-        let (name, on_mill) = match front.split_once(" ") {
-            Some((name, _)) => (name, true),
-            None => (front, false),
+        let (name, word) = match front.split_once(" ") {
+            Some((name, word)) => (name, word),
+            None => (front, ""),
         };
         match dialect_named(name) {
-            Some(dialect) => print_program(&rt, rt.alloc(), dialect, on_mill, program, plain)?,
+            Some(dialect) => print_program(&rt, rt.alloc(), dialect, word, program, plain)?,
             None => println!(rt; "no dialect")?,
         }
     }

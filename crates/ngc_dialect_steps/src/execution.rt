@@ -62,7 +62,7 @@ impl Execution {
         Some(Execution {
             parameters: Parameters::new(alloc, dialect).ok()?,
             table: Table::new(alloc, dialect, lines).ok()?,
-            state: State::new(),
+            state: State::new(0),
             line: DialectLine::empty(),
             values: LineValues::empty(),
         })

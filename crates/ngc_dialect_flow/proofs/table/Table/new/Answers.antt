@@ -1,7 +1,7 @@
 use Rattle.std.proofs.Common.{◌≡◌, ◌+◌, ◌-◌, ◌<◌, ℕ, map, drop, subst, refl, sym, ◌∙◌, arith}
 use Rattle.std.proofs.lemmas.Bool.Decides.{nat_tests}
 use Rattle.ngc_dialect_flow.specs.Places.{lines_in, Covers, dialect_of}
-use Rattle.ngc_dialect_flow.proofs.PassLaws.{covers_next}
+use Rattle.ngc_dialect_flow.proofs.PassLaws.{covers_next, plan_made}
 use Rattle.ngc_dialect_flow.proofs.table.Table.new.Goals as goal
 
 pub loop-index-preserved : goal.loop-index-preserved
@@ -17,3 +17,8 @@ loop-index-preserved g c =
           (subst (λ (n : ℕ). Covers c.loop-index.table (drop n (lines_in c.args.dialect (map (λ x. x.now) c.args.lines.now))) n) (sym one) c.loop-index.invariant.covers)
           c.in-Ok.ensures.covers;
     }
+
+pub returns : goal.returns
+returns g c =
+    plan_made c.loop-index.table c.args.dialect (map (λ x. x.now) c.args.lines.now) c.loop-index.index c.reverse.new.self.items c.loop-index.invariant.dialect
+    c.loop-index-test.false c.loop-index.invariant.covers c.reverse.ensures.items

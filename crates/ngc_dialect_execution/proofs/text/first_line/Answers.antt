@@ -1,5 +1,5 @@
 use Rattle.ngc_dialect_execution.proofs.FirstLine.{before_feed, only_line}
-use Rattle.ngc_dialect_execution.proofs.program.first_line.Goals as goal
+use Rattle.ngc_dialect_execution.proofs.text.first_line.Goals as goal
 
 pub returns-in-Some-clause-lines : goal.returns-in-Some-clause-lines
 returns-in-Some-clause-lines c = before_feed c.args.text.now c.in-Some.end c.in-Some.ensures

@@ -1,0 +1,51 @@
+use Rattle.std.proofs.Common.{sym, ◌∙◌, arith}
+use Rattle.ngc_canonical.specs.Interpreter.{setup_of}
+use Rattle.ngc_dialect_flow.specs.Places.{plan_of}
+use Rattle.ngc_dialect_flow.specs.State.{flow_of}
+use Rattle.ngc_dialect_execution.specs.Views.{progress_in}
+use Rattle.ngc_dialect_execution.proofs.FlowSteps.{flow_ends, flow_goes_on, flow_refused, fuel_less, goes_here, over_here, program_with, spent_here}
+use Rattle.ngc_dialect_execution.proofs.TextSteps.{said_as}
+use Rattle.ngc_dialect_execution.proofs.flow.run_lines.Goals as goal
+
+pub returns-then-not-has_fuel : goal.returns-then-not-has_fuel
+returns-then-not-has_fuel g c =
+    spent_here (λ x. x.now) (setup_of c.args.machine.now c.args.tools.now) c.args.block_delete (plan_of c.args.table.now) c.args.lines.now c.args.last
+    (record { progress = progress_in c.loop-state.interpreter; flow = flow_of c.loop-state.state }) c.line-index.result c.line.result c.number_of-line.result
+    c.has_fuel.result _ c.line.ensures c.line-index.ensures c.loop-state-test.true c.has_fuel.ensures c.if-not-has_fuel.true
+    c.number_of-line.ensures c.loop-state.invariant
+
+pub returns-then-is_end : goal.returns-then-is_end
+returns-then-is_end g c =
+    said_as (λ v. v.items) c.finish.result _ _
+    (flow_ends (setup_of c.args.machine.now c.args.tools.now) c.args.block_delete (plan_of c.args.table.now) (program_with (λ x. x.now) (plan_of c.args.table.now) c.args.lines.now c.args.last) _ c.number_of-line.result (record { progress = progress_in c.loop-state.interpreter; flow = flow_of c.loop-state.state }) (record { progress = progress_in c.take_flow_line.new.self; flow = flow_of c.take_flow_line.new.state }) _ _ c.in-Ok.effect
+    (goes_here (λ x. x.now) (setup_of c.args.machine.now c.args.tools.now) c.args.block_delete (plan_of c.args.table.now) c.args.lines.now c.args.last
+    (record { progress = progress_in c.loop-state.interpreter; flow = flow_of c.loop-state.state }) _ c.line-index.result c.line.result c.number_of-line.result
+    c.has_fuel.result _ c.line.ensures c.line-index.ensures c.loop-state-test.true c.has_fuel.ensures c.if-not-has_fuel.false c.number_of-line.ensures c.loop-state.invariant) c.in-Ok.ensures (sym c.is_end.ensures ∙ c.if-is_end.true))
+    c.finish.ensures
+
+pub loop-state-smaller : goal.loop-state-smaller
+loop-state-smaller g c =
+    let less = fuel_less (setup_of c.args.machine.now c.args.tools.now) c.args.block_delete (plan_of c.args.table.now) c.number_of-line.result (record { progress = progress_in c.loop-state.interpreter; flow = flow_of c.loop-state.state }) (record { progress = progress_in c.take_flow_line.new.self; flow = flow_of c.take_flow_line.new.state }) _ c.in-Ok.effect c.in-Ok.ensures
+    (sym c.is_end.ensures ∙ c.if-is_end.false) in
+    omega (arith, less)
+
+pub loop-state-preserved : goal.loop-state-preserved
+loop-state-preserved g c =
+    flow_goes_on (setup_of c.args.machine.now c.args.tools.now) c.args.block_delete (plan_of c.args.table.now) (program_with (λ x. x.now) (plan_of c.args.table.now) c.args.lines.now c.args.last) c.number_of-line.result (record { progress = progress_in c.loop-state.interpreter; flow = flow_of c.loop-state.state }) (record { progress = progress_in c.take_flow_line.new.self; flow = flow_of c.take_flow_line.new.state }) _ _ c.in-Ok.effect
+    (goes_here (λ x. x.now) (setup_of c.args.machine.now c.args.tools.now) c.args.block_delete (plan_of c.args.table.now) c.args.lines.now c.args.last
+    (record { progress = progress_in c.loop-state.interpreter; flow = flow_of c.loop-state.state }) _ c.line-index.result c.line.result c.number_of-line.result
+    c.has_fuel.result _ c.line.ensures c.line-index.ensures c.loop-state-test.true c.has_fuel.ensures c.if-not-has_fuel.false c.number_of-line.ensures c.loop-state.invariant) c.in-Ok.ensures (sym c.is_end.ensures ∙ c.if-is_end.false)
+
+pub returns-in-Err : goal.returns-in-Err
+returns-in-Err g c =
+    flow_refused (setup_of c.args.machine.now c.args.tools.now) c.args.block_delete (plan_of c.args.table.now) (program_with (λ x. x.now) (plan_of c.args.table.now) c.args.lines.now c.args.last) _ c.number_of-line.result (record { progress = progress_in c.loop-state.interpreter; flow = flow_of c.loop-state.state }) _ _ (λ x. (x, record { progress = progress_in c.take_flow_line.new.self; flow = flow_of c.take_flow_line.new.state })) c.in-Err.refusal
+    c.at_line.result (goes_here (λ x. x.now) (setup_of c.args.machine.now c.args.tools.now) c.args.block_delete (plan_of c.args.table.now) c.args.lines.now c.args.last
+    (record { progress = progress_in c.loop-state.interpreter; flow = flow_of c.loop-state.state }) _ c.line-index.result c.line.result c.number_of-line.result
+    c.has_fuel.result _ c.line.ensures c.line-index.ensures c.loop-state-test.true c.has_fuel.ensures c.if-not-has_fuel.false c.number_of-line.ensures c.loop-state.invariant) c.at_line.ensures c.in-Err.ensures
+
+pub returns : goal.returns
+returns g c =
+    said_as (λ v. v.items) c.finish-2.result _ _
+    (over_here (λ x. x.now) (setup_of c.args.machine.now c.args.tools.now) c.args.block_delete (plan_of c.args.table.now) c.args.lines.now c.args.last
+    (record { progress = progress_in c.loop-state.interpreter; flow = flow_of c.loop-state.state }) c.line.result _ c.line.ensures c.loop-state-test.false c.loop-state.invariant)
+    c.finish-2.ensures

@@ -1,0 +1,126 @@
+//! What a line that was read does.
+ghost use Rattle.std.specs.Prelude.{◌≡◌, IfOk};
+ghost use Rattle.ngc_machine_files.specs.Machine.{file_of};
+ghost use Rattle.ngc_canonical.specs.Interpreter.{setup_of};
+ghost use Rattle.ngc_dialect_flow.specs.Places.{plan_of};
+ghost use Rattle.ngc_dialect_flow.specs.State.{flow_of};
+ghost use Rattle.ngc_dialect_execution.specs.Faults.{Says};
+ghost use Rattle.ngc_dialect_execution.specs.Flow as flow;
+ghost use Rattle.ngc_dialect_execution.specs.Taken as spec;
+ghost use Rattle.ngc_dialect_execution.specs.Views.{progress_of, said_in};
+
+use crate::fault::{Cause, Refusal, stored};
+use crate::words::WordInterpreter;
+use ngc_canonical::{Machine, Tools};
+use ngc_dialect_flow::{Effect, State, Table, leave_with};
+use ngc_dialect_parameters::{LineValues, Parameters, Word};
+use ngc_dialect_reader::{Dialect, DialectLine};
+use std::alloc::{AllocError, Allocator};
+
+/// What is known between two lines: what the words did, and the parameters.
+#[derive(Drop)]
+pub(crate) struct Execution<A: Allocator> {
+    pub(crate) words: WordInterpreter<A>,
+    pub(crate) parameters: Parameters<A>,
+}
+
+impl<A: Allocator + Copy> Execution<A> {
+    /// Returns what is known before the first line. No parameter is set.
+    pub(crate) fn new(
+        alloc: A,
+        dialect: Dialect,
+        machine: &Machine<A>,
+    ) -> Result<Execution<A>, AllocError>
+        ensures { IfOk result (λ e. progress_of e ≡ spec.start_progress dialect (file_of machine.now)) }
+    {
+        let Ok(words) = WordInterpreter::new(alloc, dialect, machine) else {
+            return Err(AllocError);
+        };
+        let Ok(parameters) = Parameters::new(alloc, dialect) else {
+            return Err(AllocError);
+        };
+        Ok(Execution { words, parameters })
+    }
+
+    /// Makes the settings of a line, and executes its words.
+    #[tactic(auto, unfolding(crate::specs::Taken::done_at))]
+    pub(crate) fn take(
+        &mut self,
+        machine: &Machine<A>,
+        tools: &Tools<A>,
+        number: u32,
+        line: &DialectLine,
+        values: &LineValues,
+        words: &[Word],
+    ) -> Result<(), Refusal>
+        ensures { Says (λ _. progress_of self.new) result (spec.done_at
+            (setup_of machine.now tools.now) number line.now.text.items
+            values.now.statements.items words.now (progress_of self.old)) }
+    {
+        match stored(self.parameters.apply(line, values)) {
+            Ok(()) => {}
+            Err(refusal) => return Err(refusal),
+        }
+        self.words.take_words(machine, tools, number, words)
+    }
+
+    // Begins or ends a call.
+    fn take_effect(&mut self, effect: &Effect, values: &LineValues) -> Result<(), Refusal>
+        ensures { Says (λ _. progress_of self.new) result (flow.effect_taken effect.now
+            values.now.arguments.items (progress_of self.old)) }
+    {
+        match effect {
+            Effect::Stay | Effect::End => Ok(()),
+            Effect::Enter => stored(self.parameters.enter(values.arguments.as_slice())),
+            Effect::Return(value) => stored(leave_with(&mut self.parameters, *value)),
+        }
+    }
+
+    // Begins or ends a call, and returns the effect.
+    fn take_step(&mut self, effect: Effect, values: &LineValues) -> Result<Effect, Refusal>
+        ensures { Says (λ e. (e, progress_of self.new)) result (flow.effect_done effect
+            values.now.arguments.items (progress_of self.old)) }
+    {
+        match self.take_effect(&effect, values) {
+            Ok(()) => Ok(effect),
+            Err(refusal) => Err(refusal),
+        }
+    }
+
+    // Goes on after a line that took effect.
+    #[tactic(auto, unfolding(crate::specs::Flow::stepped))]
+    fn step(
+        &mut self,
+        table: &Table<A>,
+        state: &mut State,
+        line: &DialectLine,
+        values: &LineValues,
+    ) -> Result<Effect, Refusal>
+        ensures { Says (λ effect. (effect, record { progress = progress_of self.new; flow = flow_of state.new }))
+            result (flow.stepped (plan_of table.now) line.now.text.items (said_in values.now)
+            (flow_of state.old) (progress_of self.old)) }
+    {
+        match state.next(table, line, values) {
+            Ok(effect) => self.take_step(effect, values),
+            Err(cause) => Err(Refusal::Because(Cause::Flow(cause))),
+        }
+    }
+
+    /// Goes on after a line that took effect, unless that has ended the program.
+    pub(crate) fn turn(
+        &mut self,
+        table: &Table<A>,
+        state: &mut State,
+        line: &DialectLine,
+        values: &LineValues,
+    ) -> Result<Effect, Refusal>
+        ensures { Says (λ effect. (effect, record { progress = progress_of self.new; flow = flow_of state.new }))
+            result (flow.turned (plan_of table.now) line.now.text.items (said_in values.now)
+            (flow_of state.old) (progress_of self.old)) }
+    {
+        if self.words.is_ended() {
+            return Ok(Effect::End);
+        }
+        self.step(table, state, line, values)
+    }
+}
