@@ -187,6 +187,13 @@ def verdicts(checks, page):
     row = page.value("[...document.querySelectorAll('#report table')].find(it => it.caption.textContent === 'Figures of each tool').tBodies[0].rows[0].textContent")
     checks.has("the report has each tool's figures", row, "T3", f"{drill['feeds'][0] // 10**6} to {drill['feeds'][1] // 10**6} mm/min", f"{drill['plunge'] // 10**6} mm", str(drill["holes"]), "2:04")
     # 1,244,684 ticks of 10,000 a second are 2 minutes and 4 seconds.
+    # Tool 3 feeds in line 9 by the offset of tool 2, which G43 set in line 4.
+    page.give({"offset.ngc": "G21 G90 G17 G54\nT2 M6\nS2000 M3\nG43 H2\nG0 Z20\nT3 M6\nS2000 M3\nG0 X20 Y30\nG1 Z5 F100\nG0 Z20\nM2\n"})
+    lowest = "[...document.querySelectorAll('{} tr')].filter(it => it.closest('table').caption.textContent.startsWith('Lowest')).map(it => [...it.cells].map(cell => cell.textContent).join()).join(' ')"
+    checks.has("a lowest height by the offset of another tool says whose", page.value(lowest.format("#report")), "G54,T2,20 mm,5", "G54,T3, by the offset of tool 2,5 mm,9")
+    page.value("ngc.parts.setupSheet.build(); 0")
+    checks.has("on the setup sheet too", page.value(lowest.format("#sheet")), "G54,T2,20,5", "G54,T3, by the offset of tool 2,5,9")
+    page.example("slot.ngc")
 
 
 def block_delete(checks, page):

@@ -20,6 +20,8 @@ export const toolRows = (group, scene, unit) => group.uses.map((use, at) => {
   return [toolName(use), tool ? `\u00d8 ${length(tool.parts[0].radius * 2e6, unit)}` : '', time ? duration(time.seconds) : '', length(use.feed_way, unit), length(use.traverse_way, unit), count(use.arcs),
     use.nearest_fixture === null ? '' : `${fixtureName(use.nearest_fixture, use.fixture_name)}, ${length(use.distance, unit)}`];
 });
+// The tool of a lowest height. If another tool's length offset is in force, the height isn't that of the mounted tool's tip.
+export const lowestTool = ({ tool, offset_of: other = null }) => `${tool === null ? 'none' : `T${tool}`}${other === null ? '' : `, by the offset of tool ${other}`}`;
 // The figures of each tool that feeds: what a machinist compares with the tool's data.
 export const figureRows = (group, unit) => group.figures.map(it => {
   const range = (pair, show) => (pair === null ? null : pair[0] === pair[1] ? show(pair[0]) : `${show(pair[0])} to ${show(pair[1])}`);
@@ -57,7 +59,7 @@ export function makeReport(store, actions) {
     ];
   }
   function lowestTable(group, unit) {
-    return table('Lowest', ['System', 'Tool', 'Z', 'Line'], group.lowest.map(it => [it.system, it.tool === null ? 'none' : `T${it.tool}`, length(it.z, unit), link(String(it.line), () => actions.goTo(it.line, 'verdict'))]));
+    return table('Lowest', ['System', 'Tool', 'Z', 'Line'], group.lowest.map(it => [it.system, lowestTool(it), length(it.z, unit), link(String(it.line), () => actions.goTo(it.line, 'verdict'))]));
   }
   store.watch(state => [current(state, 'report'), current(state, 'every'), isRunning(state, 'every'), failureOf(state, 'every'), groupNow(state), everyNow(state), sceneNow(state), state.unit], (report, everyValue, isWaiting, failure, group, every, scene, unit) => {
     if (!report) return fill(out, h('p', { class: 'quiet' }, 'Checking\u2026'));

@@ -5,7 +5,7 @@ import { groupNow, pathNow, sceneNow } from '../core/shown.js';
 import { verdictOf } from '../core/sentences.js';
 import { duration, inUnit, plural } from '../core/units.js';
 import { fill, h, id, table } from './dom.js';
-import { FIGURE_HEADS, TOOL_HEADS, figureRows, toolRows } from './report.js';
+import { FIGURE_HEADS, TOOL_HEADS, figureRows, lowestTool, toolRows } from './report.js';
 
 // What fits on one page.
 const MOST = { fixtures: 8, tools: 7, uses: 7, figures: 7, lowest: 4, warnings: 4 };
@@ -30,7 +30,7 @@ export function makeSetupSheet(store, picture) {
       h('div', {},
         firstRows(`Zero, ${unit}`, ['System', 'X', 'Y', 'Z'], systems.map(it => [it, ...(scene.origins[it] ?? [0, 0, 0]).map(at)]), MOST.lowest),
         firstRows(`Travel, ${unit}`, ['Axis', 'From', 'To', 'Left below', 'Left above'], (group?.extents ?? []).map(it => [it.axis, at(it.low / 1e6), at(it.high / 1e6), at(it.left_below / 1e6), at(it.left_above / 1e6)]), 3),
-        firstRows(`Lowest, ${unit}`, ['System', 'Tool', 'Z', 'Line'], (group?.lowest ?? []).map(it => [it.system, it.tool === null ? 'none' : `T${it.tool}`, at(it.z / 1e6), String(it.line)]), MOST.lowest)),
+        firstRows(`Lowest, ${unit}`, ['System', 'Tool', 'Z', 'Line'], (group?.lowest ?? []).map(it => [it.system, lowestTool(it), at(it.z / 1e6), String(it.line)]), MOST.lowest)),
       h('div', {}, firstRows(`Fixtures, ${unit}, machine coordinates`, ['Fixture', 'X', 'Y', 'Top Z'], scene.fixtures.map(it => [it.name || `fixture ${it.number}`, span(it, 0), span(it, 1), at(it.high[2])]), MOST.fixtures)));
   }
   function build() {
