@@ -527,8 +527,22 @@ def machine_and_zero(checks, page):
     checks.equal("figures make a machine file", page.value("ngc.store.state.files.machine.name"), "300x180x45.toml")
     scene = page.value("(it => [it.high[0] - it.low[0], it.high[1] - it.low[1], it.high[2] - it.low[2], it.step, it.rates.speeds.map(at => Math.round(at * 60))])(ngc.sceneNow(ngc.store.state))")
     checks.equal("with their travel, step and speeds", scene, [300, 180, 45, 0.01, [1000, 1000, 600]])
+    given = ["--steps-per-mm", "100", "--travel", "300,180,45", "--feed", "1000,1000,600", "--acceleration", "30,30,30"]
+    text = "new TextDecoder().decode(ngc.store.state.files.machine.bytes)"
+    checks.equal("its bytes are those of `ngc machine`", page.value(text), page.native("machine", *given, files=()).stdout.decode())
+    page.value(f"{figures}.corner.value = '3'; {figures}.jump.value = '4,5'; {figures}.ring.value = '512'; {figures}.frame.value = 'high'; document.querySelector('#figures button').click(); 0")
+    page.wait(f"{text}.includes('ring = 512')")
+    page.settle()
+    checks.equal("so they are with a speed at corners, a jump, a ring and the other zero", page.value(text), page.native("machine", *given, "--corner", "3", "--jump", "4.5", "--ring", "512", "--frame", "high", files=()).stdout.decode())
+    page.forget_notices()
+    page.value(f"{figures}.jump.value = 'two'; document.querySelector('#figures button').click(); 0")
+    checks.has("a jump that is no number is refused with a reason", page.notices, "numbers above 0, or empty")
+    page.value(f"{figures}.jump.value = ''; {figures}.ring.value = '8'; document.querySelector('#figures button').click(); 0")
+    page.wait("document.getElementById('notices').textContent.includes('No machine file was made')")
+    checks.has("a ring that is too small is refused by `ngc machine`", page.notices, "No machine file was made of these figures. the ring is not from 16 to 1024 commands")
+    page.value("document.getElementById('figures').reset(); 0")
     page.example("low_slot.ngc")
-    page.do("ngc.actions.tab('place'); document.getElementById('origin-Z').value = '-65'; document.querySelector('#origin-form button').click()")
+    page.do("ngc.files.useExampleMachine(); ngc.actions.tab('place'); document.getElementById('origin-Z').value = '-65'; document.querySelector('#origin-form button').click()")
     checks.begins("the program fits at a zero that is 5 mm higher", page.title, "Fits")
     checks.equal("the picture has it too", page.value("ngc.sceneNow(ngc.store.state).origins.G54"), [50, 60, -65])
     checks.has("the strip says that the zero was moved", page.value("document.querySelector('.chip-machine .about').textContent"), "G54 moved")
@@ -552,6 +566,35 @@ def machine_and_zero(checks, page):
     page.value("new Promise(done => { ngc.actions.place(); const look = () => { if (ngc.jobs.isBusy('place') && !document.getElementById('stop-place').hidden) { document.getElementById('stop-place').click(); done(0); } else setTimeout(look, 0); }; look(); })")
     page.settle()
     checks.equal("trying shifts can be stopped", page.text("place"), "Stopped: the shifts are not known.")
+    page.example("slot.ngc")
+
+
+def cuts(checks, page):
+    page.open()
+    # The line passes the corner of the left clamp at X 30, Y 80 by 1.4 mm. Its box, and each eighth of it, has the corner inside.
+    slanted = "G21 G53 G0 X0 Y108\nG53 Z-70\nG53 X107 Y1\nM2\n"
+    page.give({"slanted.ngc": slanted})
+    (page.folder / "slanted.ngc").write_text(slanted)
+    files = (page.folder / "slanted.ngc", "named_mill.toml", "tools.toml")
+    click = "[...document.querySelectorAll('#verdict-actions button')].find(it => it.textContent === '{}').click()"
+    facts, about = "JSON.stringify(ngc.current(ngc.store.state, 'report').facts)", "document.querySelector('.chip-machine .about').textContent"
+    checks.begins("a slanted line whose box has a clamp's corner inside doesn't fit with 8 cuts", page.title, "Line 3 hits the left clamp")
+    page.do(click.format("Check with 64 cuts"))
+    checks.begins("and fits with 64", page.title, "Fits")
+    checks.equal("the facts are those of `ngc report --cuts 64`", page.value(facts), facts_of(page.native("report", "--json", "--cuts", "64", files=files).stdout))
+    checks.has("the strip says so", page.value(about), "64 cuts")
+    page.value("document.querySelector('[data-save=certificate]').click(); 0")
+    made = page.native("certify", "--format", "2", "--cuts", "64", files=files).stdout
+    checks.equal("the certificate is that of `ngc certify --cuts 64`", saved_file(page, "document.querySelector('[data-save=certificate]').click()", "slanted.cert", len(made)), made)
+    page.do(click.format("Back to 8 cuts"))
+    checks.begins("8 cuts can be taken again", page.title, "Line 3 hits the left clamp")
+    page.do("ngc.actions.setCuts(64)")
+    page.edit(3, "G53 X107 Y2")
+    page.settle()
+    checks.equal("an edit keeps them", page.value("ngc.store.state.cuts"), 64)
+    page.example("low_slot.ngc")
+    checks.equal("another program has 8 cuts again", page.value("ngc.store.state.cuts"), None)
+    checks.expect("a motion along one axis has no button for more cuts", "cuts" not in page.text("verdict-actions"), page.text("verdict-actions"))
     page.example("slot.ngc")
 
 
@@ -676,7 +719,10 @@ SAVES = {
     "report": (".report.txt", ["report"], False), "every": (".report.all.txt", ["report", "--all"], False), "json": (".report.json", ["report", "--json"], False),
     "every_json": (".report.all.json", ["report", "--all", "--json"], False), "drawing": (".iso.svg", ["draw", "--view", "iso"], True), "list": (".list.txt", ["list"], True),
     "certificate": (".cert", ["certify", "--format", "2"], False), "certificate_1": (".1.cert", ["certify", "--format", "1"], False), "sheet": (".setup.txt", ["show"], False),
+    "drawing_bodies": (".iso.bodies.svg", ["draw", "--view", "iso", "--bodies"], True), "drawing_whole": (".iso.whole.svg", ["draw", "--view", "iso", "--whole"], True),
+    "sheet_warnings": (".warnings.txt", ["show", "--warnings"], False),
 }
+SHEETS = ("sheet", "sheet_warnings")
 
 
 def saved_file(page, again, name, size=None):
@@ -695,8 +741,8 @@ def save_each(checks, page, name, more=(), always=()):
     files = (name, "named_mill.toml", "tools.toml")
     for key, (end, words, has_delete) in SAVES.items():
         page.forget_notices()
-        more_words = [*(more if has_delete else ()), *(always if key not in ("sheet", "list") else ())]
-        made = page.native(*words, *more_words, files=(None, *files[1:]) if key == "sheet" else files)
+        more_words = [*(more if has_delete else ()), *(always if key not in (*SHEETS, "list") else ())]
+        made = page.native(*words, *more_words, files=(None, *files[1:]) if key in SHEETS else files)
         click = f"document.querySelector('[data-save={key}]').click()"
         page.value(f"{click}; 0")
         page.wait("document.getElementById('notices').textContent !== ''")
@@ -1100,7 +1146,7 @@ def quiet(checks, page):
 
 
 PICTURED = ("picture_and_player", "paper", "access", "keyboard", "phone", "quiet")
-GROUPS = {it.__name__: it for it in (verdicts, block_delete, editing, races, file_kinds, machine_and_zero, margins, save, picture_and_player, search, paper, keeping, hostile, stopped_workers, ended_memory, traps, unable, access, keyboard, contrast, phone, quiet)}
+GROUPS = {it.__name__: it for it in (verdicts, block_delete, editing, races, file_kinds, machine_and_zero, cuts, margins, save, picture_and_player, search, paper, keeping, hostile, stopped_workers, ended_memory, traps, unable, access, keyboard, contrast, phone, quiet)}
 
 
 def take_pictures(page, folder):

@@ -20,7 +20,7 @@ import { makeZero } from './view/zero.js';
 import { makeChecks } from './checks.js';
 import { makeFiles } from './files.js';
 import { makeSaving } from './saving.js';
-import { settingsOf, withFixture, withoutFixture } from './machine_text.js';
+import { withFixture, withoutFixture, wordsOfFigures } from './machine_text.js';
 
 const HEAD = 4000;                               // bytes of a program that are searched for its control
 const NOTICE_TIME = 10_000, ACTION_TIME = 30_000; // ms that a notice stays
@@ -42,7 +42,7 @@ const set = values => store.dispatch({ type: 'set', values });
 // ---- what the views may do
 
 const actions = {
-  notice, edited: files.edited, makeMachine: files.makeMachine, example: files.useExample, exampleMachine: files.useExampleMachine, save: saving.save,
+  notice, edited: files.edited, example: files.useExample, exampleMachine: files.useExampleMachine, save: saving.save,
   tab: tab => set({ tab }),
   goTo(line, from) { actions.tab('program'); store.dispatch({ type: 'line', line, from }); },
   seek(time) {
@@ -56,6 +56,7 @@ const actions = {
   setBlockDelete(blockDelete) { set({ blockDelete, time: null, isPlaying: false }); },
   setOrigins(origins) { set({ origins }); },
   setDemands(demands) { set({ demands }); },
+  setCuts(cuts) { set({ cuts }); },
   place() { checks.place(parts.zero.system()); },
   async explain(number) {
     const out = id('explained');
@@ -65,7 +66,7 @@ const actions = {
   forgetCertificate() { store.dispatch({ type: 'file', kind: 'certificate', file: null }); },
   addFixture(fixture) { files.changeMachine(text => withFixture(text, fixture), 'The fixture is in the machine file in use.'); },
   removeFixture(number) { files.changeMachine(text => withoutFixture(text, number), 'The fixture is no longer in the machine file in use.'); },
-  makeMachineOfFigures(figures) { files.makeMachine([encoder.encode(settingsOf(figures))], `${figures.travel.map(Math.round).join('x')}.figures`); },
+  makeMachineOfFigures(figures) { files.makeMachineOfFigures(wordsOfFigures(figures), `${figures.travel.map(Math.round).join('x')}.toml`); },
   async adapt() {
     id('control').value = String(controlOf(await store.state.files.program.blob().slice(0, HEAD).text()));
     fill(id('adapt-notes'));

@@ -83,9 +83,11 @@ export function makeFiles(store, getJobs, notice) {
     const mine = ++batches, mark = (name, bytes, verdict) => store.dispatch({ type: 'set', values: { programs: store.state.programs.map(it => (it.bytes === bytes && it.name === name ? { ...it, verdict } : it)) } });
     // A verdict for another machine is older than the files in use.
     store.dispatch({ type: 'set', values: { programs: store.state.programs.map(it => ({ ...it, verdict: undefined })) } });
+    // More cuts were asked for one program.
+    const changes = changesOf({ ...store.state, cuts: null });
     for (const { name, bytes, blob } of store.state.programs.slice(0, MOST_CHECKED)) {
       let verdict = 'failed';
-      try { verdict = (await getJobs().run('batch', 'batch', 'fits', { program: blob, changes: changesOf(store.state) })).fits ? 'fits' : 'refused'; } catch { /* It has no verdict. */ }
+      try { verdict = (await getJobs().run('batch', 'batch', 'fits', { program: blob, changes })).fits ? 'fits' : 'refused'; } catch { /* It has no verdict. */ }
       if (mine !== batches) return;
       mark(name, bytes, verdict);
     }
@@ -94,10 +96,11 @@ export function makeFiles(store, getJobs, notice) {
   // ---- machine files that are made here
 
   // Makes a machine file of a dump of GRBL's settings. Nothing is used if a later drop came first.
-  async function makeMachine(given, from, isLatest = () => true) {
-    const name = `${from.replace(/\.[^.]*$/, '')}.toml`;
+  const makeMachine = (given, from, isLatest) => useMachineMade('output', { name: 'ngc_machine', given }, from, `${from.replace(/\.[^.]*$/, '')}.toml`, isLatest);
+  const makeMachineOfFigures = (words, name) => useMachineMade('command', { words, given: {} }, 'these figures', name);
+  async function useMachineMade(job, options, from, name, isLatest = () => true) {
     try {
-      const made = await getJobs().run('side', 'machine', 'output', { name: 'ngc_machine', given });
+      const made = await getJobs().run('side', 'machine', job, options);
       const notes = `${made.text.trim()}${made.isCut ? ' .. (the notes are longer, and end here)' : ''}`;
       if (!isLatest()) return;
       if (made.status || !made.output.length) return notice(`No machine file was made of ${from}. ${notes}`, 'bad');
@@ -106,11 +109,11 @@ export function makeFiles(store, getJobs, notice) {
       store.dispatch({ type: 'set', values: { tab: 'shop' } });
     } catch (failure) { notice(`No machine file was made of ${from}. ${sentenceOfFailure(failure)}`, 'bad'); }
   }
-  // Takes another text of the same machine, and keeps the zeros and margins of this check.
+  // Takes another text of the same machine, and keeps the zeros, margins and cuts of this check.
   function keepingChanges(act) {
-    const { origins, demands } = store.state;
+    const { origins, demands, cuts } = store.state;
     act();
-    store.dispatch({ type: 'set', values: { origins, demands } });
+    store.dispatch({ type: 'set', values: { origins, demands, cuts } });
   }
   function changeMachine(change, sentence) {
     const { machine } = store.state.files, bytes = new TextEncoder().encode(change(new TextDecoder().decode(machine.bytes)));
@@ -122,7 +125,7 @@ export function makeFiles(store, getJobs, notice) {
 
   // An example is as its file says: without the zeros and margins that were tried before.
   function useExampleMachine() {
-    store.dispatch({ type: 'set', values: { origins: {}, demands: NO_DEMANDS } });
+    store.dispatch({ type: 'set', values: { origins: {}, demands: NO_DEMANDS, cuts: null } });
     for (const [kind, name] of Object.entries(EXAMPLE_MACHINE)) {
       const file = store.state.files[kind];
       if (file?.source !== 'example') use(kind, name, exampleBytes(name), 'example');
@@ -152,7 +155,7 @@ export function makeFiles(store, getJobs, notice) {
     // All dropped programs are checked again on another machine, and with other zeros and margins.
     store.watch(state => [state.files.machine, state.files.tools, state.origins, state.demands], () => { if (store.state.programs.length) checkPrograms(); });
   }
-  return { use, putBack, edited, take, makeMachine, changeMachine, useExample, useExampleMachine, start };
+  return { use, putBack, edited, take, makeMachine, makeMachineOfFigures, changeMachine, useExample, useExampleMachine, start };
 }
 
 export function download(name, blob) {

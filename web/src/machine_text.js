@@ -1,4 +1,4 @@
-// Changes of a machine file's text, and GRBL settings from figures.
+// Changes of a machine file's text, and the command line that makes one of figures.
 
 const HEAD = /^[ \t]*\[\[[ \t]*fixture[ \t]*\]\].*$/gm;
 const row = corner => `[${corner.join(', ')}]`;
@@ -17,8 +17,9 @@ export function withoutFixture(text, number) {
   return text.slice(0, head.index) + (end < 0 ? '' : rest.slice(end));
 }
 
-// Figures as the settings of GRBL that mean the same, since the module makes machine files of these only.
-export function settingsOf({ steps, travel, feed, acceleration, isHigh }) {
-  const axes = [0, 1, 2].flatMap(axis => [[100, steps], [110, feed[axis]], [120, acceleration[axis]], [130, travel[axis]]].map(([number, value]) => `$${number + axis}=${value.toFixed(3)}`));
-  return ['$22=1', `$23=${isHigh ? 0 : 3}`, '$27=0.000', ...axes.sort(), 'ok', ''].join('\n');
-}
+const number = value => String(Math.round(value * 1000) / 1000);
+const option = (name, value) => (value === null ? [] : [`--${name}=${[value].flat().map(number).join(',')}`]);
+
+// The words of `ngc machine` for these figures. What is null is as the program chooses.
+export const wordsOfFigures = ({ steps, travel, feed, acceleration, corner, jump, ring, isHigh }) => ['machine', ...option('steps-per-mm', steps), ...option('travel', travel), ...option('feed', feed),
+  ...option('acceleration', acceleration), ...option('corner', corner), ...option('jump', jump), ...option('ring', ring), ...(isHigh ? ['--frame=high'] : [])];

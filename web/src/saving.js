@@ -22,11 +22,14 @@ const outputs = state => {
     json: ['.report.json', ['report', '--json']],
     every_json: ['.report.all.json', ['report', '--all', '--json']],
     drawing: [`.${DRAWINGS[state.drawing]}.svg`, wordsOfDrawing(state), 2],
+    drawing_bodies: [`.${DRAWINGS[state.drawing]}.bodies.svg`, [...wordsOfDrawing(state), '--bodies'], 4],
+    drawing_whole: [`.${DRAWINGS[state.drawing]}.whole.svg`, [...wordsOfDrawing(state), '--whole'], 2],
     list: ['.list.txt', ['list', ...off], 5],
     certificate: ['.cert', ['certify', '--format=2'], 4],
     certificate_1: ['.1.cert', ['certify', '--format=1'], 8],
     pulses: ['.vcd', ['pulses', ...off], 1, 'pulses'],
-    sheet: ['.setup.txt', [], 1, 'sheet'],
+    sheet: ['.setup.txt', ['show'], 1, 'sheet'],
+    sheet_warnings: ['.warnings.txt', ['show', '--warnings'], 1, 'sheet'],
   };
 };
 

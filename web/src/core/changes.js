@@ -1,4 +1,4 @@
-// What a check replaces in the machine file: zeros, margins and the way of rapids. Lengths are nanometres.
+// What a check replaces in the machine file: zeros, margins and the way of rapids; and its cuts. Lengths are nanometres.
 
 import { AXES } from './systems.js';
 import { inUnit } from './units.js';
@@ -6,19 +6,22 @@ import { inUnit } from './units.js';
 // A margin or a way that is null is as the machine file says.
 export const NO_DEMANDS = { margin: null, travelMargin: null, rapids: null };
 export const MOST_MARGIN = 100e6;
+// How many pieces a motion is cut into at most: without another number, and where the page stops asking for more.
+export const CUTS = 8;
+export const MOST_CUTS = 4096;
 const WAYS = ['straight', 'free'];
 
 export const hasDemands = demands => Object.values(demands).some(it => it !== null);
-export const changesOf = ({ origins, demands }) => ({ origins, ...demands });
+export const changesOf = ({ origins, demands, cuts }) => ({ origins, ...demands, cuts });
 
 const millimetres = nm => inUnit(nm / 1e6, 'mm');
 const option = (name, value) => (value === null ? [] : [`--${name}=${value}`]);
 const length = (name, nm) => option(name, nm === null ? null : millimetres(nm));
 
 // The same as options of a command line. `origins` is a map from a system to its X, Y and Z.
-export const optionsOf = ({ origins = {}, margin = null, travelMargin = null, rapids = null }) => [
+export const optionsOf = ({ origins = {}, margin = null, travelMargin = null, rapids = null, cuts = null }) => [
   ...Object.entries(origins).map(([system, at]) => `--origin=${system.slice(1)}=${AXES.map((_, axis) => millimetres(Math.round(at[axis]))).join(',')}`),
-  ...length('margin', margin), ...length('travel-margin', travelMargin), ...option('rapids', rapids),
+  ...length('margin', margin), ...length('travel-margin', travelMargin), ...option('rapids', rapids), ...option('cuts', cuts),
 ];
 
 export const isMargin = nm => Number.isInteger(nm) && nm >= 0 && nm <= MOST_MARGIN;

@@ -48,6 +48,10 @@ function travelSentence(who, { obstacle, clear }, unit, kept) {
   return { title: `${who} ${note}: ${remedy}.`, note, detail: '' };
 }
 
+// Whether the whole motion is judged, and a part of it may be clear: too close to tell, or a slanted one whose box meets a fixture.
+export const moreCutsMayHelp = ({ command, obstacle }) => command.fact === 'command'
+  && (!['fixture', 'travel'].includes(obstacle?.kind) || (obstacle.kind === 'fixture' && command.from.filter((it, axis) => it !== command.to[axis]).length > 1));
+
 // What is in the way of one command: the sentence, the short note beside the line, and a detail.
 export function obstacleSentence(entry, unit, kept) {
   const { command, obstacle } = entry;
@@ -57,7 +61,7 @@ export function obstacleSentence(entry, unit, kept) {
   if (obstacle?.kind === 'fixture') return fixtureSentence(who, isChange, entry, unit, kept);
   if (obstacle?.kind === 'travel') return travelSentence(who, entry, unit, kept);
   return { title: `${who} is too close to tell.`, note: 'too close to tell',
-    detail: 'Nothing is in the way of the whole motion, but a box of the certificate is too large. More cuts for each motion may clear it: `ngc report --cuts 64`.' };
+    detail: 'Nothing is in the way of the whole motion, but a box of the certificate is too large. More cuts for each motion may clear it.' };
 }
 
 function refusedFileSentence(report) {

@@ -39,6 +39,7 @@ export const firstState = {
   text: null,                   // the program in use as a ProgramText
   origins: {},                  // origins for this check: system -> X, Y and Z in nanometres
   demands: NO_DEMANDS,          // margins and the way of rapids for this check
+  cuts: null,                   // cuts of each motion for this check, or null for the program's own number
   blockDelete: false,
   slots: Object.fromEntries(SLOTS.map(slot => [slot, EMPTY])),
   line: 0,                      // the chosen line, from 1
@@ -74,7 +75,7 @@ export const failureOf = (state, slot) => slotNow(state, slot).failure;
 
 const withSlot = (state, slot, values) => ({ ...state, slots: { ...state.slots, [slot]: { ...state.slots[slot], ...values } } });
 // Nothing of one program may act on another one.
-const FRESH = { blockDelete: false, line: 0, lineFrom: '', hovered: -1, time: null, isPlaying: false, query: '' };
+const FRESH = { blockDelete: false, cuts: null, line: 0, lineFrom: '', hovered: -1, time: null, isPlaying: false, query: '' };
 let notices = 0;
 
 export function reduce(state, action) {
@@ -82,7 +83,7 @@ export function reduce(state, action) {
     case 'file': {
       const next = { ...state, files: { ...state.files, [action.kind]: action.file } };
       if (action.kind === 'program') Object.assign(next, FRESH, { text: action.text });
-      if (action.kind === 'machine') Object.assign(next, { origins: {}, demands: NO_DEMANDS });
+      if (action.kind === 'machine') Object.assign(next, { origins: {}, demands: NO_DEMANDS, cuts: null });
       return next;
     }
     case 'edited':

@@ -60,6 +60,10 @@ export function makeMachine(store, actions) {
     const steps = Number(elements.steps.value), [travel, feed, acceleration] = ['travel', 'feed', 'acceleration'].map(three);
     const isGood = steps > 0 && [travel, feed, acceleration].every(it => it.length === 3 && it.every(value => value > 0));
     if (!isGood) return actions.notice('Steps per mm is one number; travel, speed and acceleration are one number or three, for X, Y and Z.', 'bad');
-    actions.makeMachineOfFigures({ steps, travel, feed, acceleration, isHigh: elements.frame.value === 'high' });
+    // An empty field leaves the choice to the program.
+    const one = (name, unit = 1) => (elements[name].value.trim() ? Number(elements[name].value.replace(',', '.')) * unit : null);
+    const [corner, jump, ring] = [one('corner', factor), one('jump', factor), one('ring')];
+    if ([corner, jump, ring].some(it => it !== null && !(it > 0))) return actions.notice('Speed at corners, jump and commands looked ahead are numbers above 0, or empty.', 'bad');
+    actions.makeMachineOfFigures({ steps, travel, feed, acceleration, corner, jump, ring, isHigh: elements.frame.value === 'high' });
   };
 }

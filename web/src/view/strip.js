@@ -20,20 +20,20 @@ function certificateChip(certificate, verdict, failure, actions) {
 }
 
 // What this check replaces in the machine file.
-function changesIn(origins, demands, unit) {
+function changesIn(origins, demands, cuts, unit) {
   const moved = Object.keys(origins), { margin, travelMargin, rapids } = demands;
-  return [moved.length ? `${moved.join(', ')} moved` : '', margin === null ? '' : `margin ${length(margin, unit)}`, travelMargin === null ? '' : `travel margin ${length(travelMargin, unit)}`, rapids === null ? '' : `rapids ${rapids}`];
+  return [moved.length ? `${moved.join(', ')} moved` : '', margin === null ? '' : `margin ${length(margin, unit)}`, travelMargin === null ? '' : `travel margin ${length(travelMargin, unit)}`, rapids === null ? '' : `rapids ${rapids}`, cuts === null ? '' : `${cuts} cuts`];
 }
 
 export function makeStrip(store, actions) {
-  store.watch(state => [state.files.program, state.files.machine, state.files.tools, state.files.certificate, state.text?.count, sceneNow(state), current(state, 'certificate'), failureOf(state, 'certificate'), state.unit, state.programs, state.origins, state.demands],
-    (program, machine, tools, certificate, lines, scene, verdict, failure, unit, programs, origins, demands) => {
+  store.watch(state => [state.files.program, state.files.machine, state.files.tools, state.files.certificate, state.text?.count, sceneNow(state), current(state, 'certificate'), failureOf(state, 'certificate'), state.unit, state.programs, state.origins, state.demands, state.cuts],
+    (program, machine, tools, certificate, lines, scene, verdict, failure, unit, programs, origins, demands, cuts) => {
       const others = programs.length < 2 ? null : h('select', { 'aria-label': `The ${programs.length} programs that were dropped`, onchange: event => actions.useProgram(programs[Number(event.target.value)]) },
         h('option', { value: '', selected: true }, `${programs.length}`), programs.map((it, at) => h('option', { value: String(at) }, `${SIGNS[it.verdict] ?? ''}${it.name}`)));
       const span = scene ? [0, 1, 2].map(axis => inUnit(Math.round((scene.high[axis] - scene.low[axis]) * 1000) / 1000, unit)).join('\u2009\u00d7\u2009') : '';
       const travel = scene ? `${span} ${unit}, ${plural(scene.fixtures.length, 'fixture')}` : '';
       fill(id('strip'), chip('program', 'Program', program, !program ? '' : lines ? plural(lines, 'line') : size(program.size), others),
-        chip('machine', 'Machine', machine, [travel, ...changesIn(origins, demands, unit)].filter(Boolean).join('; ')), chip('tools', 'Tools', tools, scene ? plural(scene.tools.length, 'tool') : ''),
+        chip('machine', 'Machine', machine, [travel, ...changesIn(origins, demands, cuts, unit)].filter(Boolean).join('; ')), chip('tools', 'Tools', tools, scene ? plural(scene.tools.length, 'tool') : ''),
         certificate ? certificateChip(certificate, verdict, failure, actions) : null);
     });
   const dismiss = it => store.dispatch({ type: 'dismiss', id: it.id });

@@ -2,7 +2,8 @@
 
 import { current, failureOf, isRunning } from '../core/store.js';
 import { everyGroupsNow, everyNow, groupNow, groupsNow, keptNow, sceneNow } from '../core/shown.js';
-import { obstacleSentence, verdictOf } from '../core/sentences.js';
+import { CUTS, MOST_CUTS } from '../core/changes.js';
+import { moreCutsMayHelp, obstacleSentence, verdictOf } from '../core/sentences.js';
 import { sentenceOfFailure } from '../core/jobs.js';
 import { duration, inUnit, length, plural } from '../core/units.js';
 import { fill, h, id } from './dom.js';
@@ -76,12 +77,18 @@ export function makeVerdict(store, actions, editor) {
     };
     fill(tabs, h('span', { class: 'label', 'aria-hidden': 'true' }, 'Block delete'), known.size ? [tabOf(false), tabOf(true)] : null);
   }
+  // Buttons for more cuts where they may clear the motion, and for the usual number again.
+  function buttonsOfCuts(group, cuts) {
+    const mayHelp = group?.commands.length && moreCutsMayHelp(group.commands[0]), more = (cuts ?? CUTS) * 8;
+    return [mayHelp && more <= MOST_CUTS ? button(`Check with ${more} cuts`, () => actions.setCuts(more)) : null, cuts ? button(`Back to ${CUTS} cuts`, () => actions.setCuts(null)) : null];
+  }
   function showActions(report, group, every, verdict) {
     const places = every?.commands.length ?? 0, faults = every?.faults.length ?? 0, isRefused = report.fault && report.fault !== 304 && !report.refusedFile;
     fill(buttons,
       verdict.line ? button(`Go to line ${verdict.line}`, () => actions.goTo(verdict.line, 'verdict')) : null,
       places > 1 ? button(`All ${plural(places, 'place')}`, () => actions.tab('report')) : null,
       faults > 1 ? button(`All ${plural(faults, 'fault')}`, () => actions.tab('report')) : null,
+      buttonsOfCuts(group, store.state.cuts),
       group?.commands[0]?.command.fact === 'command' ? button('Where would it fit?', () => { actions.tab('place'); actions.place(); }) : null,
       isRefused ? button('Rewrite for this control\u2026', actions.adapt) : null,
       report.fault ? button(`What is fault ${report.fault}?`, () => { actions.tab('report'); id('explained').focus(); }, 'small plain') : null);

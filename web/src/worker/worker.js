@@ -13,8 +13,9 @@ const files = {};
 let module = null;
 
 const IN_USE = ['program', 'machine', 'tools'];
-// `ngc list` has no margins, since they change nothing that it prints.
-const withOptions = (words, changes) => [...words, ...optionsOf(words[0] === 'list' ? { origins: changes.origins } : changes)];
+// `ngc list` has no margins, since they change nothing that it prints, and only these commands have cuts.
+const CUTTING = ['report', 'certify', 'place'];
+const withOptions = (words, changes) => [...words, ...optionsOf(words[0] === 'list' ? { origins: changes.origins } : CUTTING.includes(words[0]) ? changes : { ...changes, cuts: null })];
 // Executes a command on the files in use with what replaces keys of the machine file. `others` are files in their place, or more files.
 const command = (words, changes, { others = {}, factor = 1 } = {}) => execute(module, withOptions(words, changes), { ...files, ...others }, spaceFor(factor));
 const spaceFor = factor => (files.program?.length ?? 0) * factor + (1 << 20);
@@ -75,9 +76,9 @@ const JOBS = {
     return [{ status: got.status, facts, isCut, errors, fault, explanation: explanationOf(fault), refusedFile, sentence }];
   },
   scene({ changes }) { return [sceneOf(changes.origins)]; },
-  sheet() {
+  sheet({ words }) {
     const { machine, tools } = files;
-    return saved(execute(module, ['show'], { machine, tools }));
+    return saved(execute(module, words, { machine, tools }));
   },
   path({ changes, blockDelete }) {
     const { status, scene } = sceneOf(changes.origins);
