@@ -51,12 +51,18 @@ entered k m motion normal = record {
   next = holding k m motion k.place (beside m.end (radius_of k) normal) normal;
 }
 
--- the centre of the arc from start to end that ends there about a centre in the direction g
+-- the point in the direction g from a place, at square / (2 * along) times its length
+unfoldable pub centre_at : Point2 → Point2 → ℕ → ℤ → Option Point2
+centre_at end g square along =
+    reached end (nearest (g.u *ℤ pos square) (pos 2 *ℤ along))
+        (nearest (g.v *ℤ pos square) (pos 2 *ℤ along))
+
+-- the centre of the arc from start to end that ends there about a centre in the direction g: as
+-- far from the start as from the end
 abbrev pub entry_centre : Point2 → Point2 → Point2 → Option Point2
 entry_centre start end g =
     if int_le (dot (from end start) g) (pos 0) then None
-    else reached end (nearest (g.u *ℤ pos (apart end start)) (pos 2 *ℤ dot (from end start) g))
-        (nearest (g.v *ℤ pos (apart end start)) (pos 2 *ℤ dot (from end start) g))
+    else centre_at end g (apart end start) (dot (from end start) g)
 
 -- an arc that ends as the programmed one about a centre, with the tool in a direction there
 abbrev pub enter_with : Compensation → Move → Turn → Point2 → Point2 → Result Outcome Refusal

@@ -11,12 +11,15 @@ use Rattle.ngc_compensation.specs.declared.moves.Side.{Side}
 use Rattle.ngc_compensation.specs.Sides.{turned, norm, apart}
 use Rattle.ngc_compensation.specs.Offsets.{UNIT, scaled, reached}
 
--- the point at the distance r from o along both unit vectors a and b: r beside both lines
+-- the point at the distance r from o along both unit vectors a and b, which span an area: r beside
+-- both lines
+unfoldable pub crossed : Point2 → ℕ → Point2 → Point2 → ℤ → Option Point2
+crossed o r a b area =
+    reached o (nearest ((b.v -ℤ a.v) *ℤ pos (r * UNIT)) area)
+        (nearest ((a.u -ℤ b.u) *ℤ pos (r * UNIT)) area)
+
 abbrev pub crossing : Point2 → ℕ → Point2 → Point2 → Option Point2
-crossing o r a b =
-    if is_zero (cross a b) then None
-    else reached o (nearest (pos (r * UNIT) *ℤ (b.v -ℤ a.v)) (cross a b))
-        (nearest (pos (r * UNIT) *ℤ (a.u -ℤ b.u)) (cross a b))
+crossing o r a b = if is_zero (cross a b) then None else crossed o r a b (cross a b)
 
 unfoldable pub lines_meet : Point2 → ℕ → Point2 → Point2 → Option Point2
 lines_meet o r first second = crossing o r (scaled UNIT first) (scaled UNIT second)

@@ -41,8 +41,12 @@ scaled n d = record { u = part n d.u (norm d); v = part n d.v (norm d) }
 abbrev pub beside : Point2 → ℕ → Point2 → Point2
 beside p r d = shifted p (scaled r d)
 
--- the point at the distances u and v from p, if it is within the tool's limit
+-- the point with two coordinates, if it is within the tool's limit
+unfoldable pub within_limit : ℤ → ℤ → Option Point2
+within_limit u v =
+    if is_within TOOL_LIMIT u && is_within TOOL_LIMIT v
+    then Some (record { u = u; v = v }) else None
+
+-- the point at the distances u and v from p
 abbrev pub reached : Point2 → ℤ → ℤ → Option Point2
-reached p u v =
-    if is_within TOOL_LIMIT (p.u +ℤ u) && is_within TOOL_LIMIT (p.v +ℤ v)
-    then Some (record { u = p.u +ℤ u; v = p.v +ℤ v }) else None
+reached p u v = within_limit (p.u +ℤ u) (p.v +ℤ v)

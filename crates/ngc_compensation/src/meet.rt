@@ -6,19 +6,40 @@ ghost use Rattle.ngc_compensation.specs.Laws.{IsWithin};
 ghost use Rattle.ngc_compensation.specs.Meetings as spec;
 
 use crate::moves::Side;
-use crate::offset::{UNIT, UNIT_SQUARE, quotient, reached, scaled};
+use crate::offset::{UNIT, UNIT_SQUARE, quotient, reached, scaled, times};
 use crate::vector::{apart, cross, dot, from, turned};
 use ngc_fixed_length::{Nm, Point2, root_floor};
 
-// Returns a radius times the difference of two coordinates of unit vectors.
+// Returns the difference of two coordinates of unit vectors, times a radius.
 fn difference(radius: u64, x: Nm, y: Nm) -> i128
     requires radius { radius ≤ 100000000 }
     requires x { unsigned_abs x ≤ 500000000 }
     requires y { unsigned_abs y ≤ 500000000 }
-    ensures value { result ≡ pos (radius * 500000000) *ℤ (x -ℤ y) }
-    ensures bound { unsigned_abs result ≤ 10 ^ 38 }
+    ensures value { result ≡ (x -ℤ y) *ℤ pos (radius * 500000000) }
+    ensures bound { unsigned_abs result ≤ 10 ^ 31 }
 {
-    i128::from(radius * UNIT) * i128::from(x.nanometres() - y.nanometres())
+    times(x.minus(y), i128::from(radius * UNIT))
+}
+
+// Returns the point that is `radius` from another along both unit vectors, which span `area`.
+#[tactic(auto, unfolding(crate::specs::Meetings::crossed))]
+fn crossed(
+    point: &Point2,
+    radius: u64,
+    first: &Point2,
+    second: &Point2,
+    area: i128,
+) -> Option<Point2>
+    requires radius { radius ≤ 100000000 }
+    requires first { IsWithin 500000000 first.now }
+    requires second { IsWithin 500000000 second.now }
+    requires some { area ≢ pos 0 }
+    requires area { unsigned_abs area ≤ 2 * 10 ^ 20 }
+    ensures { result ≡ spec.crossed point.now radius first.now second.now area }
+{
+    let u = quotient(difference(radius, second.v, first.v), area);
+    let v = quotient(difference(radius, first.u, second.u), area);
+    reached(point, u, v)
 }
 
 // Returns the point that is `radius` from another along both unit vectors.
@@ -32,9 +53,7 @@ fn crossing(point: &Point2, radius: u64, first: &Point2, second: &Point2) -> Opt
     if area == 0 {
         return None;
     }
-    let u = quotient(difference(radius, second.v, first.v), area);
-    let v = quotient(difference(radius, first.u, second.u), area);
-    reached(point, u, v)
+    crossed(point, radius, first, second, area)
 }
 
 /// Returns the point that is `radius` beside both lines through a point.
@@ -83,9 +102,9 @@ fn along_both(x: Nm, h: i128, y: Nm, s: u64) -> i128
     requires h { unsigned_abs h ≤ 10 ^ 19 }
     requires s { s ≤ 10 ^ 19 }
     ensures value { result ≡ (x *ℤ h) +ℤ (y *ℤ pos s) }
-    ensures bound { unsigned_abs result ≤ 10 ^ 38 }
+    ensures bound { unsigned_abs result ≤ 10 ^ 32 }
 {
-    i128::from(x.nanometres()) * h + i128::from(y.nanometres()) * i128::from(s)
+    times(x, h) + times(y, i128::from(s))
 }
 
 /// Returns the point of a circle about a centre on the line that is square to a unit vector at the

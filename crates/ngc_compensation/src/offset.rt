@@ -1,5 +1,5 @@
 //! Vectors of a given length, and quotients, rounded to whole nanometres.
-ghost use Rattle.std.specs.Prelude.{◌≡◌, ◌≢◌, ◌+◌, ◌*◌, ◌^◌, ◌<◌, ◌≤◌, pos, ◌+ℤ◌, unsigned_abs};
+ghost use Rattle.std.specs.Prelude.{◌≡◌, ◌≢◌, ◌+◌, ◌*◌, ◌^◌, ◌<◌, ◌≤◌, pos, ◌+ℤ◌, ◌*ℤ◌, unsigned_abs};
 ghost use Rattle.ngc_fixed_length.specs.Rounding.{nearest, nearest_size};
 ghost use Rattle.ngc_fixed_length.specs.Signed.{is_within};
 ghost use Rattle.ngc_compensation.specs.Sides.{norm as norm_of};
@@ -54,6 +54,7 @@ fn part(n: u64, x: Nm, square: u128) -> Nm
 
 /// Returns the vector of length `n` in a direction, each coordinate rounded to the nearest whole
 /// number.
+#[tactic(auto, unfolding(crate::specs::Offsets::scaled))]
 pub(crate) fn scaled(n: u64, direction: &Point2) -> Point2
     requires n { n ≤ 500000000 }
     requires within { IsWithin 10000000000 direction.now }
@@ -78,6 +79,16 @@ pub(crate) fn beside(point: &Point2, radius: u64, direction: &Point2) -> Point2
     ensures bound { IsWithin 5000000000 result }
 {
     shifted(point, &scaled(radius, direction))
+}
+
+/// Returns a coordinate of a vector times a whole number.
+pub(crate) fn times(x: Nm, y: i128) -> i128
+    requires x { unsigned_abs x ≤ 10000000000 }
+    requires y { unsigned_abs y ≤ 1000000000000000000000 }
+    ensures value { result ≡ x *ℤ y }
+    ensures bound { unsigned_abs result ≤ 10 ^ 31 }
+{
+    i128::from(x.nanometres()) * y
 }
 
 // Returns the nearest whole number, ties up.
@@ -117,20 +128,35 @@ pub(crate) fn is_near(limit: u128, point: &Point2) -> bool
         && is_within(limit, i128::from(point.v.nanometres()))
 }
 
+// Returns the point with two coordinates, if it is within 5 m.
+#[tactic(auto, unfolding(crate::specs::Offsets::within_limit))]
+fn within_limit(u: i128, v: i128) -> Option<Point2>
+    ensures { result ≡ spec.within_limit u v }
+{
+    if u.unsigned_abs() > 5_000_000_000 {
+        return None;
+    }
+    if v.unsigned_abs() > 5_000_000_000 {
+        return None;
+    }
+    Some(Point2 {
+        u: length(u),
+        v: length(v),
+    })
+}
+
+fn sum(x: Nm, y: i128) -> i128
+    requires { unsigned_abs y ≤ 10 ^ 38 }
+    ensures { result ≡ x +ℤ y }
+{
+    i128::from(x.nanometres()) + y
+}
+
 /// Returns the point at the distances `u` and `v` from another, if it is within 5 m.
 pub(crate) fn reached(point: &Point2, u: i128, v: i128) -> Option<Point2>
     requires u { unsigned_abs u ≤ 10 ^ 38 }
     requires v { unsigned_abs v ≤ 10 ^ 38 }
     ensures { result ≡ spec.reached point.now u v }
 {
-    let u = i128::from(point.u.nanometres()) + u;
-    let v = i128::from(point.v.nanometres()) + v;
-    if is_within(5_000_000_000, u) && is_within(5_000_000_000, v) {
-        Some(Point2 {
-            u: length(u),
-            v: length(v),
-        })
-    } else {
-        None
-    }
+    within_limit(sum(point.u, u), sum(point.v, v))
 }

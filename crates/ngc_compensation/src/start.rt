@@ -1,15 +1,15 @@
 //! The entry move.
-ghost use Rattle.std.specs.Prelude.{◌≡◌, ◌^◌, ◌*◌, ◌≤◌, pos, ◌*ℤ◌, unsigned_abs};
+ghost use Rattle.std.specs.Prelude.{◌≡◌, ◌^◌, ◌*◌, ◌≤◌, pos, ◌<ℤ◌, unsigned_abs};
 ghost use Rattle.ngc_compensation.specs.Bounds.{IsDirection, IsNear, IsNearMotion, IsNearMove};
 ghost use Rattle.ngc_compensation.specs.Entries as spec;
 ghost use Rattle.ngc_compensation.specs.Laws.{IsWithin};
 
 use crate::moves::{Compensation, Held, Motion, Move, Outcome};
 use crate::normal::{arc_normal, is_too_small, line_normal, radius_of};
-use crate::offset::{beside, quotient, reached};
+use crate::offset::{beside, quotient, reached, times};
 use crate::refusal::{Refusal, needed};
 use crate::vector::{apart, dot, from};
-use ngc_fixed_length::{Nm, Point2, Turn};
+use ngc_fixed_length::{Point2, Turn};
 
 /// Returns the compensation after a move whose end is held.
 pub(crate) fn holding(
@@ -52,14 +52,19 @@ fn entered(compensation: &Compensation, next: &Move, motion: Motion, normal: &Po
     }
 }
 
-// Returns a coordinate of a direction times the square of a distance.
-fn times(x: Nm, square: u128) -> i128
-    requires x { unsigned_abs x ≤ 10000000000 }
+// Returns the point in a direction from another at `square / (2 * along)` times its length.
+#[tactic(auto, unfolding(crate::specs::Entries::centre_at))]
+fn centre_at(end: &Point2, direction: &Point2, square: u128, along: i128) -> Option<Point2>
+    requires direction { IsWithin 10000000000 direction.now }
     requires square { square ≤ 2 * 10 ^ 20 }
-    ensures value { result ≡ x *ℤ pos square }
-    ensures bound { unsigned_abs result ≤ 10 ^ 38 }
+    requires some { pos 0 <ℤ along }
+    requires along { unsigned_abs along ≤ 2 * 10 ^ 20 }
+    ensures { result ≡ spec.centre_at end.now direction.now square along }
 {
-    i128::from(x.nanometres()) * square as i128
+    let factor = square as i128;
+    let u = quotient(times(direction.u, factor), 2 * along);
+    let v = quotient(times(direction.v, factor), 2 * along);
+    reached(end, u, v)
 }
 
 // Returns the centre of the arc from start to end that ends there about a centre in a direction.
@@ -73,10 +78,7 @@ fn entry_centre(start: &Point2, end: &Point2, direction: &Point2) -> Option<Poin
     if along <= 0 {
         return None;
     }
-    let square = apart(end, start);
-    let u = quotient(times(direction.u, square), 2 * along);
-    let v = quotient(times(direction.v, square), 2 * along);
-    reached(end, u, v)
+    centre_at(end, direction, apart(end, start), along)
 }
 
 fn enter_with(
