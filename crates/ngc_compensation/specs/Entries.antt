@@ -1,6 +1,6 @@
 -- The entry move (LinuxCNC's documentation, "Cutter Radius Compensation": it is longer than the
 -- tool's radius, and ends beside the programmed end, square to it).
-use Rattle.std.specs.Prelude.{ℕ, ◌*◌, ◌==◌, nat_le, ℤ, pos, ◌*ℤ◌, int_le, unsigned_abs, Bool, ◌&&◌, ◌||◌}
+use Rattle.std.specs.Prelude.{ℕ, ◌*◌, ◌==◌, nat_le, ℤ, pos, ◌+ℤ◌, ◌*ℤ◌, int_le, unsigned_abs, Bool, ◌&&◌, ◌||◌}
 use Rattle.std.specs.Prelude.{Option, Some, None, Result, Ok, Err, if◌then◌else◌}
 use Rattle.ngc_fixed_length.specs.Places.{from, dot}
 use Rattle.ngc_fixed_length.specs.Rounding.{nearest}
@@ -51,18 +51,17 @@ entered k m motion normal = record {
   next = holding k m motion k.place (beside m.end (radius_of k) normal) normal;
 }
 
--- the point in the direction g from a place, at square / (2 * along) times its length
+-- the point in the direction g from a place, at square / divisor times its length
 unfoldable pub centre_at : Point2 → Point2 → ℕ → ℤ → Option Point2
-centre_at end g square along =
-    reached end (nearest (g.u *ℤ pos square) (pos 2 *ℤ along))
-        (nearest (g.v *ℤ pos square) (pos 2 *ℤ along))
+centre_at end g square divisor =
+    reached end (nearest (g.u *ℤ pos square) divisor) (nearest (g.v *ℤ pos square) divisor)
 
 -- the centre of the arc from start to end that ends there about a centre in the direction g: as
 -- far from the start as from the end
 abbrev pub entry_centre : Point2 → Point2 → Point2 → Option Point2
 entry_centre start end g =
     if int_le (dot (from end start) g) (pos 0) then None
-    else centre_at end g (apart end start) (dot (from end start) g)
+    else centre_at end g (apart end start) (dot (from end start) g +ℤ dot (from end start) g)
 
 -- an arc that ends as the programmed one about a centre, with the tool in a direction there
 abbrev pub enter_with : Compensation → Move → Turn → Point2 → Point2 → Result Outcome Refusal

@@ -28,7 +28,9 @@ fn meet_line(compensation: &Compensation, held: &Held, first: &Point2) -> Option
     requires near { IsNear compensation.now }
     requires held { IsNearHeld held.now }
     requires first { IsDirection first.now }
-    ensures { result ≡ spec.meet_line compensation.now held.now first.now held.now.motion }
+    ensures value { result
+        ≡ spec.meet_line compensation.now held.now first.now held.now.motion }
+    ensures near { IfSome result (IsWithin 5000000000) }
 {
     let side = compensation.side;
     let place = &compensation.place;
@@ -54,8 +56,9 @@ fn meet_arc(
     requires held { IsNearHeld held.now }
     requires end { IsWithin 5000000000 end.now }
     requires centre { IsWithin 5000000000 centre.now }
-    ensures { result
+    ensures value { result
         ≡ spec.meet_arc compensation.now held.now end.now turn centre.now held.now.motion }
+    ensures near { IfSome result (IsWithin 5000000000) }
 {
     let side = compensation.side;
     let square = apart(centre, end);
@@ -86,8 +89,9 @@ fn meet(
     requires first { IsDirection first.now }
     requires end { IsWithin 5000000000 end.now }
     requires centre { IsNearMotion 4000000000 motion.now }
-    ensures { result
+    ensures value { result
         ≡ spec.meet compensation.now held.now first.now end.now motion.now }
+    ensures near { IfSome result (IsWithin 5000000000) }
 {
     match motion {
         Motion::Traverse | Motion::Feed => meet_line(compensation, held, first),
@@ -121,7 +125,9 @@ fn round_corner(compensation: &Compensation, motion: &Motion, end: &Point2) -> J
 }
 
 fn begun_at(place: &Point2) -> Joined
-    ensures { result ≡ spec.begun_at place.now }
+    requires { IsWithin 5000000000 place.now }
+    ensures value { result ≡ spec.begun_at place.now }
+    ensures near { IsNearJoined result }
 {
     Joined {
         start: *place,

@@ -35,7 +35,8 @@ fn crossed(
     requires second { IsWithin 500000000 second.now }
     requires some { area ≢ pos 0 }
     requires area { unsigned_abs area ≤ 2 * 10 ^ 20 }
-    ensures { result ≡ spec.crossed point.now radius first.now second.now area }
+    ensures value { result ≡ spec.crossed point.now radius first.now second.now area }
+    ensures near { IfSome result (IsWithin 5000000000) }
 {
     let u = quotient(difference(radius, second.v, first.v), area);
     let v = quotient(difference(radius, first.u, second.u), area);
@@ -47,7 +48,8 @@ fn crossing(point: &Point2, radius: u64, first: &Point2, second: &Point2) -> Opt
     requires radius { radius ≤ 100000000 }
     requires first { IsWithin 500000000 first.now }
     requires second { IsWithin 500000000 second.now }
-    ensures { result ≡ spec.crossing point.now radius first.now second.now }
+    ensures value { result ≡ spec.crossing point.now radius first.now second.now }
+    ensures near { IfSome result (IsWithin 5000000000) }
 {
     let area = cross(first, second);
     if area == 0 {
@@ -69,7 +71,8 @@ pub(crate) fn lines_meet(
     requires second { IsWithin 10000000000 second.now }
     requires some_first { 0 < norm_of first.now }
     requires some_second { 0 < norm_of second.now }
-    ensures { result ≡ spec.lines_meet point.now radius first.now second.now }
+    ensures value { result ≡ spec.lines_meet point.now radius first.now second.now }
+    ensures near { IfSome result (IsWithin 5000000000) }
 {
     let first = scaled(UNIT, first);
     let second = scaled(UNIT, second);
@@ -113,7 +116,8 @@ fn along_both(x: Nm, h: i128, y: Nm, s: u64) -> i128
 fn on_circle(centre: &Point2, square: u128, unit: &Point2, h: i128, side: Side) -> Option<Point2>
     requires square { square ≤ 2 * 10 ^ 20 }
     requires unit { IsWithin 500000000 unit.now }
-    ensures { result ≡ spec.on_circle centre.now square unit.now h side }
+    ensures value { result ≡ spec.on_circle centre.now square unit.now h side }
+    ensures near { IfSome result (IsWithin 5000000000) }
 {
     let across = turned(side, unit);
     let s = half_chord(square, h)?;
@@ -151,8 +155,9 @@ pub(crate) fn line_meets(
     requires some { 0 < norm_of direction.now }
     requires centre { IsWithin 5000000000 centre.now }
     requires square { square ≤ 2 * 10 ^ 20 }
-    ensures { result
+    ensures value { result
         ≡ spec.line_meets point.now radius direction.now centre.now square side }
+    ensures near { IfSome result (IsWithin 5000000000) }
 {
     let unit = scaled(UNIT, direction);
     let h = line_at(point, radius, &unit, centre);
@@ -200,8 +205,9 @@ pub(crate) fn circles_meet(
     requires square { square ≤ 2 * 10 ^ 20 }
     requires other { IsWithin 5000000000 other.now }
     requires other_square { other_square ≤ 2 * 10 ^ 20 }
-    ensures { result
+    ensures value { result
         ≡ spec.circles_meet centre.now square other.now other_square side }
+    ensures near { IfSome result (IsWithin 5000000000) }
 {
     let distance = apart(centre, other);
     if distance == 0 {

@@ -1,5 +1,6 @@
 //! Vectors of a given length, and quotients, rounded to whole nanometres.
 ghost use Rattle.std.specs.Prelude.{◌≡◌, ◌≢◌, ◌+◌, ◌*◌, ◌^◌, ◌<◌, ◌≤◌, pos, ◌+ℤ◌, ◌*ℤ◌, unsigned_abs};
+ghost use Rattle.std.specs.Prelude.{IfSome};
 ghost use Rattle.ngc_fixed_length.specs.Rounding.{nearest, nearest_size};
 ghost use Rattle.ngc_fixed_length.specs.Signed.{is_within};
 ghost use Rattle.ngc_compensation.specs.Sides.{norm as norm_of};
@@ -131,7 +132,8 @@ pub(crate) fn is_near(limit: u128, point: &Point2) -> bool
 // Returns the point with two coordinates, if it is within 5 m.
 #[tactic(auto, unfolding(crate::specs::Offsets::within_limit))]
 fn within_limit(u: i128, v: i128) -> Option<Point2>
-    ensures { result ≡ spec.within_limit u v }
+    ensures value { result ≡ spec.within_limit u v }
+    ensures near { IfSome result (IsWithin 5000000000) }
 {
     if u.unsigned_abs() > 5_000_000_000 {
         return None;
@@ -156,7 +158,8 @@ fn sum(x: Nm, y: i128) -> i128
 pub(crate) fn reached(point: &Point2, u: i128, v: i128) -> Option<Point2>
     requires u { unsigned_abs u ≤ 10 ^ 38 }
     requires v { unsigned_abs v ≤ 10 ^ 38 }
-    ensures { result ≡ spec.reached point.now u v }
+    ensures value { result ≡ spec.reached point.now u v }
+    ensures near { IfSome result (IsWithin 5000000000) }
 {
     within_limit(sum(point.u, u), sum(point.v, v))
 }

@@ -1,4 +1,4 @@
-ghost use Rattle.std.specs.Prelude.{◌≡◌};
+ghost use Rattle.std.specs.Prelude.{◌≡◌, Some, IfOk};
 ghost use Rattle.ngc_compensation.specs.Refusals as spec;
 
 use ngc_fixed_length::Point2;
@@ -45,7 +45,8 @@ impl Refusal {
 
 /// Returns a point, or the refusal if there is none.
 pub(crate) fn needed(refusal: Refusal, point: Option<Point2>) -> Result<Point2, Refusal>
-    ensures { result ≡ spec.needed refusal point }
+    ensures value { result ≡ spec.needed refusal point }
+    ensures some { IfOk result (λ p. point ≡ Some p) }
 {
     match point {
         Some(point) => Ok(point),

@@ -1,5 +1,5 @@
 //! The entry move.
-ghost use Rattle.std.specs.Prelude.{◌≡◌, ◌^◌, ◌*◌, ◌≤◌, pos, ◌<ℤ◌, unsigned_abs};
+ghost use Rattle.std.specs.Prelude.{◌≡◌, ◌≢◌, ◌^◌, ◌*◌, ◌≤◌, pos, unsigned_abs};
 ghost use Rattle.ngc_compensation.specs.Bounds.{IsDirection, IsNear, IsNearMotion, IsNearMove};
 ghost use Rattle.ngc_compensation.specs.Entries as spec;
 ghost use Rattle.ngc_compensation.specs.Laws.{IsWithin};
@@ -52,18 +52,18 @@ fn entered(compensation: &Compensation, next: &Move, motion: Motion, normal: &Po
     }
 }
 
-// Returns the point in a direction from another at `square / (2 * along)` times its length.
+// Returns the point in a direction from another at `square / divisor` times its length.
 #[tactic(auto, unfolding(crate::specs::Entries::centre_at))]
-fn centre_at(end: &Point2, direction: &Point2, square: u128, along: i128) -> Option<Point2>
+fn centre_at(end: &Point2, direction: &Point2, square: u128, divisor: i128) -> Option<Point2>
     requires direction { IsWithin 10000000000 direction.now }
     requires square { square ≤ 2 * 10 ^ 20 }
-    requires some { pos 0 <ℤ along }
-    requires along { unsigned_abs along ≤ 2 * 10 ^ 20 }
-    ensures { result ≡ spec.centre_at end.now direction.now square along }
+    requires some { divisor ≢ pos 0 }
+    requires divisor { unsigned_abs divisor ≤ 4 * 10 ^ 20 }
+    ensures { result ≡ spec.centre_at end.now direction.now square divisor }
 {
     let factor = square as i128;
-    let u = quotient(times(direction.u, factor), 2 * along);
-    let v = quotient(times(direction.v, factor), 2 * along);
+    let u = quotient(times(direction.u, factor), divisor);
+    let v = quotient(times(direction.v, factor), divisor);
     reached(end, u, v)
 }
 
@@ -78,7 +78,7 @@ fn entry_centre(start: &Point2, end: &Point2, direction: &Point2) -> Option<Poin
     if along <= 0 {
         return None;
     }
-    centre_at(end, direction, apart(end, start), along)
+    centre_at(end, direction, apart(end, start), along + along)
 }
 
 fn enter_with(
