@@ -1,5 +1,5 @@
 -- Bounds that keep the arithmetic of compensation within 128 bits.
-use Rattle.std.specs.Prelude.{◌≡◌, ℕ, ◌<◌, ◌≤◌, false, unsigned_abs, IfSome}
+use Rattle.std.specs.Prelude.{ℕ, ◌<◌, ◌≤◌, unsigned_abs, IfSome}
 use Rattle.ngc_fixed_length.specs.declared.points.Point2.{Point2}
 use Rattle.ngc_compensation.specs.declared.join.Joined.{Joined}
 use Rattle.ngc_compensation.specs.declared.normal.Normals.{Normals}
@@ -10,7 +10,7 @@ use Rattle.ngc_compensation.specs.declared.moves.Motion.TheVariants.{Traverse, F
 use Rattle.ngc_compensation.specs.declared.moves.Move.{Move}
 use Rattle.ngc_compensation.specs.Sides.{norm, apart}
 use Rattle.ngc_compensation.specs.Offsets.{PLACE_LIMIT, TOOL_LIMIT}
-use Rattle.ngc_compensation.specs.Laws.{IsWithin}
+use Rattle.ngc_compensation.specs.Limits.{IsWithin}
 
 -- the centre of an arc is at most n from the origin on each axis
 abbrev pub IsNearMotion : ℕ → Motion → Type 0

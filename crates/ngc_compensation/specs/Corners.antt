@@ -1,6 +1,6 @@
 -- Corners of the programmed path (LinuxCNC's documentation, "Cutter Radius Compensation"; the angle
 -- of 0.05 rad is LinuxCNC's, its tangent is taken as 60/1199, less than 10^-8 away).
-use Rattle.std.specs.Prelude.{ℕ, ◌*◌, nat_le, ℤ, pos, ◌-ℤ◌, int_lt, unsigned_abs, Bool, true, false}
+use Rattle.std.specs.Prelude.{◌*◌, nat_le, ℤ, pos, ◌-ℤ◌, int_lt, unsigned_abs, Bool, true}
 use Rattle.std.specs.Prelude.{if◌then◌else◌}
 use Rattle.ngc_fixed_length.specs.Places.{cross, dot}
 use Rattle.ngc_fixed_length.specs.declared.points.Point2.{Point2}

@@ -1,13 +1,12 @@
 -- The entry move (LinuxCNC's documentation, "Cutter Radius Compensation": it is longer than the
 -- tool's radius, and ends beside the programmed end, square to it).
 use Rattle.std.specs.Prelude.{ℕ, ◌*◌, ◌==◌, nat_le, ℤ, pos, ◌+ℤ◌, ◌*ℤ◌, int_le, unsigned_abs, Bool, ◌&&◌, ◌||◌}
-use Rattle.std.specs.Prelude.{Option, Some, None, Result, Ok, Err, if◌then◌else◌}
+use Rattle.std.specs.Prelude.{Option, Some, None, Result, Ok, if◌then◌else◌}
 use Rattle.ngc_fixed_length.specs.Places.{from, dot}
 use Rattle.ngc_fixed_length.specs.Rounding.{nearest}
 use Rattle.ngc_fixed_length.specs.declared.modes.Turn.{Turn}
 use Rattle.ngc_fixed_length.specs.declared.points.Point2.{Point2}
 use Rattle.ngc_compensation.specs.declared.moves.Compensation.{Compensation}
-use Rattle.ngc_compensation.specs.declared.moves.Held.{Held}
 use Rattle.ngc_compensation.specs.declared.moves.Motion.{Motion}
 use Rattle.ngc_compensation.specs.declared.moves.Motion.TheVariants.{Traverse, Feed, Arc}
 use Rattle.ngc_compensation.specs.declared.moves.Move.{Move}
@@ -16,7 +15,7 @@ use Rattle.ngc_compensation.specs.declared.moves.Side.{Side}
 use Rattle.ngc_compensation.specs.declared.refusal.Refusal.{Refusal}
 use Rattle.ngc_compensation.specs.declared.refusal.Refusal.TheVariants as why
 use Rattle.ngc_compensation.specs.Refusals.{◌>>=◌, refuse_if, needed}
-use Rattle.ngc_compensation.specs.Sides.{turned, backward, norm, apart, is_inside}
+use Rattle.ngc_compensation.specs.Sides.{turned, backward, apart, is_inside}
 use Rattle.ngc_compensation.specs.Offsets.{beside, reached}
 
 -- the tool's radius in nanometres
@@ -41,7 +40,12 @@ holding k m motion start end normal = record {
   place = m.end;
   height = m.height;
   held = Some (record {
-    motion = motion; start = start; end = end; height = m.height; normal = normal });
+    motion = motion;
+    start = start;
+    end = end;
+    height = m.height;
+    normal = normal;
+  });
 }
 
 abbrev pub entered : Compensation → Move → Motion → Point2 → Outcome

@@ -6,5 +6,6 @@ pub mod Meetings
 pub mod Ways
 pub mod Entries
 pub mod Steps
+pub mod Limits
 pub mod Laws
 pub mod Bounds

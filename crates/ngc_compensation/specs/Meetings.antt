@@ -8,7 +8,7 @@ use Rattle.ngc_fixed_length.specs.Rounding.{nearest}
 use Rattle.ngc_fixed_length.specs.Signed.{is_zero}
 use Rattle.ngc_fixed_length.specs.declared.points.Point2.{Point2}
 use Rattle.ngc_compensation.specs.declared.moves.Side.{Side}
-use Rattle.ngc_compensation.specs.Sides.{turned, norm, apart}
+use Rattle.ngc_compensation.specs.Sides.{turned, apart}
 use Rattle.ngc_compensation.specs.Offsets.{UNIT, scaled, reached}
 
 -- the point at the distance r from o along both unit vectors a and b, which span an area: r beside
@@ -16,7 +16,7 @@ use Rattle.ngc_compensation.specs.Offsets.{UNIT, scaled, reached}
 unfoldable pub crossed : Point2 → ℕ → Point2 → Point2 → ℤ → Option Point2
 crossed o r a b area =
     reached o (nearest ((b.v -ℤ a.v) *ℤ pos (r * UNIT)) area)
-        (nearest ((a.u -ℤ b.u) *ℤ pos (r * UNIT)) area)
+    (nearest ((a.u -ℤ b.u) *ℤ pos (r * UNIT)) area)
 
 abbrev pub crossing : Point2 → ℕ → Point2 → Point2 → Option Point2
 crossing o r a b = if is_zero (cross a b) then None else crossed o r a b (cross a b)
@@ -36,7 +36,7 @@ abbrev pub at_chord : Point2 → Point2 → ℤ → Point2 → Option ℕ → Op
 at_chord c n h d None = None
 at_chord c n h d (Some s) =
     reached c (nearest ((n.u *ℤ h) +ℤ (d.u *ℤ pos s)) (pos (UNIT * UNIT)))
-        (nearest ((n.v *ℤ h) +ℤ (d.v *ℤ pos s)) (pos (UNIT * UNIT)))
+    (nearest ((n.v *ℤ h) +ℤ (d.v *ℤ pos s)) (pos (UNIT * UNIT)))
 
 -- the point of a circle about c on the line that is square to n at the distance h / UNIT, on a side
 -- of n
@@ -60,7 +60,7 @@ length_of square = whole_root (square * (UNIT * UNIT))
 abbrev pub chord_at : ℕ → ℕ → ℕ → ℤ
 chord_at first distance second =
     nearest (((pos first +ℤ pos distance) -ℤ pos second) *ℤ pos (UNIT * UNIT))
-        (pos (2 * length_of distance))
+    (pos (2 * length_of distance))
 
 unfoldable pub circles_meet : Point2 → ℕ → Point2 → ℕ → Side → Option Point2
 circles_meet c first d second side =

@@ -1,6 +1,6 @@
 -- The side of the path on which the tool is (LinuxCNC's documentation, "Cutter Radius
 -- Compensation"), and directions. A direction is a vector; its length has no meaning.
-use Rattle.std.specs.Prelude.{ℕ, ℤ, pos, ◌-ℤ◌, unsigned_abs, Bool, true, false}
+use Rattle.std.specs.Prelude.{ℕ, pos, ◌-ℤ◌, unsigned_abs, Bool, true, false}
 use Rattle.ngc_fixed_length.specs.Places.{from, dot}
 use Rattle.ngc_fixed_length.specs.declared.modes.Turn.{Turn}
 use Rattle.ngc_fixed_length.specs.declared.modes.Turn.TheVariants.{Clockwise, Counterclockwise}

@@ -60,18 +60,18 @@ meet_line k h first Traverse = lines_meet k.place (radius_of k) h.normal first
 meet_line k h first Feed = lines_meet k.place (radius_of k) h.normal first
 meet_line k h first (Arc turn centre) =
     line_meets k.place (radius_of k) first centre (apart centre h.end)
-        (if is_inside k.side turn then k.side else opposite k.side)
+    (if is_inside k.side turn then k.side else opposite k.side)
 
 abbrev pub meet_arc : Compensation → Held → Point2 → Turn → Point2 → Motion → Option Point2
 meet_arc k h end turn centre (Arc old c) =
     circles_meet c (apart c h.end) centre (apart centre end)
-        (if is_inside k.side old then centre_side turn else opposite (centre_side turn))
+    (if is_inside k.side old then centre_side turn else opposite (centre_side turn))
 meet_arc k h end turn centre Traverse =
     line_meets k.place (radius_of k) h.normal centre (apart centre end)
-        (if is_inside k.side turn then opposite k.side else k.side)
+    (if is_inside k.side turn then opposite k.side else k.side)
 meet_arc k h end turn centre Feed =
     line_meets k.place (radius_of k) h.normal centre (apart centre end)
-        (if is_inside k.side turn then opposite k.side else k.side)
+    (if is_inside k.side turn then opposite k.side else k.side)
 
 abbrev pub meet : Compensation → Held → Point2 → Point2 → Motion → Option Point2
 meet k h first end Traverse = meet_line k h first h.motion
@@ -170,7 +170,12 @@ lifted k m = record {
   made = None;
   corner = None;
   next = record {
-    side = k.side; radius = k.radius; place = k.place; height = m.height; held = k.held };
+    side = k.side;
+    radius = k.radius;
+    place = k.place;
+    height = m.height;
+    held = k.held;
+  };
 }
 
 abbrev pub is_lift : Compensation → Point2 → Motion → Bool

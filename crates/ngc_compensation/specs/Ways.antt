@@ -1,5 +1,5 @@
 -- Whether a move still goes in its own direction. Our own, as LinuxCNC, and stricter with arcs.
-use Rattle.std.specs.Prelude.{ℕ, ◌-ℤ◌, nat_lt, ℤ, pos, int_lt, int_le, unsigned_abs, Bool, true, not}
+use Rattle.std.specs.Prelude.{◌-ℤ◌, ℤ, pos, int_lt, int_le, Bool, true, not}
 use Rattle.std.specs.Prelude.{◌&&◌, ◌||◌, if◌then◌else◌}
 use Rattle.ngc_fixed_length.specs.Places.{from, cross, dot}
 use Rattle.ngc_fixed_length.specs.Signed.{is_zero, is_within}

@@ -2,7 +2,7 @@
 ghost use Rattle.std.specs.Prelude.{◌≡◌, ◌<◌, ◌≤◌, IfSome, unwrap_or};
 ghost use Rattle.ngc_compensation.specs.Bounds.{IsNear, IsNearHeld, IsNearMotion, IsNearMove};
 ghost use Rattle.ngc_compensation.specs.Bounds.{AreDirections, GoesOn, IsNearJoined};
-ghost use Rattle.ngc_compensation.specs.Laws.{IsWithin};
+ghost use Rattle.ngc_compensation.specs.Limits.{IsWithin};
 ghost use Rattle.ngc_compensation.specs.Sides.{apart as apart_of};
 ghost use Rattle.ngc_compensation.specs.Steps as spec;
 
@@ -138,7 +138,7 @@ fn last_place(
     requires end { IsWithin 5000000000 end.now }
     ensures { result
         ≡ spec.last_place compensation.now next.now normals.now junction.now end.now
-            next.now.motion }
+        next.now.motion }
 {
     match &next.motion {
         Motion::Traverse | Motion::Feed => Ok(*end),
@@ -177,7 +177,14 @@ fn follow_to(
     Ok(Outcome {
         made: Some(made),
         corner: junction.corner,
-        next: holding(compensation, next, next.motion, &junction.start, &last, &normals.last),
+        next: holding(
+            compensation,
+            next,
+            next.motion,
+            &junction.start,
+            &last,
+            &normals.last,
+        ),
     })
 }
 

@@ -2,7 +2,7 @@
 ghost use Rattle.std.specs.Prelude.{◌≡◌, ◌<◌, ◌≤◌, unsigned_abs, IfOk, IfSome};
 ghost use Rattle.ngc_compensation.specs.Bounds.{IsDirection, IsNear, IsNearHeld, IsNearMotion};
 ghost use Rattle.ngc_compensation.specs.Bounds.{AreDirections, IsNearJoined};
-ghost use Rattle.ngc_compensation.specs.Laws.{IsWithin};
+ghost use Rattle.ngc_compensation.specs.Limits.{IsWithin};
 ghost use Rattle.ngc_compensation.specs.Steps as spec;
 
 use crate::corner::{Joint, is_wide, joint_between};
@@ -38,8 +38,19 @@ fn meet_line(compensation: &Compensation, held: &Held, first: &Point2) -> Option
     match &held.motion {
         Motion::Traverse | Motion::Feed => lines_meet(place, radius, &held.normal, first),
         Motion::Arc(turn, centre) => {
-            let other = if is_inside(side, *turn) { side } else { opposite(side) };
-            line_meets(place, radius, first, centre, apart(centre, &held.end), other)
+            let other = if is_inside(side, *turn) {
+                side
+            } else {
+                opposite(side)
+            };
+            line_meets(
+                place,
+                radius,
+                first,
+                centre,
+                apart(centre, &held.end),
+                other,
+            )
         }
     }
 }
@@ -65,13 +76,28 @@ fn meet_arc(
     match &held.motion {
         Motion::Arc(old, other) => {
             let inner = centre_side(turn);
-            let on = if is_inside(side, *old) { inner } else { opposite(inner) };
+            let on = if is_inside(side, *old) {
+                inner
+            } else {
+                opposite(inner)
+            };
             circles_meet(other, apart(other, &held.end), centre, square, on)
         }
         Motion::Traverse | Motion::Feed => {
-            let on = if is_inside(side, turn) { opposite(side) } else { side };
+            let on = if is_inside(side, turn) {
+                opposite(side)
+            } else {
+                side
+            };
             let radius = radius_of(compensation);
-            line_meets(&compensation.place, radius, &held.normal, centre, square, on)
+            line_meets(
+                &compensation.place,
+                radius,
+                &held.normal,
+                centre,
+                square,
+                on,
+            )
         }
     }
 }

@@ -5,6 +5,7 @@
 mod corner;
 mod follow;
 mod join;
+pub mod laws;
 mod meet;
 mod moves;
 mod normal;

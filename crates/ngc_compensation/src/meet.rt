@@ -2,7 +2,7 @@
 ghost use Rattle.std.specs.Prelude.{◌≡◌, ◌≢◌, ◌-◌, ◌*◌, ◌^◌, ◌<◌, ◌≤◌, pos, ◌+ℤ◌, ◌-ℤ◌, ◌*ℤ◌};
 ghost use Rattle.std.specs.Prelude.{unsigned_abs, IfSome};
 ghost use Rattle.ngc_compensation.specs.Sides.{norm as norm_of};
-ghost use Rattle.ngc_compensation.specs.Laws.{IsWithin};
+ghost use Rattle.ngc_compensation.specs.Limits.{IsWithin};
 ghost use Rattle.ngc_compensation.specs.Meetings as spec;
 
 use crate::moves::Side;

@@ -4,7 +4,7 @@ ghost use Rattle.ngc_compensation.specs.Bounds.{IsDirection, IsNear, IsNearMotio
 ghost use Rattle.ngc_compensation.specs.Bounds.{AreDirections};
 ghost use Rattle.ngc_compensation.specs.Entries.{radius_of as radius_in, arc_normal as arc_normal_of};
 ghost use Rattle.ngc_compensation.specs.Entries.{is_too_small as is_small_arc};
-ghost use Rattle.ngc_compensation.specs.Laws.{IsWithin};
+ghost use Rattle.ngc_compensation.specs.Limits.{IsWithin};
 ghost use Rattle.ngc_compensation.specs.Sides.{apart as apart_of, turned as turned_of};
 ghost use Rattle.ngc_compensation.specs.Steps as spec;
 
@@ -87,9 +87,7 @@ fn arc_normals(
 {
     let start = &compensation.place;
     let side = compensation.side;
-    if apart(start, centre) == 0
-        || is_too_small(side, radius_of(compensation), turn, centre, end)
-    {
+    if apart(start, centre) == 0 || is_too_small(side, radius_of(compensation), turn, centre, end) {
         return Err(Refusal::ArcTooSmall);
     }
     Ok(Normals {

@@ -5,7 +5,7 @@ ghost use Rattle.ngc_fixed_length.specs.Rounding.{nearest, nearest_size};
 ghost use Rattle.ngc_fixed_length.specs.Signed.{is_within};
 ghost use Rattle.ngc_compensation.specs.Sides.{norm as norm_of};
 ghost use Rattle.ngc_compensation.specs.Offsets as spec;
-ghost use Rattle.ngc_compensation.specs.Laws.{IsWithin};
+ghost use Rattle.ngc_compensation.specs.Limits.{IsWithin};
 
 use crate::vector::{length, norm, shifted};
 use ngc_fixed_length::{Nm, Point2, root_floor};

@@ -2,7 +2,7 @@
 ghost use Rattle.std.specs.Prelude.{◌≡◌, ◌≢◌, ◌^◌, ◌*◌, ◌≤◌, pos, unsigned_abs};
 ghost use Rattle.ngc_compensation.specs.Bounds.{IsDirection, IsNear, IsNearMotion, IsNearMove};
 ghost use Rattle.ngc_compensation.specs.Entries as spec;
-ghost use Rattle.ngc_compensation.specs.Laws.{IsWithin};
+ghost use Rattle.ngc_compensation.specs.Limits.{IsWithin};
 
 use crate::moves::{Compensation, Held, Motion, Move, Outcome};
 use crate::normal::{arc_normal, is_too_small, line_normal, radius_of};
@@ -48,7 +48,14 @@ fn entered(compensation: &Compensation, next: &Move, motion: Motion, normal: &Po
     Outcome {
         made: None,
         corner: None,
-        next: holding(compensation, next, motion, &compensation.place, &end, normal),
+        next: holding(
+            compensation,
+            next,
+            motion,
+            &compensation.place,
+            &end,
+            normal,
+        ),
     }
 }
 

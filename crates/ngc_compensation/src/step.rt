@@ -1,7 +1,7 @@
 //! Compensation, move by move.
-ghost use Rattle.std.specs.Prelude.{◌≡◌, ◌≤◌, true, IfOk, unsigned_abs};
+ghost use Rattle.std.specs.Prelude.{◌≡◌, true, IfSome};
 ghost use Rattle.ngc_compensation.specs.Bounds.{IsNear, IsNearHeld, IsNearMove, AllNear};
-ghost use Rattle.ngc_compensation.specs.Laws.{IsWithin};
+ghost use Rattle.ngc_compensation.specs.Limits.{IsWithin};
 ghost use Rattle.ngc_compensation.specs.Steps as spec;
 
 use crate::follow::{follow, settled};
@@ -13,6 +13,7 @@ use crate::vector::{apart, norm, opposite};
 use ngc_fixed_length::{Nm, Plane, Point2};
 
 const PLACE_LIMIT: u128 = 4_000_000_000;
+
 const TOOL_LIMIT: u128 = 5_000_000_000;
 
 fn has_near_centre(limit: u128, motion: Motion) -> bool
@@ -37,7 +38,8 @@ fn is_direction(vector: &Point2) -> bool
 }
 
 fn is_near_held(held: &Option<Held>) -> bool
-    ensures { result ≡ spec.is_near_held held.now }
+    ensures value { result ≡ spec.is_near_held held.now }
+    ensures near { result ≡ true → IfSome held.now IsNearHeld }
 {
     match held {
         None => true,
@@ -75,7 +77,8 @@ fn begun(side: Side, radius: Nm, place: &Point2, height: Nm) -> Compensation
 
 impl Compensation {
     fn is_near(&self) -> bool
-        ensures { result ≡ spec.is_near_compensation self.now }
+        ensures value { result ≡ spec.is_near_compensation self.now }
+        ensures near { result ≡ true → AllNear self.now }
     {
         is_radius(self.radius) && is_near(PLACE_LIMIT, &self.place) && is_near_held(&self.held)
     }
@@ -159,7 +162,10 @@ impl Compensation {
     pub fn step(&self, next: &Move) -> Result<Outcome, Refusal>
         ensures { result ≡ spec.step self.now next.now }
     {
-        if !(self.is_near() && is_near_move(next)) {
+        if !self.is_near() {
+            return Err(Refusal::TooFar);
+        }
+        if !is_near_move(next) {
             return Err(Refusal::TooFar);
         }
         self.taken(next)

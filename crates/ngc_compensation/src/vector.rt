@@ -4,7 +4,7 @@ ghost use Rattle.std.specs.Prelude.{ℤ, pos, ◌-ℤ◌};
 ghost use Rattle.ngc_fixed_length.specs.Limits.{IsLength};
 ghost use Rattle.ngc_fixed_length.specs.Places as places;
 ghost use Rattle.ngc_compensation.specs.Sides as spec;
-ghost use Rattle.ngc_compensation.specs.Laws.{IsWithin};
+ghost use Rattle.ngc_compensation.specs.Limits.{IsWithin};
 
 use crate::moves::Side;
 use ngc_fixed_length::{Nm, Point2, Turn};

@@ -1,6 +1,6 @@
 //! Whether a move still goes in its own direction.
 ghost use Rattle.std.specs.Prelude.{◌≡◌, ◌^◌, ◌*◌, ◌≤◌, unsigned_abs};
-ghost use Rattle.ngc_compensation.specs.Laws.{IsWithin};
+ghost use Rattle.ngc_compensation.specs.Limits.{IsWithin};
 ghost use Rattle.ngc_compensation.specs.Ways as spec;
 
 use crate::moves::Side;

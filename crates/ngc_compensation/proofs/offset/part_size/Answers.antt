@@ -1,4 +1,4 @@
-use Rattle.std.proofs.Common.{◌*◌, ◌/◌, arith}
+use Rattle.std.proofs.Common.{◌*◌, ◌/◌}
 use Rattle.ngc_compensation.proofs.Parts.{quotient_within, quotient_small, part_within}
 use Rattle.ngc_compensation.proofs.offset.part_size.Goals as goal
 
