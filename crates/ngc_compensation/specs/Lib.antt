@@ -1,0 +1,11 @@
+pub mod Refusals
+pub mod Sides
+pub mod Offsets
+pub mod Corners
+pub mod Meetings
+pub mod Ways
+pub mod Entries
+pub mod Steps
+pub mod Limits
+pub mod Laws
+pub mod Bounds
