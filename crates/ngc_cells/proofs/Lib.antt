@@ -1,0 +1,6 @@
+-- Equations between sums and products of whole numbers, decided by computing.
+pub mod Ring
+-- Products of numbers that aren't negative, and the sum of two vectors.
+pub mod Vectors
+-- The points near a stretch: by cases, and that they are convex.
+pub mod Nearness

@@ -1,0 +1,7 @@
+//! A map of the heights that material can have, in square cells, and the cells near a stretch of a
+//! straight line.
+#![tactic(auto)]
+
+mod stretch;
+
+pub use stretch::{Spot, Stretch};
