@@ -1,5 +1,7 @@
 -- The points near a stretch: by cases, and that they are convex.
-use Rattle.std.proofs.Common.{◌≡◌, ℕ, zero, suc, ◌+◌, ◌*◌, ◌<◌, ◌≤◌, ℤ, pos, negsuc, ◌+ℤ◌, ◌-ℤ◌, ◌*ℤ◌, neg_ℤ, ◌≤ℤ◌, ◌<ℤ◌, ◌⊎◌, unsigned_abs, inl, inr, refl, sym, ◌∙◌, ap, subst, arith, [], ◌∷◌}
+use Rattle.std.proofs.Common.{◌≡◌, ℕ, zero, suc, ◌+◌, ◌*◌, ◌<◌, ◌≤◌, ℤ, pos, negsuc, ◌+ℤ◌, ◌-ℤ◌, ◌*ℤ◌, neg_ℤ, ◌≤ℤ◌, ◌<ℤ◌, ◌⊎◌, unsigned_abs, inl, inr, refl, sym, ◌∙◌, ap, ap₂, subst, arith, [], ◌∷◌}
+use Rattle.std.proofs.Math.Nat.{mul-le-mul_left}
+use Rattle.std.proofs.lemmas.Bool.{cases_lt}
 use Rattle.std.proofs.lemmas.Int.{ints, by_lt_z}
 use Rattle.ngc_cells.proofs.Ring.{Term, V, S, P, M, ring}
 use Rattle.ngc_cells.proofs.Vectors.{Q, L, natural, product_least, square_least, times_most, times_out, sum_most}
@@ -129,6 +131,12 @@ cases_core n k m j r dx dy wx wy some first last h =
     (λ behind. inl (nearer n k m j r dx dy wx wy some
       (same_signs ((pos m *ℤ pos k) -ℤ (pos n *ℤ pos j)) (across (pos n) (pos k) dx dy wx wy) (omega (arith, ints, first)) behind) h))
 
+places : (n k m j : ℕ) (c l : ℤ) → c ≡ (pos n *ℤ pos j) -ℤ (pos k *ℤ pos m) → l ≡ pos m → pos 0 <ℤ c → c <ℤ l → (0 < m) × (k * m ≤ j * n) × (j * n ≤ (k + 1) * m)
+places n k m j c l e f after before = (omega (arith, ints, e, f, after, before), omega (arith, ints, e, after), omega (arith, ints, e, f, before))
+
+square_times : (m r : ℕ) → m * ((r * r) * m) ≡ (m * r) * (m * r)
+square_times m r = omega arith
+
 -- the point of the line nearest to w, where that is in part k of n
 foot_core : (n k r : ℕ) (dx dy wx wy : ℤ) → pos 0 <ℤ across (pos n) (pos k) dx dy wx wy → across (pos n) (pos k) dx dy wx wy <ℤ long dx dy →
     square ((dx *ℤ wy) -ℤ (dy *ℤ wx)) ≤ℤ (pos (r * r) *ℤ long dx dy) →
@@ -141,7 +149,134 @@ foot_core n k r dx dy wx wy after before close =
     let kl = product_least (pos k) l (omega (arith, ints)) (long_least dx dy) in
     let tp : pos 0 ≤ℤ t = by_lt_z t (pos 0) (λ less.
         let q = times_most (pos n) t (pos 0) (omega (arith, ints)) (omega (arith, ints, less)) in
-        let z : pos n *ℤ pos 0 ≡ pos 0 = ring (pos n ∷ []) (P (V 0) (S (V 0) (M (V 0)))) (S (V 0) (M (V 0))) refl in
+        let z : pos n *ℤ pos 0 ≡ pos 0 = omega (arith, ints) in
         absurd (omega (arith, ints, q, z, e, kl, after))) (λ more. more) in
     let tn = natural t tp in
-    ?
+    let m = unsigned_abs l in
+    let j = unsigned_abs t in
+    let p = places n k m j (across (pos n) (pos k) dx dy wx wy) l (e ∙ ap₂ (λ (x y : ℤ). (pos n *ℤ x) -ℤ (pos k *ℤ y)) tn ln) ln after before in
+    let f = foot dx dy wx wy in
+    let g : off (pos m) (pos j) dx dy wx wy ≡ l *ℤ square ((dx *ℤ wy) -ℤ (dy *ℤ wx)) = ap₂ (λ (x y : ℤ). off x y dx dy wx wy) (sym ln) (sym tn) ∙ f in
+    let q = times_most l (square ((dx *ℤ wy) -ℤ (dy *ℤ wx))) (pos (r * r) *ℤ l) (long_least dx dy) close in
+    let u : l *ℤ (pos (r * r) *ℤ l) ≡ pos ((m * r) * (m * r)) = ap (λ (x : ℤ). x *ℤ (pos (r * r) *ℤ x)) ln ∙ ap pos (square_times m r) in
+    (m, j, p.0, p.1, p.2, omega (arith, ints, g, q, u))
+
+-- ---- on stretches
+
+pub cases_of : (s : Stretch) (r : ℕ) (q : Spot) → IsNear s r q → IsAround s.parts s.part s.start s.end r q ⊎ (IsAround s.parts (s.part + 1) s.start s.end r q ⊎ IsBeside s r q)
+cases_of s r q h =
+    let dx = s.end.x -ℤ s.start.x in
+    let dy = s.end.y -ℤ s.start.y in
+    let wx = q.x -ℤ s.start.x in
+    let wy = q.y -ℤ s.start.y in
+    elim (cases_core s.parts s.part h.0 h.1 r dx dy wx wy h.2.some h.2.first h.2.last h.3) [
+      | inl a ↦ inl a
+      | inr (inl b) ↦ inr (inl b)
+      | inr (inr c) ↦ inr (inr (record { after = c.0; before = c.1; close = near_line h.0 h.1 r dx dy wx wy h.2.some h.3 }))
+    ]
+
+pub first_of : (s : Stretch) (r : ℕ) (q : Spot) → 0 < s.parts → IsAround s.parts s.part s.start s.end r q → IsNear s r q
+first_of s r q some h = (s.parts, s.part, record { some = some; first = omega arith; last = omega arith }, h)
+
+pub last_of : (s : Stretch) (r : ℕ) (q : Spot) → 0 < s.parts → IsAround s.parts (s.part + 1) s.start s.end r q → IsNear s r q
+last_of s r q some h = (s.parts, s.part + 1, record { some = some; first = omega arith; last = omega arith }, h)
+
+pub beside_of : (s : Stretch) (r : ℕ) (q : Spot) → IsBeside s r q → IsNear s r q
+beside_of s r q h =
+    let f = foot_core s.parts s.part r (s.end.x -ℤ s.start.x) (s.end.y -ℤ s.start.y) (q.x -ℤ s.start.x) (q.y -ℤ s.start.y) h.after h.before h.close in
+    (f.0, f.1, record { some = f.2; first = f.3; last = f.4 }, f.5)
+
+-- ---- convexity
+
+off_scaled : (c n k dx dy wx wy : ℤ) → off (c *ℤ n) (c *ℤ k) dx dy wx wy ≡ (c *ℤ c) *ℤ off n k dx dy wx wy
+off_scaled c n k dx dy wx wy = ring (n ∷ k ∷ c ∷ pos 0 ∷ dx ∷ dy ∷ wx ∷ wy ∷ [])
+    (Off (P (V 2) (V 0)) (P (V 2) (V 1))) (P (Q (V 2)) (Off (V 0) (V 1))) refl
+
+scaled_in : (c n k r : ℕ) (dx dy wx wy : ℤ) → off (pos n) (pos k) dx dy wx wy ≤ℤ pos ((n * r) * (n * r)) →
+    off (pos (c * n)) (pos (c * k)) dx dy wx wy ≤ℤ pos (((c * n) * r) * ((c * n) * r))
+scaled_in c n k r dx dy wx wy h =
+    let e = off_scaled (pos c) (pos n) (pos k) dx dy wx wy in
+    let t = times_most (pos (c * c)) (off (pos n) (pos k) dx dy wx wy) (pos ((n * r) * (n * r))) (omega (arith, ints)) h in
+    let g : pos ((c * c) * ((n * r) * (n * r))) ≡ pos (((c * n) * r) * ((c * n) * r)) = ap pos (let f : (c * c) * ((n * r) * (n * r)) ≡ ((c * n) * r) * ((c * n) * r) = omega arith in f) in
+    omega (arith, ints, e, t, g)
+
+-- a is the share of the point at wx - b, and b that of the point at wx + a
+shared_x : (n j m i a b d w : ℤ) → short ((((a *ℤ m) *ℤ n) +ℤ ((b *ℤ n) *ℤ m))) ((((a *ℤ m) *ℤ j) +ℤ ((b *ℤ n) *ℤ i))) d w ≡
+    short ((a *ℤ m) *ℤ n) ((a *ℤ m) *ℤ j) d (w -ℤ b) +ℤ short ((b *ℤ n) *ℤ m) ((b *ℤ n) *ℤ i) d (w +ℤ a)
+shared_x n j m i a b d w = ring (n ∷ j ∷ m ∷ i ∷ a ∷ b ∷ d ∷ w ∷ [])
+    (Short (S (P (P (V 4) (V 2)) (V 0)) (P (P (V 5) (V 0)) (V 2))) (S (P (P (V 4) (V 2)) (V 1)) (P (P (V 5) (V 0)) (V 3))) (V 6) (V 7))
+    (S (Short (P (P (V 4) (V 2)) (V 0)) (P (P (V 4) (V 2)) (V 1)) (V 6) (L (V 7) (V 5))) (Short (P (P (V 5) (V 0)) (V 2)) (P (P (V 5) (V 0)) (V 3)) (V 6) (S (V 7) (V 4)))) refl
+
+shared_y : (n j m i a b d w : ℤ) → short ((((a *ℤ m) *ℤ n) +ℤ ((b *ℤ n) *ℤ m))) ((((a *ℤ m) *ℤ j) +ℤ ((b *ℤ n) *ℤ i))) d w ≡
+    short ((a *ℤ m) *ℤ n) ((a *ℤ m) *ℤ j) d w +ℤ short ((b *ℤ n) *ℤ m) ((b *ℤ n) *ℤ i) d w
+shared_y n j m i a b d w = ring (n ∷ j ∷ m ∷ i ∷ a ∷ b ∷ d ∷ w ∷ [])
+    (Short (S (P (P (V 4) (V 2)) (V 0)) (P (P (V 5) (V 0)) (V 2))) (S (P (P (V 4) (V 2)) (V 1)) (P (P (V 5) (V 0)) (V 3))) (V 6) (V 7))
+    (S (Short (P (P (V 4) (V 2)) (V 0)) (P (P (V 4) (V 2)) (V 1)) (V 6) (V 7)) (Short (P (P (V 5) (V 0)) (V 2)) (P (P (V 5) (V 0)) (V 3)) (V 6) (V 7))) refl
+
+between_core : (n j m i a b r : ℕ) (dx dy wx wy : ℤ) →
+    off (pos n) (pos j) dx dy (wx -ℤ pos b) wy ≤ℤ pos ((n * r) * (n * r)) →
+    off (pos m) (pos i) dx dy (wx +ℤ pos a) wy ≤ℤ pos ((m * r) * (m * r)) →
+    off (pos ((a * m) * n + (b * n) * m)) (pos ((a * m) * j + (b * n) * i)) dx dy wx wy ≤ℤ pos ((((a * m) * n + (b * n) * m) * r) * (((a * m) * n + (b * n) * m) * r))
+between_core n j m i a b r dx dy wx wy h g =
+    let p = scaled_in (a * m) n j r dx dy (wx -ℤ pos b) wy h in
+    let q = scaled_in (b * n) m i r dx dy (wx +ℤ pos a) wy g in
+    let s = sum_most
+        (short (pos ((a * m) * n)) (pos ((a * m) * j)) dx (wx -ℤ pos b)) (short (pos ((a * m) * n)) (pos ((a * m) * j)) dy wy)
+        (short (pos ((b * n) * m)) (pos ((b * n) * i)) dx (wx +ℤ pos a)) (short (pos ((b * n) * m)) (pos ((b * n) * i)) dy wy)
+        (((a * m) * n) * r) (((b * n) * m) * r) p q in
+    let ex = shared_x (pos n) (pos j) (pos m) (pos i) (pos a) (pos b) dx wx in
+    let ey = shared_y (pos n) (pos j) (pos m) (pos i) (pos a) (pos b) dy wy in
+    let e : ((a * m) * n) * r + ((b * n) * m) * r ≡ ((a * m) * n + (b * n) * m) * r = omega arith in
+    subst (λ (x : ℤ). (square x +ℤ square (short (pos ((a * m) * n + (b * n) * m)) (pos ((a * m) * j + (b * n) * i)) dy wy)) ≤ℤ pos ((((a * m) * n + (b * n) * m) * r) * (((a * m) * n + (b * n) * m) * r))) (sym ex)
+    (subst (λ (y : ℤ). (square (short (pos ((a * m) * n)) (pos ((a * m) * j)) dx (wx -ℤ pos b) +ℤ short (pos ((b * n) * m)) (pos ((b * n) * i)) dx (wx +ℤ pos a)) +ℤ square y) ≤ℤ pos ((((a * m) * n + (b * n) * m) * r) * (((a * m) * n + (b * n) * m) * r))) (sym ey)
+    (subst (λ (t : ℕ). (square (short (pos ((a * m) * n)) (pos ((a * m) * j)) dx (wx -ℤ pos b) +ℤ short (pos ((b * n) * m)) (pos ((b * n) * i)) dx (wx +ℤ pos a)) +ℤ square (short (pos ((a * m) * n)) (pos ((a * m) * j)) dy wy +ℤ short (pos ((b * n) * m)) (pos ((b * n) * i)) dy wy)) ≤ℤ pos (t * t)) e s))
+
+some_sum : (a b n m : ℕ) → 0 < a + b → 0 < n → 0 < m → 0 < (a * m) * n + (b * n) * m
+some_sum (suc a) b (suc n) (suc m) h i j = omega arith
+some_sum zero (suc b) (suc n) (suc m) h i j = omega arith
+some_sum zero zero n m h i j = absurd (omega arith)
+some_sum (suc a) b zero m h i j = absurd (omega arith)
+some_sum zero (suc b) zero m h i j = absurd (omega arith)
+some_sum (suc a) b (suc n) zero h i j = absurd (omega arith)
+some_sum zero (suc b) (suc n) zero h i j = absurd (omega arith)
+
+first_share : (k p n j m i a b : ℕ) → k * n ≤ j * p → k * m ≤ i * p → k * ((a * m) * n + (b * n) * m) ≤ ((a * m) * j + (b * n) * i) * p
+first_share k p n j m i a b h g =
+    let x = mul-le-mul_left (a * m) h in
+    let y = mul-le-mul_left (b * n) g in
+    omega (arith, x, y)
+
+last_share : (k p n j m i a b : ℕ) → j * p ≤ k * n → i * p ≤ k * m → ((a * m) * j + (b * n) * i) * p ≤ k * ((a * m) * n + (b * n) * m)
+last_share k p n j m i a b h g =
+    let x = mul-le-mul_left (a * m) h in
+    let y = mul-le-mul_left (b * n) g in
+    omega (arith, x, y)
+
+abbrev pub spot : ℤ → ℤ → Spot
+spot x y = record { x = x; y = y }
+
+-- between two near points of a row all are near
+pub between : (s : Stretch) (r : ℕ) (l x h y : ℤ) → l ≤ℤ x → x ≤ℤ h → IsNear s r (spot l y) → IsNear s r (spot h y) → IsNear s r (spot x y)
+between s r l x h y lx xh pl ph =
+    let a = unsigned_abs (h -ℤ x) in
+    let b = unsigned_abs (x -ℤ l) in
+    let ea = natural (h -ℤ x) (omega (arith, ints, xh)) in
+    let eb = natural (x -ℤ l) (omega (arith, ints, lx)) in
+    elim (cases_lt 0 (a + b)) [
+      | inl some ↦ (
+          let n = pl.0 in let j = pl.1 in let m = ph.0 in let i = ph.1 in
+          let dx = s.end.x -ℤ s.start.x in
+          let dy = s.end.y -ℤ s.start.y in
+          let wl : l -ℤ s.start.x ≡ (x -ℤ s.start.x) -ℤ pos b = omega (arith, ints, eb) in
+          let wh : h -ℤ s.start.x ≡ (x -ℤ s.start.x) +ℤ pos a = omega (arith, ints, ea) in
+          ((a * m) * n + (b * n) * m, (a * m) * j + (b * n) * i,
+          record {
+            some = some_sum a b n m some pl.2.some ph.2.some;
+            first = first_share s.part s.parts n j m i a b pl.2.first ph.2.first;
+            last = last_share (s.part + 1) s.parts n j m i a b pl.2.last ph.2.last;
+          },
+          between_core n j m i a b r dx dy (x -ℤ s.start.x) (y -ℤ s.start.y)
+            (subst (λ (w : ℤ). off (pos n) (pos j) dx dy w (y -ℤ s.start.y) ≤ℤ pos ((n * r) * (n * r))) wl pl.3)
+            (subst (λ (w : ℤ). off (pos m) (pos i) dx dy w (y -ℤ s.start.y) ≤ℤ pos ((m * r) * (m * r))) wh ph.3)))
+      | inr none ↦ (let e : l ≡ x = omega (arith, ints, eb, none) in subst (λ (w : ℤ). IsNear s r (spot w y)) e pl)
+    ]
