@@ -4,3 +4,5 @@ pub mod Ring
 pub mod Vectors
 -- The points near a stretch: by cases, and that they are convex.
 pub mod Nearness
+-- Quotients rounded down and up, and spans.
+pub mod Quotients

@@ -2,6 +2,8 @@
 //! straight line.
 #![tactic(auto)]
 
+mod span;
 mod stretch;
 
+pub use span::Span;
 pub use stretch::{Spot, Stretch};
