@@ -6,3 +6,7 @@ pub mod Vectors
 pub mod Nearness
 -- Quotients rounded down and up, and spans.
 pub mod Quotients
+-- Numbers whose squares are at most a bound.
+pub mod Roots
+-- Sums and differences of small numbers that fit.
+pub mod Kept

@@ -7,7 +7,7 @@ use Rattle.ngc_cells.proofs.Ring.{Term, V, S, P, M, ring}
 use Rattle.ngc_cells.proofs.Vectors.{Q, L, natural, product_least, square_least, times_most, times_out, sum_most}
 use Rattle.ngc_cells.specs.declared.stretch.Spot.{Spot}
 use Rattle.ngc_cells.specs.declared.stretch.Stretch.{Stretch}
-use Rattle.ngc_cells.specs.Stretches.{square, ahead, IsAround, IsOn, IsNear, squared_length, along, aside, IsBeside}
+use Rattle.ngc_cells.specs.Stretches.{square, ahead, IsAround, IsOn, IsNear, squared_length, along, aside, IsAlong, IsBeside, spot}
 
 -- d is the line's vector, w that from its start to a point
 abbrev short : ℤ → ℤ → ℤ → ℤ → ℤ
@@ -172,7 +172,7 @@ cases_of s r q h =
     elim (cases_core s.parts s.part h.0 h.1 r dx dy wx wy h.2.some h.2.first h.2.last h.3) [
       | inl a ↦ inl a
       | inr (inl b) ↦ inr (inl b)
-      | inr (inr c) ↦ inr (inr (record { after = c.0; before = c.1; close = near_line h.0 h.1 r dx dy wx wy h.2.some h.3 }))
+      | inr (inr c) ↦ inr (inr (record { along = record { after = c.0; before = c.1 }; close = near_line h.0 h.1 r dx dy wx wy h.2.some h.3 }))
     ]
 
 pub first_of : (s : Stretch) (r : ℕ) (q : Spot) → 0 < s.parts → IsAround s.parts s.part s.start s.end r q → IsNear s r q
@@ -183,7 +183,7 @@ last_of s r q some h = (s.parts, s.part + 1, record { some = some; first = omega
 
 pub beside_of : (s : Stretch) (r : ℕ) (q : Spot) → IsBeside s r q → IsNear s r q
 beside_of s r q h =
-    let f = foot_core s.parts s.part r (s.end.x -ℤ s.start.x) (s.end.y -ℤ s.start.y) (q.x -ℤ s.start.x) (q.y -ℤ s.start.y) h.after h.before h.close in
+    let f = foot_core s.parts s.part r (s.end.x -ℤ s.start.x) (s.end.y -ℤ s.start.y) (q.x -ℤ s.start.x) (q.y -ℤ s.start.y) h.along.after h.along.before h.close in
     (f.0, f.1, record { some = f.2; first = f.3; last = f.4 }, f.5)
 
 -- ---- convexity
@@ -251,9 +251,6 @@ last_share k p n j m i a b h g =
     let x = mul-le-mul_left (a * m) h in
     let y = mul-le-mul_left (b * n) g in
     omega (arith, x, y)
-
-abbrev pub spot : ℤ → ℤ → Spot
-spot x y = record { x = x; y = y }
 
 -- between two near points of a row all are near
 pub between : (s : Stretch) (r : ℕ) (l x h y : ℤ) → l ≤ℤ x → x ≤ℤ h → IsNear s r (spot l y) → IsNear s r (spot h y) → IsNear s r (spot x y)

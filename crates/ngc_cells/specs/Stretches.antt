@@ -1,5 +1,6 @@
 -- Stretches of a line in the plane, and which points are near them. Our own.
 use Rattle.std.specs.Prelude.{◌≡◌, ℕ, ◌+◌, ◌*◌, ◌≤◌, ◌<◌, ℤ, pos, ◌+ℤ◌, ◌-ℤ◌, ◌*ℤ◌, ◌≤ℤ◌, ◌<ℤ◌, unsigned_abs}
+use Rattle.ngc_fixed_length.specs.Roots.{IsRootFloor}
 use Rattle.ngc_cells.specs.declared.stretch.Spot.{Spot}
 use Rattle.ngc_cells.specs.declared.stretch.Stretch.{Stretch}
 
@@ -13,6 +14,9 @@ RADIUS_LIMIT = 1000000000
 
 abbrev pub PARTS_LIMIT : ℕ
 PARTS_LIMIT = 1000
+
+abbrev pub spot : ℤ → ℤ → Spot
+spot x y = record { x = x; y = y }
 
 pub record IsSpot (p : Spot) : Type 0 where
   pub x : unsigned_abs p.x ≤ REACH
@@ -30,6 +34,10 @@ square z = z *ℤ z
 -- n times the distance, along an axis, from the point at k/n of the line from a to b, to q
 abbrev pub ahead : ℕ → ℕ → ℤ → ℤ → ℤ → ℤ
 ahead n k a b q = (pos n *ℤ (q -ℤ a)) -ℤ (pos k *ℤ (b -ℤ a))
+
+-- n times the coordinate of that point
+abbrev pub middle : ℕ → ℕ → ℤ → ℤ → ℤ
+middle n k a b = (pos n *ℤ a) +ℤ (pos k *ℤ (b -ℤ a))
 
 -- the point at k/n of the line from a to b is at most r from q
 abbrev pub IsAround : ℕ → ℕ → Spot → Spot → ℕ → Spot → Type 0
@@ -62,8 +70,19 @@ along s q =
 abbrev pub aside : Spot → Spot → Spot → ℤ
 aside a b q = ((b.x -ℤ a.x) *ℤ (q.y -ℤ a.y)) -ℤ ((b.y -ℤ a.y) *ℤ (q.x -ℤ a.x))
 
--- q is at most r from the line, between the perpendiculars at both ends of the stretch
-pub record IsBeside (s : Stretch) (r : ℕ) (q : Spot) : Type 0 where
+-- q is between the perpendiculars to the line at both ends of the stretch
+pub record IsAlong (s : Stretch) (q : Spot) : Type 0 where
   pub after : pos 0 <ℤ along s q
   pub before : along s q <ℤ squared_length s.start s.end
-  pub close : square (aside s.start s.end q) ≤ℤ (pos (r * r) *ℤ squared_length s.start s.end)
+
+-- q is at most r from the line, which may go on beyond its ends
+abbrev pub IsClose : Stretch → ℕ → Spot → Type 0
+IsClose s r q = square (aside s.start s.end q) ≤ℤ (pos (r * r) *ℤ squared_length s.start s.end)
+
+pub record IsBeside (s : Stretch) (r : ℕ) (q : Spot) : Type 0 where
+  pub along : IsAlong s q
+  pub close : IsClose s r q
+
+-- the whole root of the right side of IsClose
+abbrev pub IsWidth : Stretch → ℕ → ℕ → Type 0
+IsWidth s r w = IsRootFloor (r * r * unsigned_abs (squared_length s.start s.end)) w

@@ -2,6 +2,7 @@
 //! straight line.
 #![tactic(auto)]
 
+mod band;
 mod span;
 mod stretch;
 
