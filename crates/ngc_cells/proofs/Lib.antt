@@ -10,3 +10,5 @@ pub mod Quotients
 pub mod Roots
 -- Sums and differences of small numbers that fit.
 pub mod Kept
+-- The points of a row that are near a stretch.
+pub mod Rows

@@ -4,7 +4,7 @@ use Rattle.std.proofs.Math.Nat.{mul-le-mul_left}
 use Rattle.std.proofs.lemmas.Bool.{cases_lt}
 use Rattle.std.proofs.lemmas.Int.{ints, by_lt_z}
 use Rattle.ngc_cells.proofs.Ring.{Term, V, S, P, M, ring}
-use Rattle.ngc_cells.proofs.Vectors.{Q, L, natural, product_least, square_least, times_most, times_out, sum_most}
+use Rattle.ngc_cells.proofs.Vectors.{Q, L, natural, product_least, square_least, times_most, times_out, sum_most, same_signs}
 use Rattle.ngc_cells.specs.declared.stretch.Spot.{Spot}
 use Rattle.ngc_cells.specs.declared.stretch.Stretch.{Stretch}
 use Rattle.ngc_cells.specs.Stretches.{square, ahead, IsAround, IsOn, IsNear, squared_length, along, aside, IsAlong, IsBeside, spot}
@@ -98,12 +98,6 @@ near_line m j r dx dy wx wy some h =
     let g = squares_with m r (long dx dy) in
     times_out (pos (m * m)) (square ((dx *ℤ wy) -ℤ (dy *ℤ wx))) (pos (r * r) *ℤ long dx dy) (let z = some_square m some in omega (arith, ints))
     (omega (arith, ints, e, p, t, g))
-
-same_signs : (x y : ℤ) → x ≤ℤ pos 0 → y ≤ℤ pos 0 → pos 0 ≤ℤ (x *ℤ y)
-same_signs x y h i =
-    let p = product_least (neg_ℤ x) (neg_ℤ y) (omega (arith, ints, h)) (omega (arith, ints, i)) in
-    let e : neg_ℤ x *ℤ neg_ℤ y ≡ x *ℤ y = ring (x ∷ y ∷ []) (P (M (V 0)) (M (V 1))) (P (V 0) (V 1)) refl in
-    rw e at p
 
 one_on : (n k o dx dy wx wy : ℤ) → across n (k +ℤ o) dx dy wx wy ≡ across n k dx dy wx wy -ℤ (o *ℤ long dx dy)
 one_on n k o dx dy wx wy = ring (n ∷ k ∷ o ∷ pos 0 ∷ dx ∷ dy ∷ wx ∷ wy ∷ [])

@@ -57,6 +57,12 @@ times_out c a b h i =
     (λ more. let p = product_above c (a -ℤ b) h (omega (arith, ints, more)) in absurd (omega (arith, ints, i, p, times_less c b a)))
     (λ less. less)
 
+pub same_signs : (x y : ℤ) → x ≤ℤ pos 0 → y ≤ℤ pos 0 → pos 0 ≤ℤ (x *ℤ y)
+same_signs x y h i =
+    let p = product_least (neg_ℤ x) (neg_ℤ y) (omega (arith, ints, h)) (omega (arith, ints, i)) in
+    let e : neg_ℤ x *ℤ neg_ℤ y ≡ x *ℤ y = ring (x ∷ y ∷ []) (P (M (V 0)) (M (V 1))) (P (V 0) (V 1)) refl in
+    rw e at p
+
 -- ---- the sum of two vectors
 
 sum_square : (a b c d : ℤ) → square (a +ℤ c) +ℤ square (b +ℤ d) ≡ ((square a +ℤ square b) +ℤ (square c +ℤ square d)) +ℤ (((a *ℤ c) +ℤ (b *ℤ d)) +ℤ ((a *ℤ c) +ℤ (b *ℤ d)))

@@ -1,5 +1,5 @@
 -- Stretches of a line in the plane, and which points are near them. Our own.
-use Rattle.std.specs.Prelude.{◌≡◌, ℕ, ◌+◌, ◌*◌, ◌≤◌, ◌<◌, ℤ, pos, ◌+ℤ◌, ◌-ℤ◌, ◌*ℤ◌, ◌≤ℤ◌, ◌<ℤ◌, unsigned_abs}
+use Rattle.std.specs.Prelude.{◌≡◌, ℕ, ◌+◌, ◌*◌, ◌≤◌, ◌<◌, ℤ, pos, ◌+ℤ◌, ◌-ℤ◌, ◌*ℤ◌, neg_ℤ, ◌≤ℤ◌, ◌<ℤ◌, unsigned_abs}
 use Rattle.ngc_fixed_length.specs.Roots.{IsRootFloor}
 use Rattle.ngc_cells.specs.declared.stretch.Spot.{Spot}
 use Rattle.ngc_cells.specs.declared.stretch.Stretch.{Stretch}
@@ -79,10 +79,15 @@ pub record IsAlong (s : Stretch) (q : Spot) : Type 0 where
 abbrev pub IsClose : Stretch → ℕ → Spot → Type 0
 IsClose s r q = square (aside s.start s.end q) ≤ℤ (pos (r * r) *ℤ squared_length s.start s.end)
 
-pub record IsBeside (s : Stretch) (r : ℕ) (q : Spot) : Type 0 where
-  pub along : IsAlong s q
-  pub close : IsClose s r q
-
 -- the whole root of the right side of IsClose
 abbrev pub IsWidth : Stretch → ℕ → ℕ → Type 0
 IsWidth s r w = IsRootFloor (r * r * unsigned_abs (squared_length s.start s.end)) w
+
+-- the same by the whole root w of its right side
+pub record IsBand (s : Stretch) (w : ℕ) (q : Spot) : Type 0 where
+  pub low : neg_ℤ (pos w) ≤ℤ aside s.start s.end q
+  pub high : aside s.start s.end q ≤ℤ pos w
+
+pub record IsBeside (s : Stretch) (r : ℕ) (q : Spot) : Type 0 where
+  pub along : IsAlong s q
+  pub close : IsClose s r q

@@ -3,8 +3,12 @@
 #![tactic(auto)]
 
 mod band;
+mod cells;
+mod grid;
 mod span;
 mod stretch;
 
+pub use cells::{Peak, highest_above, lower};
+pub use grid::Grid;
 pub use span::Span;
 pub use stretch::{Spot, Stretch};

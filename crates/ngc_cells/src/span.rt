@@ -28,7 +28,7 @@ fn ceiling_quotient(limit: i128, by: i128) -> i128
 impl Span {
     /// Returns the span of no numbers.
     pub(crate) fn none() -> Span
-        ensures { (x : ℤ) → IsIn result x ↔ (pos 1 ≡ pos 0) }
+        ensures { (x : ℤ) → ¬ (IsIn result x) }
     {
         Span { low: 1, high: 0 }
     }
