@@ -12,3 +12,7 @@ pub mod Roots
 pub mod Kept
 -- The points of a row that are near a stretch.
 pub mod Rows
+-- The cells of a row whose centres are in a span.
+pub mod Grids
+-- One row more of a map's cells.
+pub mod Lowering

@@ -40,16 +40,20 @@ pub record AreLowered (g : Grid) (s : Stretch) (r level : ℕ) (old new : List �
 abbrev pub AreBelow : Grid → Stretch → ℕ → ℕ → List ℕ → Type 0
 AreBelow g s r level heights = (k : ℕ) → k < length heights → IsNear s r (centre g k) → slice_index heights k ≤ level
 
--- a highest one of the cells whose centre is near, higher than the level
-pub record IsPeak (g : Grid) (s : Stretch) (r level : ℕ) (heights : List ℕ) (p : Peak) : Type 0 where
-  pub cell : p.cell < length heights
+-- a peak is one of the first cells, its centre is near, and its height is that of the cell
+pub record IsNearPeak (g : Grid) (s : Stretch) (r : ℕ) (heights : List ℕ) (count : ℕ) (p : Peak) : Type 0 where
+  pub cell : p.cell < count
   pub near : IsNear s r (centre g p.cell)
   pub height : p.height ≡ slice_index heights p.cell
+
+-- a highest one of the cells whose centre is near, higher than the level
+pub record IsPeak (g : Grid) (s : Stretch) (r level : ℕ) (heights : List ℕ) (p : Peak) : Type 0 where
+  pub found : IsNearPeak g s r heights (length heights) p
   pub above : level < p.height
   pub greatest : AreBelow g s r p.height heights
 
 -- a peak is a cell from the first to the one before the end, with its height
 pub record IsFoundIn (heights : List ℕ) (first end : ℕ) (p : Peak) : Type 0 where
-  pub first : first ≤ p.cell
-  pub end : p.cell < end
+  pub least : first ≤ p.cell
+  pub most : p.cell < end
   pub height : p.height ≡ slice_index heights p.cell

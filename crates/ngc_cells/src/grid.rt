@@ -1,7 +1,7 @@
 ghost use Rattle.std.specs.Prelude.{◌≡◌, ◌≢◌, ℕ, ℤ, pos, ◌+◌, ◌*◌, ◌<◌, ◌≤◌, ◌≤ℤ◌, ◌↔◌, unsigned_abs};
 ghost use Rattle.ngc_cells.specs.Stretches.{REACH};
 ghost use Rattle.ngc_cells.specs.Spans.{IsIn};
-ghost use Rattle.ngc_cells.specs.Grids.{IsGrid, middle_of, CELL_LIMIT};
+ghost use Rattle.ngc_cells.specs.Grids.{middle_of};
 
 use crate::span::Span;
 use crate::stretch::Spot;
@@ -35,10 +35,43 @@ pub(crate) fn middle_of(corner: i64, half: u32, index: u32) -> i64
 /// Returns a number, or the nearest one that is at most 2^40 in size.
 fn limited(number: i128) -> i128
     ensures bound { unsigned_abs result ≤ 1099511627776 }
-    ensures low { (x : ℤ) → unsigned_abs x ≤ 1099511627776 → (number ≤ℤ x) ↔ (result ≤ℤ x) }
-    ensures high { (x : ℤ) → unsigned_abs x ≤ 1099511627776 → (x ≤ℤ number) ↔ (x ≤ℤ result) }
+    ensures low { (x : ℤ) → unsigned_abs x < 1099511627776 → (number ≤ℤ x) ↔ (result ≤ℤ x) }
+    ensures high { (x : ℤ) → unsigned_abs x < 1099511627776 → (x ≤ℤ number) ↔ (x ≤ℤ result) }
 {
-    number.clamp(-1_099_511_627_776, 1_099_511_627_776)
+    if number < -1_099_511_627_776 {
+        -1_099_511_627_776
+    } else if 1_099_511_627_776 < number {
+        1_099_511_627_776
+    } else {
+        number
+    }
+}
+
+/// Returns the first of the indices below `count` that is at least a number, or `count`.
+fn first_from(number: i128, count: u32) -> u32
+    ensures { (i : ℕ) → i < count → (result ≤ i) ↔ (number ≤ℤ pos i) }
+{
+    if number <= 0 {
+        0
+    } else if i128::from(count) <= number {
+        count
+    } else {
+        number as u32
+    }
+}
+
+/// Returns the first of the indices below `count` that is above a number, or `count`.
+fn end_after(number: i128, count: u32) -> u32
+    ensures within { result ≤ count }
+    ensures value { (i : ℕ) → i < count → (i < result) ↔ (pos i ≤ℤ number) }
+{
+    if number < 0 {
+        0
+    } else if i128::from(count) <= number {
+        count
+    } else {
+        number as u32 + 1
+    }
 }
 
 /// Returns the indices below `count` of the cells whose middles are in a span.
@@ -47,7 +80,8 @@ pub(crate) fn indices_in(corner: i64, half: u32, count: u32, span: &Span) -> Ind
     requires half { 0 < half }
     requires fits { 2 * count * half ≤ 2 * REACH }
     ensures within { result.end ≤ count }
-    ensures are { (i : ℕ) → i < count → ((result.first ≤ i) × (i < result.end)) ↔ IsIn span.now (middle_of corner half i) }
+    ensures are { (i : ℕ) → i < count
+        → ((result.first ≤ i) × (i < result.end)) ↔ IsIn span.now (middle_of corner half i) }
 {
     let base = i128::from(corner) + i128::from(half);
     let indices = Span::quotients(
@@ -56,7 +90,7 @@ pub(crate) fn indices_in(corner: i64, half: u32, count: u32, span: &Span) -> Ind
         2 * i128::from(half),
     );
     Indices {
-        first: limited(indices.low).clamp(0, i128::from(count)) as u32,
-        end: (limited(indices.high) + 1).clamp(0, i128::from(count)) as u32,
+        first: first_from(indices.low, count),
+        end: end_after(indices.high, count),
     }
 }
