@@ -51,7 +51,8 @@ fn peak_in(heights: &[u32], first: usize, end: usize, peak: Peak) -> Peak
     requires { end ≤ length heights.now }
     ensures most { (k : ℕ) → first ≤ k → k < end → slice_index heights.now k ≤ result.height }
     ensures least { peak.height ≤ result.height }
-    ensures one { peak.height < result.height → IsFoundIn heights.now first end result }
+    ensures same { result.height ≤ peak.height → result ≡ peak }
+    ensures found { peak.height < result.height → IsFoundIn heights.now first end result }
 {
     let mut best = peak;
     for k in first..end {
