@@ -1,0 +1,26 @@
+-- The cells of a row whose centres are in a span.
+use Rattle.std.proofs.Common.{◌≡◌, ℕ, zero, suc, ◌+◌, ◌*◌, ◌-◌, ◌/◌, ◌%◌, ◌<◌, ◌≤◌, ℤ, pos, ◌+ℤ◌, ◌-ℤ◌, ◌*ℤ◌, ◌≤ℤ◌, ◌↔◌, unsigned_abs, refl, sym, ap, ap₂, subst, arith}
+use Rattle.std.proofs.lemmas.Nat.{mul-le}
+use Rattle.std.proofs.lemmas.Int.{ints}
+use Rattle.ngc_cells.specs.declared.span.Span.{Span}
+use Rattle.ngc_cells.specs.Spans.{IsIn}
+use Rattle.ngc_cells.specs.Grids.{middle_of}
+
+middle_is : (half i : ℕ) → i * (2 * half) + half ≡ (2 * i + 1) * half
+middle_is half i = omega arith
+
+pub indices_are : (corner l h : ℤ) (half i first end : ℕ) (span q : Span) →
+    ((first ≤ i) ↔ (q.low ≤ℤ pos i)) → ((i < end) ↔ (pos i ≤ℤ q.high)) →
+    (IsIn q (pos i) ↔ (((l -ℤ (corner +ℤ pos half)) ≤ℤ (pos i *ℤ pos (2 * half))) × ((pos i *ℤ pos (2 * half)) ≤ℤ (h -ℤ (corner +ℤ pos half))))) →
+    ((span.low ≤ℤ middle_of corner half i) ↔ (l ≤ℤ middle_of corner half i)) → ((middle_of corner half i ≤ℤ span.high) ↔ (middle_of corner half i ≤ℤ h)) →
+    ((first ≤ i) × (i < end)) ↔ IsIn span (middle_of corner half i)
+indices_are corner l h half i first end span q a b c d e =
+    let m = middle_is half i in (
+      (λ p. let x = c.0 (record { low = a.0 p.0; high = b.0 p.1 }) in record { low = d.1 (omega (arith, ints, x.0, m)); high = e.1 (omega (arith, ints, x.1, m)) }),
+      (λ p. let x = c.1 (let y = d.0 p.low in let z = e.0 p.high in (omega (arith, ints, y, m), omega (arith, ints, z, m))) in (a.1 x.low, b.1 x.high)),
+    )
+
+pub middle_small : (corner : ℤ) (half i count : ℕ) → unsigned_abs corner ≤ 2000000000 → 2 * count * half ≤ 4000000000 → i < count → unsigned_abs (middle_of corner half i) < 1099511627776
+middle_small corner half i count h small less =
+    let p = mul-le (2 * i + 1) half (2 * count) half (omega arith) (omega arith) in
+    omega (arith, ints, h, small, p)

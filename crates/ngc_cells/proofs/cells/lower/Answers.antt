@@ -1,0 +1,40 @@
+use Rattle.std.proofs.Common.{◌≡◌, ℕ, ℤ, pos, negsuc, ◌+◌, ◌*◌, ◌+ℤ◌, ◌*ℤ◌, ◌≤ℤ◌, ◌<ℤ◌, ◌≤◌, ◌<◌, ◌^◌, ◌↔◌, ◌≢◌, FitsSigned, unsigned_abs, to_z, of_z, neg_ℤ, ◌-ℤ◌, arith, sym, ◌∙◌, ap, ap₂, subst, refl, lit<}
+use Rattle.std.specs.Int.{w64, w128}
+use Rattle.std.proofs.lemmas.Int.{ints, to_z-of_z, by_lt_z}
+use Rattle.ngc_fixed_length.specs.Roots.{IsRootFloor}
+use Rattle.ngc_cells.specs.declared.span.Span.{Span}
+use Rattle.ngc_cells.specs.declared.stretch.Stretch.{Stretch}
+use Rattle.ngc_cells.specs.Spans.{IsIn, IsInEither, IsBetween}
+use Rattle.ngc_cells.specs.Stretches.{REACH, RADIUS_LIMIT, PARTS_LIMIT, IsSpot, IsStretch, ahead, middle, square, IsAround, squared_length, along, aside, IsAlong, IsClose, IsBand, IsBeside, IsWidth, IsNear, spot}
+use Rattle.ngc_cells.proofs.Kept.{kept64, kept128, less64, plus64, less128, plus128}
+use Rattle.std.proofs.Common.{inl, inr}
+use Rattle.std.proofs.lemmas.Bool.{cases_lt}
+use Rattle.ngc_cells.specs.declared.cells.Peak.{Peak}
+use Rattle.ngc_cells.specs.Grids.{middle_of, IsLowered, AreLowered, AreBelow, IsPeak, IsFoundIn, IsNearPeak}
+use Rattle.ngc_cells.proofs.Lowering.{IsRow, row_lowered, row_rest, row_most, row_found, later_peak}
+use Rattle.ngc_cells.proofs.Grids.{indices_are, middle_small}
+use Rattle.ngc_cells.proofs.cells.lower.Goals as goal
+
+pub loop-row-preserved : goal.loop-row-preserved
+loop-row-preserved c =
+    let g = c.args.grid.now in
+    let s = c.args.stretch.now in
+    let row = c.loop-row.row in
+    let first = c.indices_in-indices.result.first in
+    let end = c.indices_in-indices.result.end in
+    let span = c.near_span-span.result in
+    let v = c.loop-row.invariant in
+    let yk : to_z w64 (of_z w64 c.middle_of-y.result) ≡ c.middle_of-y.result = omega (arith, ints) in
+    let cy = kept64 g.corner.y (omega (arith, c.requires.grid.y)) in
+    let cx = kept64 g.corner.x (omega (arith, c.requires.grid.x)) in
+    let e = yk ∙ rw cy at c.middle_of-y.ensures in
+    let known : IsRow g s c.args.radius row first end span = record {
+      within = c.indices_in-indices.ensures.within;
+      near = λ x. rw e at (c.near_span-span.ensures x);
+      are = rw cx at c.indices_in-indices.ensures.are;
+    } in
+    record {
+      done = row_lowered g s c.args.radius c.args.level row first end span c.args.heights.now c.loop-row.heights c.lower_cells.new.heights known
+          c.lower_cells.ensures.inside c.lower_cells.ensures.before c.lower_cells.ensures.after v.done v.rest;
+      rest = row_rest g row end c.args.heights.now c.loop-row.heights c.lower_cells.new.heights c.indices_in-indices.ensures.within c.lower_cells.ensures.after v.rest;
+    }

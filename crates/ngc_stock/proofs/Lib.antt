@@ -1,0 +1,6 @@
+-- From a cell's centre to its points, and from the points of a line to those of its pieces.
+pub mod Distances
+-- The heights of the cells bound what is left.
+pub mod Bounds
+-- The law of silence, by induction over the commands before a traverse.
+pub mod Silences

@@ -1,0 +1,3 @@
+pub mod Stocks
+pub mod Walk
+pub mod Silence
