@@ -45,45 +45,46 @@ module _ (setup : Setup) (block_delete : Bool) (lines : List Line) (rs : List Re
   left_done : (t : State) (b : Bool) → s.ended ≡ false → (next : NextLine lines rs i number bytes)
       → after_line setup block_delete number next.reading s ≡ Ok t → t.ended ≡ b
       → left setup block_delete lines rs i s
-      ≡ change_at number (frame_of s) (frame_of t) ++ go_on b t (λ u. left setup block_delete lines rs (i + 1) u)
+      ≡ change_at number (length s.commands) (frame_of s) (frame_of t) ++ go_on b t (λ u. left setup block_delete lines rs (i + 1) u)
   left_done t b running next done e =
       left_step running next
       ∙ ap (λ (x : Result State ProgramFault). then_changes number s x (λ u. left setup block_delete lines rs (i + 1) u)) done
-      ∙ ap (λ (x : Bool). change_at number (frame_of s) (frame_of t) ++ go_on x t (λ u. left setup block_delete lines rs (i + 1) u)) e
+      ∙ ap (λ (x : Bool). change_at number (length s.commands) (frame_of s) (frame_of t) ++ go_on x t (λ u. left setup block_delete lines rs (i + 1) u)) e
 
   pub left_ended : (t : State) → s.ended ≡ false → (next : NextLine lines rs i number bytes)
       → after_line setup block_delete number next.reading s ≡ Ok t → t.ended ≡ true
-      → left setup block_delete lines rs i s ≡ change_at number (frame_of s) (frame_of t)
-  left_ended t running next done e = left_done t true running next done e ∙ append-nil (change_at number (frame_of s) (frame_of t))
+      → left setup block_delete lines rs i s ≡ change_at number (length s.commands) (frame_of s) (frame_of t)
+  left_ended t running next done e = left_done t true running next done e ∙ append-nil (change_at number (length s.commands) (frame_of s) (frame_of t))
 
   pub left_on : (t : State) → s.ended ≡ false → (next : NextLine lines rs i number bytes)
       → after_line setup block_delete number next.reading s ≡ Ok t → t.ended ≡ false
-      → left setup block_delete lines rs i s ≡ change_at number (frame_of s) (frame_of t) ++ left setup block_delete lines rs (i + 1) t
+      → left setup block_delete lines rs i s ≡ change_at number (length s.commands) (frame_of s) (frame_of t) ++ left setup block_delete lines rs (i + 1) t
   left_on t running next done e = left_done t false running next done e
 
 -- the change that is added is that of the line
-added : (s t : State) (before after : Frame) (number n : ℕ) (old new : List FrameChange) → before ≡ frame_of s → after ≡ frame_of t → number ≡ n
-    → new ≡ old ++ change_at n before after → new ≡ old ++ change_at number (frame_of s) (frame_of t)
-added s t before after number n old new is_before is_after is_number is =
+added : (s t : State) (before after : Frame) (number n count : ℕ) (old new : List FrameChange) → before ≡ frame_of s → after ≡ frame_of t → number ≡ n
+    → count ≡ length s.commands
+    → new ≡ old ++ change_at n count before after → new ≡ old ++ change_at number (length s.commands) (frame_of s) (frame_of t)
+added s t before after number n count old new is_before is_after is_number is_count is =
     is
-    ∙ ap (λ (k : ℕ). old ++ change_at k before after) (sym is_number)
-    ∙ ap₂ (λ (f g : Frame). old ++ change_at number f g) is_before is_after
+    ∙ ap₂ (λ (k l : ℕ). old ++ change_at k l before after) (sym is_number) is_count
+    ∙ ap₂ (λ (f g : Frame). old ++ change_at number (length s.commands) f g) is_before is_after
 
-module _ (setup : Setup) (block_delete : Bool) (lines : List Line) (rs : List Reading) (i number : ℕ) (bytes : List ℕ) (s t : State) (before after : Frame) (n : ℕ)
+module _ (setup : Setup) (block_delete : Bool) (lines : List Line) (rs : List Reading) (i number : ℕ) (bytes : List ℕ) (s t : State) (before after : Frame) (n count : ℕ)
     (old new : List FrameChange) where
   pub goes_on : s.ended ≡ false → (next : NextLine lines rs i number bytes) → after_line setup block_delete number next.reading s ≡ Ok t → t.ended ≡ false
-      → before ≡ frame_of s → after ≡ frame_of t → number ≡ n → new ≡ old ++ change_at n before after
+      → before ≡ frame_of s → after ≡ frame_of t → number ≡ n → count ≡ length s.commands → new ≡ old ++ change_at n count before after
       → new ++ left setup block_delete lines rs (i + 1) t ≡ old ++ left setup block_delete lines rs i s
-  goes_on running next done e is_before is_after is_number is =
-      ap (λ (l : List FrameChange). l ++ left setup block_delete lines rs (i + 1) t) (added s t before after number n old new is_before is_after is_number is)
-      ∙ append_assoc old (change_at number (frame_of s) (frame_of t)) (left setup block_delete lines rs (i + 1) t)
+  goes_on running next done e is_before is_after is_number is_count is =
+      ap (λ (l : List FrameChange). l ++ left setup block_delete lines rs (i + 1) t) (added s t before after number n count old new is_before is_after is_number is_count is)
+      ∙ append_assoc old (change_at number (length s.commands) (frame_of s) (frame_of t)) (left setup block_delete lines rs (i + 1) t)
       ∙ ap (λ (l : List FrameChange). old ++ l) (sym (left_on setup block_delete lines rs i number bytes s t running next done e))
 
   pub stops : s.ended ≡ false → (next : NextLine lines rs i number bytes) → after_line setup block_delete number next.reading s ≡ Ok t → t.ended ≡ true
-      → before ≡ frame_of s → after ≡ frame_of t → number ≡ n → new ≡ old ++ change_at n before after
+      → before ≡ frame_of s → after ≡ frame_of t → number ≡ n → count ≡ length s.commands → new ≡ old ++ change_at n count before after
       → new ≡ old ++ left setup block_delete lines rs i s
-  stops running next done e is_before is_after is_number is =
-      added s t before after number n old new is_before is_after is_number is
+  stops running next done e is_before is_after is_number is_count is =
+      added s t before after number n count old new is_before is_after is_number is_count is
       ∙ ap (λ (l : List FrameChange). old ++ l) (sym (left_ended setup block_delete lines rs i number bytes s t running next done e))
 
 -- no lines remain

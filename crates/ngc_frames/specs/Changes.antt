@@ -1,6 +1,6 @@
 -- The frame at the start of a program, and each change of it. Our own, over the meaning of lines
 -- (NISTIR 6556, 3.8).
-use Rattle.std.specs.Prelude.{ℕ, List, [], ◌∷◌, ◌++◌, Result, Ok, Err, Bool, true, false}
+use Rattle.std.specs.Prelude.{ℕ, List, [], ◌∷◌, ◌++◌, length, Result, Ok, Err, Bool, true, false}
 use Rattle.std.specs.Prelude.{if◌then◌else◌}
 use Rattle.ngc_canonical.specs.Meaning.{NumberedLine, after_line, remaining}
 use Rattle.ngc_canonical.specs.State.{Setup, State, start_state}
@@ -15,10 +15,10 @@ frame_of s = record { frames = s.frames; unit = s.modes.units }
 abbrev pub start_frame : Setup → Frame
 start_frame setup = frame_of (start_state setup.machine)
 
--- the change that a line makes, if it makes one
-abbrev pub change_at : ℕ → Frame → Frame → List FrameChange
-change_at number old new = if is_same_frame old new then []
-    else record { line = number; frame = new } ∷ []
+-- the change that a line makes, if it makes one, where `count` commands were executed before the line
+abbrev pub change_at : ℕ → ℕ → Frame → Frame → List FrameChange
+change_at number count old new = if is_same_frame old new then []
+    else record { line = number; command = count; frame = new } ∷ []
 
 -- nothing follows an end
 abbrev pub go_on : Bool → State → (State → List FrameChange) → List FrameChange
@@ -30,7 +30,7 @@ go_on false s rest = rest s
 abbrev pub then_changes : ℕ → State → Result State ProgramFault →
     (State → List FrameChange) → List FrameChange
 then_changes number s (Ok t) rest =
-    change_at number (frame_of s) (frame_of t) ++ go_on t.ended t rest
+    change_at number (length s.commands) (frame_of s) (frame_of t) ++ go_on t.ended t rest
 then_changes number s (Err e) rest = []
 
 -- the changes of lines in order

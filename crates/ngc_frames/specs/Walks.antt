@@ -1,4 +1,4 @@
--- A walk over the changes of a program, from line to line. Our own.
+-- A walk over the changes of a program, from command to command. Our own.
 use Rattle.std.specs.Prelude.{◌≡◌, ◌≤◌, ℕ, List, length, drop, slice_index_or}
 use Rattle.ngc_offsets.specs.Frames.{index}
 use Rattle.ngc_frames.specs.InForce.{frame_at, line_that_set}
@@ -18,14 +18,14 @@ set_line s parts.AxisOffset = s.axis_offset
 set_line s parts.ToolLength = s.tool_length
 set_line s parts.Unit = s.unit
 
--- the walk has passed the first of the changes: from its line on, only the others count
+-- the walk has passed the first of the changes: from its command on, only the others count
 pub record WalksOver (start : Frame) (changes : List FrameChange) (w : FrameWalk) : Type 0 where
   pub within : w.passed ≤ length changes
-  pub frame : (line : ℕ) → w.line ≤ line →
-      frame_at start changes line ≡ frame_at w.frame (drop w.passed changes) line
-  pub set : (part : FramePart) (line : ℕ) → w.line ≤ line →
-      line_that_set part line 0 start changes
-      ≡ line_that_set part line (set_line w.set part) w.frame (drop w.passed changes)
+  pub frame : (k : ℕ) → w.command ≤ k →
+      frame_at start changes k ≡ frame_at w.frame (drop w.passed changes) k
+  pub set : (part : FramePart) (k : ℕ) → w.command ≤ k →
+      line_that_set part k 0 start changes
+      ≡ line_that_set part k (set_line w.set part) w.frame (drop w.passed changes)
 
 -- the frame at the walk's place, with the lines that set its parts
 abbrev pub here : FrameWalk → FrameInForce

@@ -42,18 +42,31 @@ fn frame_of<A: Allocator>(interpreter: &Interpreter<A>) -> Frame
     }
 }
 
+// Returns the number of commands that were executed so far.
+fn command_count<A: Allocator>(interpreter: &Interpreter<A>) -> usize
+    ensures { result ≡ length (state_of interpreter.now).commands }
+{
+    interpreter.commands().len()
+}
+
 fn add_change<A: Allocator>(
     changes: &mut Vec<FrameChange, A>,
     line: u32,
+    command: usize,
     old: &Frame,
     new: &Frame,
 ) -> Result<(), AllocError>
-    ensures { OnOk result (changes.new.items ≡ changes.old.items ++ change_at line old.now new.now) }
+    ensures { OnOk result (changes.new.items ≡ changes.old.items ++ change_at line command old.now new.now) }
 {
     if is_same_frame(old, new) {
         return Ok(());
     }
-    match changes.push(FrameChange { line, frame: *new }) {
+    let change = FrameChange {
+        line,
+        command,
+        frame: *new,
+    };
+    match changes.push(change) {
         Ok(()) => Ok(()),
         Err(_) => Err(AllocError),
     }
@@ -96,12 +109,13 @@ pub fn interpret_with_frames<A: Allocator + Copy>(
     let mut work = Work::new();
     for index in 0..program.len() {
         let before = frame_of(&interpreter);
+        let count = command_count(&interpreter);
         match interpreter.take_line(machine, tools, program, index, &mut work, block_delete) {
             Ok(()) => {}
             Err(fault) => return Err(fault),
         }
         let after = frame_of(&interpreter);
-        match add_change(&mut changes, program.number(index), &before, &after) {
+        match add_change(&mut changes, program.number(index), count, &before, &after) {
             Ok(()) => {}
             Err(_) => return Err(ProgramFault::Memory),
         }
@@ -124,10 +138,11 @@ pub fn interpret_with_frames<A: Allocator + Copy>(
 impl<A: Allocator> FrameHistory<A> {
     ghost use Rattle.ngc_frames.specs.InForce.{frame_in_force};
 
-    /// Returns the frame by which a line's motions are executed, with the lines that set its parts.
-    pub fn in_force(&self, line: u32) -> FrameInForce
-        ensures { result ≡ frame_in_force self.now.start self.now.changes.items line }
+    /// Returns the frame by which a command is executed, counted from 0, with the lines that set its
+    /// parts.
+    pub fn in_force(&self, command: usize) -> FrameInForce
+        ensures { result ≡ frame_in_force self.now.start self.now.changes.items command }
     {
-        frame_in_force(&self.start, self.changes.as_slice(), line)
+        frame_in_force(&self.start, self.changes.as_slice(), command)
     }
 }

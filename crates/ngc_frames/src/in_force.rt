@@ -1,11 +1,11 @@
-//! The frame in force at a line, and the lines that set its parts.
+//! The frame in force at a command, and the lines that set its parts.
 ghost use Rattle.std.specs.Prelude.{◌≡◌, nat_le};
 ghost use Rattle.ngc_frames.specs.InForce.{frame_at, line_that_set, frame_in_force};
 
 use crate::change::FrameChange;
 use crate::frame::{Frame, FramePart, is_same_part};
 
-/// The frame by which a line's motions are executed, and for each of its parts the line that set it
+/// The frame by which a command is executed, and for each of its parts the line that set it
 /// last: 0 if it is as at the start, by the machine file.
 #[derive(Clone, Copy)]
 pub struct FrameInForce {
@@ -22,20 +22,20 @@ pub struct FrameInForce {
     pub unit_line: u32,
 }
 
-pub(crate) fn is_up_to(change: &FrameChange, line: u32) -> bool
-    ensures { result ≡ nat_le change.now.line line }
+pub(crate) fn is_up_to(change: &FrameChange, command: usize) -> bool
+    ensures { result ≡ nat_le change.now.command command }
 {
-    change.line <= line
+    change.command <= command
 }
 
-/// Returns the frame by which a line's motions are executed: after the changes before the first one
-/// on a later line, since a line sets its frame before it moves. NISTIR 6556, 3.8.
-pub fn frame_at(start: &Frame, changes: &[FrameChange], line: u32) -> Frame
-    ensures { result ≡ frame_at start.now changes.now line }
+/// Returns the frame by which a command is executed, counted from 0: that of the last change before
+/// it. A line sets its frame before it moves (NISTIR 6556, 3.8).
+pub fn frame_at(start: &Frame, changes: &[FrameChange], command: usize) -> Frame
+    ensures { result ≡ frame_at start.now changes.now command }
 {
     let mut frame = *start;
     for change in changes {
-        if !is_up_to(change, line) {
+        if !is_up_to(change, command) {
             return frame;
         }
         frame = change.frame;
@@ -43,14 +43,15 @@ pub fn frame_at(start: &Frame, changes: &[FrameChange], line: u32) -> Frame
     frame
 }
 
-/// Returns the last line, up to this one, that changed a part of the frame; 0 if none did.
-pub fn line_that_set(part: FramePart, start: &Frame, changes: &[FrameChange], line: u32) -> u32
-    ensures { result ≡ line_that_set part line 0 start.now changes.now }
+/// Returns the line that changed a part of the frame last before a command, counted from 0; 0 if none
+/// did.
+pub fn line_that_set(part: FramePart, start: &Frame, changes: &[FrameChange], command: usize) -> u32
+    ensures { result ≡ line_that_set part command 0 start.now changes.now }
 {
     let mut set = 0;
     let mut frame = *start;
     for change in changes {
-        if !is_up_to(change, line) {
+        if !is_up_to(change, command) {
             return set;
         }
         if !is_same_part(part, &frame, &change.frame) {
@@ -61,18 +62,19 @@ pub fn line_that_set(part: FramePart, start: &Frame, changes: &[FrameChange], li
     set
 }
 
-/// Returns the frame by which a line's motions are executed, with the lines that set its parts.
-pub fn frame_in_force(start: &Frame, changes: &[FrameChange], line: u32) -> FrameInForce
-    ensures { result ≡ frame_in_force start.now changes.now line }
+/// Returns the frame by which a command is executed, counted from 0, with the lines that set its
+/// parts.
+pub fn frame_in_force(start: &Frame, changes: &[FrameChange], command: usize) -> FrameInForce
+    ensures { result ≡ frame_in_force start.now changes.now command }
 {
-    let frame = frame_at(start, changes, line);
+    let frame = frame_at(start, changes, command);
     let origin = FramePart::Origin(frame.frames.active);
     FrameInForce {
         frame,
-        selection_line: line_that_set(FramePart::Selection, start, changes, line),
-        origin_line: line_that_set(origin, start, changes, line),
-        axis_offset_line: line_that_set(FramePart::AxisOffset, start, changes, line),
-        tool_length_line: line_that_set(FramePart::ToolLength, start, changes, line),
-        unit_line: line_that_set(FramePart::Unit, start, changes, line),
+        selection_line: line_that_set(FramePart::Selection, start, changes, command),
+        origin_line: line_that_set(origin, start, changes, command),
+        axis_offset_line: line_that_set(FramePart::AxisOffset, start, changes, command),
+        tool_length_line: line_that_set(FramePart::ToolLength, start, changes, command),
+        unit_line: line_that_set(FramePart::Unit, start, changes, command),
     }
 }

@@ -1,4 +1,4 @@
-//! The frames of lines in order, where each change is passed once.
+//! The frames of commands in order, where each change is passed once.
 ghost use Rattle.std.specs.Prelude.{◌≡◌, ◌≤◌, ◌<◌, ◌+◌, ◌^◌, List, slice_index_or};
 ghost use Rattle.ngc_offsets.specs.Frames.{index};
 ghost use Rattle.ngc_fixed_length.specs.declared.modes.System.{System};
@@ -100,12 +100,12 @@ impl SetLines {
     }
 }
 
-/// A walk over the changes of a program's frames, from line to line. Along rising lines each change
-/// is passed once.
+/// A walk over the changes of a program's frames, from command to command. Along rising commands each
+/// change is passed once.
 #[derive(Clone, Copy)]
 pub struct FrameWalk {
     pub(crate) passed: usize,
-    pub(crate) line: u32,
+    pub(crate) command: usize,
     pub(crate) frame: Frame,
     pub(crate) set: SetLines,
 }
@@ -113,12 +113,12 @@ pub struct FrameWalk {
 impl FrameWalk {
     // Returns the walk at the start, in this frame.
     fn fresh(frame: &Frame) -> FrameWalk
-        ensures line { result.line ≡ 0 }
+        ensures command { result.command ≡ 0 }
         ensures walks { (changes : List FrameChange) → WalksOver frame.now changes result }
     {
         FrameWalk {
             passed: 0,
-            line: 0,
+            command: 0,
             frame: *frame,
             set: SetLines::none(),
         }
@@ -131,13 +131,13 @@ impl FrameWalk {
         FrameWalk::fresh(&history.start)
     }
 
-    // Returns a walk that isn't past a line: this one, or one at the start.
-    fn before(&self, start: &Frame, changes: &[FrameChange], line: u32) -> FrameWalk
+    // Returns a walk that isn't past a command: this one, or one at the start.
+    fn before(&self, start: &Frame, changes: &[FrameChange], command: usize) -> FrameWalk
         requires { WalksOver start.now changes.now self.now }
         ensures walks { WalksOver start.now changes.now result }
-        ensures ahead { result.line ≤ line }
+        ensures ahead { result.command ≤ command }
     {
-        if line < self.line {
+        if command < self.command {
             FrameWalk::fresh(start)
         } else {
             *self
@@ -148,32 +148,32 @@ impl FrameWalk {
     fn after(&self, change: &FrameChange) -> FrameWalk
         requires { self.now.passed < 2 ^ 63 }
         ensures passed { result.passed ≡ self.now.passed + 1 }
-        ensures line { result.line ≡ self.now.line }
+        ensures command { result.command ≡ self.now.command }
         ensures frame { result.frame ≡ change.now.frame }
         ensures set { (part : FramePart) → set_line result.set part
             ≡ set_by part (set_line self.now.set part) self.now.frame change.now }
     {
         FrameWalk {
             passed: self.passed + 1,
-            line: self.line,
+            command: self.command,
             frame: change.frame,
             set: self.set.after(&self.frame, change),
         }
     }
 
-    // Returns the walk after all changes of the lines up to this one.
-    fn up_to(&self, start: &Frame, changes: &[FrameChange], line: u32) -> FrameWalk
+    // Returns the walk after all changes before a command.
+    fn up_to(&self, start: &Frame, changes: &[FrameChange], command: usize) -> FrameWalk
         requires walks { WalksOver start.now changes.now self.now }
-        requires ahead { self.now.line ≤ line }
+        requires ahead { self.now.command ≤ command }
         ensures walks { WalksOver start.now changes.now result }
-        ensures frame { result.frame ≡ frame_at start.now changes.now line }
+        ensures frame { result.frame ≡ frame_at start.now changes.now command }
         ensures set { (part : FramePart) →
-            set_line result.set part ≡ line_that_set part line 0 start.now changes.now }
+            set_line result.set part ≡ line_that_set part command 0 start.now changes.now }
     {
         let mut walk = *self;
-        walk.line = line;
+        walk.command = command;
         for change in &changes[self.passed..] {
-            if !is_up_to(change, line) {
+            if !is_up_to(change, command) {
                 return walk;
             }
             walk = walk.after(change);
@@ -181,17 +181,21 @@ impl FrameWalk {
         walk
     }
 
-    /// Returns the frame by which a line's motions are executed, with the lines that set its parts.
-    /// The function is fastest if the lines rise from call to call.
-    pub fn in_force<A: Allocator>(&mut self, history: &FrameHistory<A>, line: u32) -> FrameInForce
+    /// Returns the frame by which a command is executed, counted from 0, with the lines that set its
+    /// parts. The function is fastest if the commands rise from call to call.
+    pub fn in_force<A: Allocator>(
+        &mut self,
+        history: &FrameHistory<A>,
+        command: usize,
+    ) -> FrameInForce
         requires { WalksOver history.now.start history.now.changes.items self.old }
         ensures frame { result ≡
-            frame_in_force history.now.start history.now.changes.items line }
+            frame_in_force history.now.start history.now.changes.items command }
         ensures walks { WalksOver history.now.start history.now.changes.items self.new }
     {
         let changes = history.changes.as_slice();
-        let from = self.before(&history.start, changes, line);
-        *self = from.up_to(&history.start, changes, line);
+        let from = self.before(&history.start, changes, command);
+        *self = from.up_to(&history.start, changes, command);
         self.here()
     }
 

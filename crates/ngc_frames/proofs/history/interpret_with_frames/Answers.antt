@@ -41,13 +41,13 @@ returns-then-is_ended-clause-changes g c = λ rs are.
     let here = seen_line (text_in c.args.program.now).lines c.loop-index.index (omega (arith, c.loop-index-test.true, c.len-index-end.ensures.value)) in
     let next = next_seen lines rs c.loop-index.index here are in
     stops (setup_of c.args.machine.now c.args.tools.now) c.args.block_delete lines rs c.loop-index.index here.line.number here.line.bytes (state_of c.loop-index.interpreter)
-    (state_of c.take_line.new.self) c.frame_of-before.result c.frame_of-after.result c.number.result c.loop-index.changes.items c.add_change.new.changes.items
+    (state_of c.take_line.new.self) c.frame_of-before.result c.frame_of-after.result c.number.result c.command_count-count.result c.loop-index.changes.items c.add_change.new.changes.items
     c.loop-index.invariant.running next
     (taken_as (setup_of c.args.machine.now c.args.tools.now) c.args.block_delete here.line _ (state_of c.loop-index.interpreter) (state_of c.take_line.new.self) next.reading
     (c.in-Ok-take_line.ensures here.line here.at) next.reads)
     (sym c.is_ended.ensures ∙ c.if-is_ended.true) c.frame_of-before.ensures c.frame_of-after.ensures
     (number_is lines c.loop-index.index c.number.result here.line here.at c.number.ensures)
-    c.in-Ok-add_change.ensures
+    c.command_count-count.ensures c.in-Ok-add_change.ensures
     ∙ c.loop-index.invariant.changed rs are
 
 pub loop-index-preserved : goal.loop-index-preserved
@@ -75,13 +75,13 @@ loop-index-preserved g c = record {
       let here = seen_line (text_in c.args.program.now).lines c.loop-index.index (omega (arith, c.loop-index-test.true, c.len-index-end.ensures.value)) in
       let next = next_seen lines rs c.loop-index.index here are in
       goes_on (setup_of c.args.machine.now c.args.tools.now) c.args.block_delete lines rs c.loop-index.index here.line.number here.line.bytes (state_of c.loop-index.interpreter)
-      (state_of c.take_line.new.self) c.frame_of-before.result c.frame_of-after.result c.number.result c.loop-index.changes.items c.add_change.new.changes.items
+      (state_of c.take_line.new.self) c.frame_of-before.result c.frame_of-after.result c.number.result c.command_count-count.result c.loop-index.changes.items c.add_change.new.changes.items
       c.loop-index.invariant.running next
       (taken_as (setup_of c.args.machine.now c.args.tools.now) c.args.block_delete here.line _ (state_of c.loop-index.interpreter) (state_of c.take_line.new.self) next.reading
       (c.in-Ok-take_line.ensures here.line here.at) next.reads)
       (sym c.is_ended.ensures ∙ c.if-is_ended.false) c.frame_of-before.ensures c.frame_of-after.ensures
       (number_is lines c.loop-index.index c.number.result here.line here.at c.number.ensures)
-      c.in-Ok-add_change.ensures
+      c.command_count-count.ensures c.in-Ok-add_change.ensures
       ∙ c.loop-index.invariant.changed rs are;
 }
 

@@ -1,4 +1,4 @@
--- The walk is over as many changes as the loop has passed, and is at the line.
+-- The walk is over as many changes as the loop has passed, and is at the command.
 use Rattle.std.proofs.Common.{◌≡◌, ◌+◌, drop}
 use Rattle.ngc_frames.specs.Walks.{WalksOver}
 use Rattle.ngc_frames.proofs.walk.FrameWalk.up_to.Given as goal
@@ -7,6 +7,6 @@ abbrev pub invariant-loop-change : goal.invariant-loop-change
 invariant-loop-change l = record {
   items : l.change-items ≡ drop l.self.passed l.changes;
   passed : l.walk.passed ≡ l.self.passed + l.change-index;
-  line : l.walk.line ≡ l.line;
+  command : l.walk.command ≡ l.command;
   over : WalksOver l.start l.changes l.walk;
 }
