@@ -1,19 +1,18 @@
 -- One line of a program's flow after another.
-use Rattle.std.proofs.Common.{◌≡◌, ◌<◌, ◌≤◌, ◌+◌, ◌-◌, ◌==◌, ◌&&◌, ℕ, zero, suc, List, [], ◌∷◌, length, map, get_or, slice_get, Bool, true, false, not, Option, Some, None, Result, Ok, Err, IfOk, refl, sym, ◌∙◌, ap, subst, arith}
+use Rattle.std.proofs.Common.{◌≡◌, ◌<◌, ◌≤◌, ◌+◌, ◌-◌, ◌==◌, ◌&&◌, ℕ, zero, suc, List, [], ◌∷◌, ◌++◌, length, map, get_or, slice_get, Bool, true, false, not, Option, Some, None, Result, Ok, Err, IfOk, refl, sym, ◌∙◌, ap, subst, arith}
 use Rattle.std.specs.Prelude.{if◌then◌else◌}
 use Rattle.std.proofs.lemmas.Bool.Decides.{nat_tests}
 use Rattle.ngc_canonical.specs.State.{Setup}
-use Rattle.ngc_commands.specs.declared.command.Command.{Command}
+use Rattle.ngc_frames.specs.declared.change.FrameChange.{FrameChange}
 use Rattle.ngc_dialect_reader.specs.declared.part.Part.{Part}
-use Rattle.ngc_dialect_reader.specs.Line.{line_of}
 use Rattle.ngc_dialect_reader.specs.Text.{text}
 use Rattle.ngc_dialect_flow.specs.declared.effect.Effect.{Effect}
 use Rattle.ngc_dialect_flow.specs.declared.effect.Effect.TheVariants as effects
 use Rattle.ngc_dialect_flow.specs.declared.fault.Cause.{Cause as FlowCause}
 use Rattle.ngc_dialect_flow.specs.declared.fault.Cause.TheVariants.{TooManyLines}
-use Rattle.ngc_dialect_flow.specs.Next.{next, needs_values, skipped}
+use Rattle.ngc_dialect_flow.specs.Next.{next}
 use Rattle.ngc_dialect_flow.specs.Places.{Plan}
-use Rattle.ngc_dialect_flow.specs.State.{Flow, burn, burnt}
+use Rattle.ngc_dialect_flow.specs.State.{Flow, burnt}
 use Rattle.ngc_dialect_flow.specs.Loops as l
 use Rattle.ngc_dialect_flow.proofs.FuelLaws.{fuel_falls}
 use Rattle.ngc_line_reader.specs.Scan.{◌>>=◌ as ◌>>=f◌}
@@ -22,10 +21,10 @@ use Rattle.ngc_dialect_execution.specs.declared.fault.Cause.TheVariants as cause
 use Rattle.ngc_dialect_execution.specs.declared.fault.DialectFault.{DialectFault}
 use Rattle.ngc_dialect_execution.specs.declared.fault.DialectFault.TheVariants as faults
 use Rattle.ngc_dialect_execution.specs.declared.fault.Refusal.{Refusal}
-use Rattle.ngc_dialect_execution.specs.Ending.{at, finished}
+use Rattle.ngc_dialect_execution.specs.Ending.{Outcome, at, changed_by, finished, with_changes}
 use Rattle.ngc_dialect_execution.specs.Faults.{◌>>=◌, FailsBy, Says, at_line, caused}
-use Rattle.ngc_dialect_execution.specs.Flow.{FlowProgress, Outcome, effect_done, ends, flow_line_taken, flow_parts_taken, flow_statements_taken, flow_taken, line_or_end, number_at, others_taken, passed_over, said_if, stepped, then_on, turned, values_from}
-use Rattle.ngc_dialect_execution.specs.Taken.{Progress, Said, done_at, is_deleted}
+use Rattle.ngc_dialect_execution.specs.Flow.{FlowProgress, effect_done, ends, flow_line_taken, flow_statements_taken, flow_taken, line_or_end, number_at, on_from, others_taken, passed_over, stepped, then_on, turned, values_from}
+use Rattle.ngc_dialect_execution.specs.Taken.{Progress, Said, is_deleted}
 use Rattle.ngc_dialect_execution.specs.Text.{ProgramLines, number_of}
 use Rattle.ngc_dialect_execution.proofs.TextSteps.{fails_first, refused_at}
 
@@ -114,95 +113,97 @@ no_line_there now (y ∷ lines) (suc i) past = no_line_there now lines i (omega 
 abbrev number_is : ℕ → FlowProgress → Type 0
 number_is line r = line ≡ number_at r
 
-one_line : (setup : Setup) (block_delete : Bool) (plan : Plan) (program : ProgramLines) (fuel : ℕ) (r : FlowProgress) (bytes : List ℕ) →
-    slice_get program.lines r.flow.line ≡ Some bytes → (fuel == 0) ≡ false
-    → flow_taken setup block_delete plan program fuel r
-    ≡ then_on setup (number_at r) (at (number_at r) (flow_line_taken setup block_delete plan (number_at r) bytes r))
-    (λ q. flow_taken setup block_delete plan program (fuel - 1) q)
+one_line : (setup : Setup) (block_delete : Bool) (plan : Plan) (program : ProgramLines) (fuel : ℕ) (r : FlowProgress) (cs : List FrameChange)
+    (bytes : List ℕ) → slice_get program.lines r.flow.line ≡ Some bytes → (fuel == 0) ≡ false
+    → flow_taken setup block_delete plan program fuel r cs
+    ≡ then_on setup (number_at r) r.progress cs (at (number_at r) (flow_line_taken setup block_delete plan (number_at r) bytes r))
+    (λ q more. flow_taken setup block_delete plan program (fuel - 1) q more)
 unfolding flow_taken
-one_line setup block_delete plan program zero r bytes there some = absurd (cc some)
-one_line setup block_delete plan program (suc fuel) r bytes there some =
+one_line setup block_delete plan program zero r cs bytes there some = absurd (cc some)
+one_line setup block_delete plan program (suc fuel) r cs bytes there some =
     let less : fuel ≡ suc fuel - 1 = omega arith in
-    let on : ℕ → List ℕ → Outcome = λ f b. then_on setup (number_at r) (at (number_at r) (flow_line_taken setup block_delete plan (number_at r) b r))
-    (λ q. flow_taken setup block_delete plan program f q) in
-    ap (λ (o : Option (List ℕ)). line_or_end o (finished setup program.last r.progress) (on fuel)) there
+    let on : ℕ → List ℕ → Outcome = λ f b. then_on setup (number_at r) r.progress cs (at (number_at r) (flow_line_taken setup block_delete plan (number_at r) b r))
+    (λ q more. flow_taken setup block_delete plan program f q more) in
+    ap (λ (o : Option (List ℕ)). line_or_end o (with_changes cs (finished setup program.last r.progress)) (on fuel)) there
     ∙ ap (λ (f : ℕ). on f bytes) less
 
 -- the program is over
-pub flow_over : (setup : Setup) (block_delete : Bool) (plan : Plan) (program : ProgramLines) (fuel : ℕ) (r : FlowProgress) (whole : Outcome) →
-    slice_get program.lines r.flow.line ≡ None → flow_taken setup block_delete plan program fuel r ≡ whole → whole ≡ finished setup program.last r.progress
+pub flow_over : (setup : Setup) (block_delete : Bool) (plan : Plan) (program : ProgramLines) (fuel : ℕ) (r : FlowProgress) (cs : List FrameChange)
+    (whole : Outcome) → slice_get program.lines r.flow.line ≡ None → flow_taken setup block_delete plan program fuel r cs ≡ whole
+    → whole ≡ with_changes cs (finished setup program.last r.progress)
 unfolding flow_taken
-flow_over setup block_delete plan program zero r whole none leads =
-    sym leads ∙ ap (λ (o : Option (List ℕ)). line_or_end o (finished setup program.last r.progress)
+flow_over setup block_delete plan program zero r cs whole none leads =
+    sym leads ∙ ap (λ (o : Option (List ℕ)). line_or_end o (with_changes cs (finished setup program.last r.progress))
     (λ bytes. Err (faults.At (number_at r) (causes.Flow TooManyLines)))) none
-flow_over setup block_delete plan program (suc fuel) r whole none leads =
-    sym leads ∙ ap (λ (o : Option (List ℕ)). line_or_end o (finished setup program.last r.progress)
-    (λ bytes. then_on setup (number_at r) (at (number_at r) (flow_line_taken setup block_delete plan (number_at r) bytes r))
-    (λ q. flow_taken setup block_delete plan program fuel q))) none
+flow_over setup block_delete plan program (suc fuel) r cs whole none leads =
+    sym leads ∙ ap (λ (o : Option (List ℕ)). line_or_end o (with_changes cs (finished setup program.last r.progress))
+    (λ bytes. then_on setup (number_at r) r.progress cs (at (number_at r) (flow_line_taken setup block_delete plan (number_at r) bytes r))
+    (λ q more. flow_taken setup block_delete plan program fuel q more))) none
 
 not_spent : (n : ℕ) → (suc n == 0) ≡ true → ⊥
 not_spent n e = grind (arith, nat_tests)
 
 -- no more line may be executed
-pub flow_spent : (setup : Setup) (block_delete : Bool) (plan : Plan) (program : ProgramLines) (fuel line : ℕ) (r : FlowProgress) (bytes : List ℕ)
-    (whole : Outcome) → slice_get program.lines r.flow.line ≡ Some bytes → (fuel == 0) ≡ true → line ≡ number_at r
-    → flow_taken setup block_delete plan program fuel r ≡ whole → whole ≡ Err (faults.At line (causes.Flow TooManyLines))
+pub flow_spent : (setup : Setup) (block_delete : Bool) (plan : Plan) (program : ProgramLines) (fuel line : ℕ) (r : FlowProgress) (cs : List FrameChange)
+    (bytes : List ℕ) (whole : Outcome) → slice_get program.lines r.flow.line ≡ Some bytes → (fuel == 0) ≡ true → line ≡ number_at r
+    → flow_taken setup block_delete plan program fuel r cs ≡ whole → whole ≡ Err (faults.At line (causes.Flow TooManyLines))
 unfolding flow_taken
-flow_spent setup block_delete plan program zero line r bytes whole there none number leads =
-    sym leads ∙ ap (λ (o : Option (List ℕ)). line_or_end o (finished setup program.last r.progress)
+flow_spent setup block_delete plan program zero line r cs bytes whole there none number leads =
+    sym leads ∙ ap (λ (o : Option (List ℕ)). line_or_end o (with_changes cs (finished setup program.last r.progress))
     (λ bytes. Err (faults.At (number_at r) (causes.Flow TooManyLines)))) there
     ∙ ap (λ (n : ℕ). Err (faults.At n (causes.Flow TooManyLines))) (sym number)
-flow_spent setup block_delete plan program (suc fuel) line r bytes whole there none number leads = absurd (not_spent fuel none)
+flow_spent setup block_delete plan program (suc fuel) line r cs bytes whole there none number leads = absurd (not_spent fuel none)
 
 -- what the line that is next does
-pub record Goes (setup : Setup) (block_delete : Bool) (plan : Plan) (program : ProgramLines) (fuel line : ℕ) (r : FlowProgress) (bytes : List ℕ)
-    (whole : Outcome) : Type 0 where
+pub record Goes (setup : Setup) (block_delete : Bool) (plan : Plan) (program : ProgramLines) (fuel line : ℕ) (r : FlowProgress) (cs : List FrameChange)
+    (bytes : List ℕ) (whole : Outcome) : Type 0 where
   pub there : slice_get program.lines r.flow.line ≡ Some bytes
   pub some : (fuel == 0) ≡ false
   pub number : line ≡ number_at r
-  pub leads : flow_taken setup block_delete plan program fuel r ≡ whole
+  pub leads : flow_taken setup block_delete plan program fuel r cs ≡ whole
 
-goes_as : (setup : Setup) (block_delete : Bool) (plan : Plan) (program : ProgramLines) (fuel line : ℕ) (r : FlowProgress) (bytes : List ℕ)
-    (whole : Outcome) → Goes setup block_delete plan program fuel line r bytes whole
-    → whole ≡ then_on setup line (at line (flow_line_taken setup block_delete plan line bytes r)) (λ q. flow_taken setup block_delete plan program (fuel - 1) q)
-goes_as setup block_delete plan program fuel line r bytes whole g =
-    sym g.leads ∙ one_line setup block_delete plan program fuel r bytes g.there g.some
-    ∙ ap (λ (n : ℕ). then_on setup n (at n (flow_line_taken setup block_delete plan n bytes r)) (λ q. flow_taken setup block_delete plan program (fuel - 1) q))
+goes_as : (setup : Setup) (block_delete : Bool) (plan : Plan) (program : ProgramLines) (fuel line : ℕ) (r : FlowProgress) (cs : List FrameChange)
+    (bytes : List ℕ) (whole : Outcome) → Goes setup block_delete plan program fuel line r cs bytes whole
+    → whole ≡ then_on setup line r.progress cs (at line (flow_line_taken setup block_delete plan line bytes r))
+    (λ q more. flow_taken setup block_delete plan program (fuel - 1) q more)
+goes_as setup block_delete plan program fuel line r cs bytes whole g =
+    sym g.leads ∙ one_line setup block_delete plan program fuel r cs bytes g.there g.some
+    ∙ ap (λ (n : ℕ). then_on setup n r.progress cs (at n (flow_line_taken setup block_delete plan n bytes r))
+    (λ q more. flow_taken setup block_delete plan program (fuel - 1) q more))
     (sym g.number)
 
 pub flow_refused : {B : Type 0} (setup : Setup) (block_delete : Bool) (plan : Plan) (program : ProgramLines) (fuel line : ℕ) (r : FlowProgress)
-    (bytes : List ℕ) (whole : Outcome) (view : B → Effect × FlowProgress) (refusal : Refusal) (found : DialectFault) →
-    Goes setup block_delete plan program fuel line r bytes whole → found ≡ at_line line refusal
+    (cs : List FrameChange) (bytes : List ℕ) (whole : Outcome) (view : B → Effect × FlowProgress) (refusal : Refusal) (found : DialectFault) →
+    Goes setup block_delete plan program fuel line r cs bytes whole → found ≡ at_line line refusal
     → Says view (Err refusal) (flow_line_taken setup block_delete plan line bytes r)
     → FailsBy found whole
-flow_refused setup block_delete plan program fuel line r bytes whole view refusal found g is says =
+flow_refused setup block_delete plan program fuel line r cs bytes whole view refusal found g is says =
     subst (λ (f : DialectFault). FailsBy f whole) (sym is)
-    (subst (FailsBy (at_line line refusal)) (sym (goes_as setup block_delete plan program fuel line r bytes whole g))
+    (subst (FailsBy (at_line line refusal)) (sym (goes_as setup block_delete plan program fuel line r cs bytes whole g))
     (fails_first (at_line line refusal) (at line (flow_line_taken setup block_delete plan line bytes r))
-    (λ s. then_on setup line s (λ q. flow_taken setup block_delete plan program (fuel - 1) q)) (λ e. refl)
+    (λ s. then_on setup line r.progress cs s (λ q more. flow_taken setup block_delete plan program (fuel - 1) q more)) (λ e. refl)
     (refused_at line view refusal (flow_line_taken setup block_delete plan line bytes r) says)))
 
-abbrev rest_of : Setup → Bool → Plan → ProgramLines → ℕ → ℕ → Effect × FlowProgress → Outcome
-rest_of setup block_delete plan program fuel line x =
-    if ends x.0 then finished setup line x.1.progress else flow_taken setup block_delete plan program (fuel - 1) x.1
-
-went : (setup : Setup) (block_delete : Bool) (plan : Plan) (program : ProgramLines) (fuel line : ℕ) (r : FlowProgress) (bytes : List ℕ)
-    (whole : Outcome) (x : Effect × FlowProgress) → Goes setup block_delete plan program fuel line r bytes whole
-    → flow_line_taken setup block_delete plan line bytes r ≡ Ok x → whole ≡ rest_of setup block_delete plan program fuel line x
-went setup block_delete plan program fuel line r bytes whole x g e =
-    goes_as setup block_delete plan program fuel line r bytes whole g
-    ∙ ap (λ (s : Step). then_on setup line (at line s) (λ q. flow_taken setup block_delete plan program (fuel - 1) q)) e
+went : (setup : Setup) (block_delete : Bool) (plan : Plan) (program : ProgramLines) (fuel line : ℕ) (r : FlowProgress) (cs more : List FrameChange)
+    (bytes : List ℕ) (whole : Outcome) (x : Effect × FlowProgress) → Goes setup block_delete plan program fuel line r cs bytes whole
+    → flow_line_taken setup block_delete plan line bytes r ≡ Ok x → more ≡ cs ++ changed_by line r.progress x.1.progress
+    → whole ≡ on_from setup line x more (λ q now. flow_taken setup block_delete plan program (fuel - 1) q now)
+went setup block_delete plan program fuel line r cs more bytes whole x g e are =
+    goes_as setup block_delete plan program fuel line r cs bytes whole g
+    ∙ ap (λ (s : Step). then_on setup line r.progress cs (at line s) (λ q now. flow_taken setup block_delete plan program (fuel - 1) q now)) e
+    ∙ ap (λ (l : List FrameChange). on_from setup line x l (λ q now. flow_taken setup block_delete plan program (fuel - 1) q now)) (sym are)
 
 yes : {A : Type 0} (b : Bool) (x y : A) → b ≡ true → (if b then x else y) ≡ x
 yes true x y e = refl
 yes false x y e = absurd (cc e)
 
 -- the line ends the program
-pub flow_ends : (setup : Setup) (block_delete : Bool) (plan : Plan) (program : ProgramLines) (fuel line : ℕ) (r q : FlowProgress) (bytes : List ℕ)
-    (whole : Outcome) (effect : Effect) → Goes setup block_delete plan program fuel line r bytes whole
-    → flow_line_taken setup block_delete plan line bytes r ≡ Ok (effect, q) → ends effect ≡ true → whole ≡ finished setup line q.progress
-flow_ends setup block_delete plan program fuel line r q bytes whole effect g e over =
-    went setup block_delete plan program fuel line r bytes whole (effect, q) g e ∙ yes (ends effect) _ _ over
+pub flow_ends : (setup : Setup) (block_delete : Bool) (plan : Plan) (program : ProgramLines) (fuel line : ℕ) (r q : FlowProgress)
+    (cs more : List FrameChange) (bytes : List ℕ) (whole : Outcome) (effect : Effect) → Goes setup block_delete plan program fuel line r cs bytes whole
+    → flow_line_taken setup block_delete plan line bytes r ≡ Ok (effect, q) → more ≡ cs ++ changed_by line r.progress q.progress → ends effect ≡ true
+    → whole ≡ with_changes more (finished setup line q.progress)
+flow_ends setup block_delete plan program fuel line r q cs more bytes whole effect g e are over =
+    went setup block_delete plan program fuel line r cs more bytes whole (effect, q) g e are ∙ yes (ends effect) _ _ over
 
 no : {A : Type 0} (b : Bool) (x y : A) → b ≡ false → (if b then x else y) ≡ y
 no true x y e = absurd (cc e)
@@ -215,15 +216,16 @@ fuel_less setup block_delete plan line r q bytes effect e on =
     subst (Falls r.flow) e (line_falls setup block_delete plan line bytes r) on
 
 -- the flow goes on
-pub flow_goes_on : (setup : Setup) (block_delete : Bool) (plan : Plan) (program : ProgramLines) (line : ℕ) (r q : FlowProgress) (bytes : List ℕ)
-    (whole : Outcome) (effect : Effect) → Goes setup block_delete plan program r.flow.fuel line r bytes whole
-    → flow_line_taken setup block_delete plan line bytes r ≡ Ok (effect, q) → ends effect ≡ false
-    → flow_taken setup block_delete plan program q.flow.fuel q ≡ whole
-flow_goes_on setup block_delete plan program line r q bytes whole effect g e on =
+pub flow_goes_on : (setup : Setup) (block_delete : Bool) (plan : Plan) (program : ProgramLines) (line : ℕ) (r q : FlowProgress)
+    (cs more : List FrameChange) (bytes : List ℕ) (whole : Outcome) (effect : Effect) →
+    Goes setup block_delete plan program r.flow.fuel line r cs bytes whole
+    → flow_line_taken setup block_delete plan line bytes r ≡ Ok (effect, q) → more ≡ cs ++ changed_by line r.progress q.progress → ends effect ≡ false
+    → flow_taken setup block_delete plan program q.flow.fuel q more ≡ whole
+flow_goes_on setup block_delete plan program line r q cs more bytes whole effect g e are on =
     let less : q.flow.fuel + 1 ≡ r.flow.fuel = fuel_less setup block_delete plan line r q bytes effect e on in
     let same : q.flow.fuel ≡ r.flow.fuel - 1 = omega (arith, less) in
-    ap (λ (f : ℕ). flow_taken setup block_delete plan program f q) same
-    ∙ sym (went setup block_delete plan program r.flow.fuel line r bytes whole (effect, q) g e ∙ no (ends effect) _ _ on)
+    ap (λ (f : ℕ). flow_taken setup block_delete plan program f q more) same
+    ∙ sym (went setup block_delete plan program r.flow.fuel line r cs more bytes whole (effect, q) g e are ∙ no (ends effect) _ _ on)
 
 -- ---- the same of lines that a call has
 
@@ -231,10 +233,10 @@ abbrev pub program_with : {R : Type 0} → (R → List ℕ) → Plan → List R 
 program_with now plan lines last = record { dialect = plan.dialect; lines = map now lines; last = last }
 
 pub goes_here : {R : Type 0} (now : R → List ℕ) (setup : Setup) (block_delete : Bool) (plan : Plan) (lines : List R) (last : ℕ) (r : FlowProgress)
-    (e : R) (i j line : ℕ) (some : Bool) (whole : Outcome) → j ≡ r.flow.line → i ≡ r.flow.line → j < length lines → some ≡ not (r.flow.fuel == 0)
-    → some ≡ true → line ≡ number_of (i + 1) → flow_taken setup block_delete plan (program_with now plan lines last) r.flow.fuel r ≡ whole
-    → Goes setup block_delete plan (program_with now plan lines last) r.flow.fuel line r (now (get_or lines i e)) whole
-goes_here now setup block_delete plan lines last r e i j line some whole there here within is holds number leads = record {
+    (cs : List FrameChange) (e : R) (i j line : ℕ) (some : Bool) (whole : Outcome) → j ≡ r.flow.line → i ≡ r.flow.line → j < length lines → some ≡ not (r.flow.fuel == 0)
+    → some ≡ true → line ≡ number_of (i + 1) → flow_taken setup block_delete plan (program_with now plan lines last) r.flow.fuel r cs ≡ whole
+    → Goes setup block_delete plan (program_with now plan lines last) r.flow.fuel line r cs (now (get_or lines i e)) whole
+goes_here now setup block_delete plan lines last r cs e i j line some whole there here within is holds number leads = record {
   there = ap (slice_get (map now lines)) (sym here) ∙ line_there now lines i (get_or lines i e) e (omega (arith, there, here, within)) refl;
   some = not_true (r.flow.fuel == 0) (sym is ∙ holds);
   number = number ∙ ap (λ (n : ℕ). number_of (n + 1)) here;
@@ -245,12 +247,12 @@ goes_here now setup block_delete plan lines last r e i j line some whole there h
   not_true false h = refl
 
 pub spent_here : {R : Type 0} (now : R → List ℕ) (setup : Setup) (block_delete : Bool) (plan : Plan) (lines : List R) (last : ℕ) (r : FlowProgress)
-    (i j line : ℕ) (some : Bool) (whole : Outcome) → j ≡ r.flow.line → i ≡ r.flow.line → j < length lines → some ≡ not (r.flow.fuel == 0)
-    → some ≡ false → line ≡ number_of (i + 1) → flow_taken setup block_delete plan (program_with now plan lines last) r.flow.fuel r ≡ whole
+    (cs : List FrameChange) (i j line : ℕ) (some : Bool) (whole : Outcome) → j ≡ r.flow.line → i ≡ r.flow.line → j < length lines → some ≡ not (r.flow.fuel == 0)
+    → some ≡ false → line ≡ number_of (i + 1) → flow_taken setup block_delete plan (program_with now plan lines last) r.flow.fuel r cs ≡ whole
     → whole ≡ Err (faults.At line (causes.Flow TooManyLines))
-spent_here now setup block_delete plan lines last r i j line some whole there here within is none number leads =
+spent_here now setup block_delete plan lines last r cs i j line some whole there here within is none number leads =
     let found = any_there now lines i (omega (arith, there, here, within)) in
-    flow_spent setup block_delete plan (program_with now plan lines last) r.flow.fuel line r found.0 whole
+    flow_spent setup block_delete plan (program_with now plan lines last) r.flow.fuel line r cs found.0 whole
     (ap (slice_get (map now lines)) (sym here) ∙ found.1)
     (not_false (r.flow.fuel == 0) (sym is ∙ none)) (number ∙ ap (λ (n : ℕ). number_of (n + 1)) here) leads
   where
@@ -259,7 +261,7 @@ spent_here now setup block_delete plan lines last r i j line some whole there he
     not_false false h = absurd (cc h)
 
 pub over_here : {R : Type 0} (now : R → List ℕ) (setup : Setup) (block_delete : Bool) (plan : Plan) (lines : List R) (last : ℕ) (r : FlowProgress)
-    (j : ℕ) (whole : Outcome) → j ≡ r.flow.line → length lines ≤ j
-    → flow_taken setup block_delete plan (program_with now plan lines last) r.flow.fuel r ≡ whole → whole ≡ finished setup last r.progress
-over_here now setup block_delete plan lines last r j whole there past leads =
-    flow_over setup block_delete plan (program_with now plan lines last) r.flow.fuel r whole (no_line_there now lines r.flow.line (omega (arith, there, past))) leads
+    (cs : List FrameChange) (j : ℕ) (whole : Outcome) → j ≡ r.flow.line → length lines ≤ j
+    → flow_taken setup block_delete plan (program_with now plan lines last) r.flow.fuel r cs ≡ whole → whole ≡ with_changes cs (finished setup last r.progress)
+over_here now setup block_delete plan lines last r cs j whole there past leads =
+    flow_over setup block_delete plan (program_with now plan lines last) r.flow.fuel r cs whole (no_line_there now lines r.flow.line (omega (arith, there, past))) leads

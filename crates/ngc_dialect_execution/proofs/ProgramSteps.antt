@@ -5,7 +5,7 @@ use Rattle.std.proofs.lemmas.List.{append_assoc, append-nil, map-append}
 use Rattle.ngc_dialect_reader.specs.declared.dialect.Dialect.{Dialect}
 use Rattle.ngc_dialect_execution.specs.declared.text.LinesBefore.{LinesBefore}
 use Rattle.ngc_dialect_execution.specs.declared.text.Mark.{Mark}
-use Rattle.ngc_dialect_execution.specs.Text.{ProgramLines, first_byte, is_end, lines_after, lines_among, mark_of, number_of, with_line}
+use Rattle.ngc_dialect_execution.specs.Text.{ProgramLines, first_byte, is_end, lines_after, lines_among, mark_of, number_of}
 
 -- a program with more lines before its own
 abbrev pub after_lines : List (List ℕ) → ProgramLines → ProgramLines

@@ -6,6 +6,7 @@ use Rattle.ngc_canonical.specs.declared.fault.Fault.TheVariants.{NoEnd}
 use Rattle.ngc_canonical.specs.State.{Setup, State, start_state}
 use Rattle.ngc_canonical.specs.Steps.{◌>>=◌}
 use Rattle.ngc_commands.specs.declared.command.Command.{Command}
+use Rattle.ngc_frames.specs.declared.change.FrameChange.{FrameChange}
 use Rattle.ngc_dialect_parameters.specs.declared.statement.Word.{Word}
 use Rattle.ngc_dialect_reader.specs.declared.dialect.Dialect.{Dialect}
 use Rattle.ngc_dialect_reader.specs.declared.part.Part.{Part}
@@ -25,6 +26,7 @@ use Rattle.ngc_line_reader.specs.Program.{split_lines}
 use Rattle.ngc_dialect_execution.specs.declared.fault.Cause.{Cause}
 use Rattle.ngc_dialect_execution.specs.declared.fault.Cause.TheVariants as causes
 use Rattle.ngc_dialect_execution.specs.declared.fault.DialectFault.{DialectFault}
+use Rattle.ngc_dialect_execution.specs.declared.fault.DialectFault.TheVariants as faults
 use Rattle.ngc_dialect_execution.specs.declared.text.LinesBefore.{LinesBefore}
 use Rattle.ngc_dialect_execution.specs.declared.text.Mark.{Mark}
 use Rattle.ngc_dialect_execution.specs.declared.text.Mark.TheVariants.{Begins, Ends, IsLine}
@@ -40,11 +42,11 @@ use Rattle.ngc_dialect_flow.specs.State.{Flow, begun}
 use Rattle.ngc_dialect_parameters.specs.declared.statement.Statement.{Statement}
 use Rattle.ngc_dialect_parameters.specs.Stored.{Stored}
 use Rattle.ngc_dialect_parameters.specs.Storing.{called, set_by_all}
-use Rattle.ngc_dialect_execution.specs.Ending.{at, commands_of, finished}
+use Rattle.ngc_dialect_execution.specs.Ending.{Framed, Outcome, at, changed_by, commands_of, finished, with_changes}
 use Rattle.ngc_dialect_execution.specs.Faults.{◌>>=◌ as ◌>>=c◌, caused, stored_cause, ProgramSays}
-use Rattle.ngc_dialect_execution.specs.Flow.{FlowProgress, Outcome, effect_done, effect_taken, ends, flow_line_taken, flow_statements_taken, flow_taken, line_or_end, number_at, other_words, others_taken, passed_over, said_if, stepped, then_on, turned, values_from, with_values}
+use Rattle.ngc_dialect_execution.specs.Flow.{FlowProgress, effect_done, effect_taken, ends, flow_line_taken, flow_statements_taken, flow_taken, line_or_end, number_at, other_words, others_taken, passed_over, said_if, stepped, then_on, turned, values_from, with_values}
 use Rattle.ngc_dialect_execution.specs.Laws.{AreLawful, AreExecuted, IsReached}
-use Rattle.ngc_dialect_execution.specs.Program.{go_from, go_on, lines_taken, marked_taken, meaning_in}
+use Rattle.ngc_dialect_execution.specs.Program.{changes_in, changes_of, commands_in, executed_in, go_from, go_on, lines_taken, marked_taken, meaning_in}
 use Rattle.ngc_dialect_execution.specs.Taken.{Between, Progress, Said, END, done_at, ended_at, has_flow, is_deleted, known_of, line_taken, parts_taken, said_at, start_progress, statements_taken, with_state, words_of, words_taken, plain_taken, move_taken, moves_taken, with_series, start_taken, cycle_taken, cycle_if}
 use Rattle.ngc_dialect_execution.specs.Text.{ProgramLines, first_byte, is_end, lines_after, mark_of, no_lines, number_of, program_of}
 use Rattle.ngc_dialect_execution.proofs.Lawful.{are_lawful, in_order}
@@ -305,77 +307,98 @@ finish_executed setup last p reached =
     (caused_state setup (lines_at last END) p.between p.between.front (executed setup (lines_at last END) p.between.state) refl)
     (λ b leads. handed_out setup b.state (on_from setup p.between.state b.state reached leads)))
 
-either : (Q : List Command → Type 0) (b : Bool) (last more : Result (List Command) DialectFault) → IfOk last Q → IfOk more Q
-    → IfOk (if b then last else more) Q
-either Q true last more l m = l
-either Q false last more l m = m
+-- the commands of an outcome are those of plain lines
+abbrev Executes : Setup → Outcome → Type 0
+Executes setup o = IfOk o (λ (f : Framed). AreExecuted setup f.commands)
+
+either : (setup : Setup) (b : Bool) (last more : Outcome) → Executes setup last → Executes setup more → Executes setup (if b then last else more)
+either setup true last more l m = l
+either setup false last more l m = m
+
+with_executed : (setup : Setup) (cs : List FrameChange) (r : Result (List Command) DialectFault) → IfOk r (AreExecuted setup)
+    → Executes setup (with_changes cs r)
+with_executed setup cs (Ok commands) h = h
+with_executed setup cs (Err e) h = tt
+
+last_executed : (setup : Setup) (last : ℕ) (cs : List FrameChange) (p : Progress) → IsReached setup p.between.state
+    → Executes setup (with_changes cs (finished setup last p))
+last_executed setup last cs p reached = with_executed setup cs (finished setup last p) (finish_executed setup last p reached)
 
 -- a program's flow, from a line on
-then_executed : (setup : Setup) (line : ℕ) (s : State) (r : Result (Effect × FlowProgress) DialectFault) (rest : FlowProgress → Outcome) → IsReached setup s
-    → IfOk r (λ (x : Effect × FlowProgress). Leads setup s x.1.progress.between.state)
-    → ((q : FlowProgress) → IsReached setup q.progress.between.state → IfOk (rest q) (AreExecuted setup))
-    → IfOk (then_on setup line r rest) (AreExecuted setup)
-then_executed setup line s (Err e) rest reached leads more = tt
-then_executed setup line s (Ok x) rest reached leads more =
-    let there : IsReached setup x.1.progress.between.state = on_from setup s x.1.progress.between.state reached leads in
-    either (AreExecuted setup) (ends x.0) _ _ (finish_executed setup line x.1.progress there) (more x.1 there)
+then_executed : (setup : Setup) (line : ℕ) (p : Progress) (cs : List FrameChange) (r : Result (Effect × FlowProgress) DialectFault)
+    (rest : FlowProgress → List FrameChange → Outcome) → IsReached setup p.between.state
+    → IfOk r (λ (x : Effect × FlowProgress). Leads setup p.between.state x.1.progress.between.state)
+    → ((q : FlowProgress) (more : List FrameChange) → IsReached setup q.progress.between.state → Executes setup (rest q more))
+    → Executes setup (then_on setup line p cs r rest)
+then_executed setup line p cs (Err e) rest reached leads more = tt
+then_executed setup line p cs (Ok x) rest reached leads more =
+    let there : IsReached setup x.1.progress.between.state = on_from setup p.between.state x.1.progress.between.state reached leads in
+    let now : List FrameChange = cs ++ changed_by line p x.1.progress in
+    either setup (ends x.0) _ _ (last_executed setup line now x.1.progress there) (more x.1 now there)
 
-line_executed : (setup : Setup) (found : Option (List ℕ)) (over : Outcome) (line : List ℕ → Outcome) → IfOk over (AreExecuted setup)
-    → ((bytes : List ℕ) → IfOk (line bytes) (AreExecuted setup)) → IfOk (line_or_end found over line) (AreExecuted setup)
+line_executed : (setup : Setup) (found : Option (List ℕ)) (over : Outcome) (line : List ℕ → Outcome) → Executes setup over
+    → ((bytes : List ℕ) → Executes setup (line bytes)) → Executes setup (line_or_end found over line)
 line_executed setup None over line h k = h
 line_executed setup (Some bytes) over line h k = k bytes
 
-flow_executed : (setup : Setup) (block_delete : Bool) (plan : Plan) (program : ProgramLines) (fuel : ℕ) (r : FlowProgress) →
-    IsReached setup r.progress.between.state → IfOk (flow_taken setup block_delete plan program fuel r) (AreExecuted setup)
+flow_executed : (setup : Setup) (block_delete : Bool) (plan : Plan) (program : ProgramLines) (fuel : ℕ) (r : FlowProgress) (cs : List FrameChange) →
+    IsReached setup r.progress.between.state → Executes setup (flow_taken setup block_delete plan program fuel r cs)
 unfolding flow_taken
-flow_executed setup block_delete plan program zero r reached =
-    line_executed setup (slice_get program.lines r.flow.line) _ _ (finish_executed setup program.last r.progress reached) (λ bytes. tt)
-flow_executed setup block_delete plan program (suc fuel) r reached =
-    line_executed setup (slice_get program.lines r.flow.line) _ _ (finish_executed setup program.last r.progress reached)
-    (λ bytes. then_executed setup (number_at r) r.progress.between.state
+flow_executed setup block_delete plan program zero r cs reached =
+    line_executed setup (slice_get program.lines r.flow.line) _ _ (last_executed setup program.last cs r.progress reached) (λ bytes. tt)
+flow_executed setup block_delete plan program (suc fuel) r cs reached =
+    line_executed setup (slice_get program.lines r.flow.line) _ _ (last_executed setup program.last cs r.progress reached)
+    (λ bytes. then_executed setup (number_at r) r.progress cs
     (at (number_at r) (flow_line_taken setup block_delete plan (number_at r) bytes r)) _ reached
     (at_any (λ (x : Effect × FlowProgress). Leads setup r.progress.between.state x.1.progress.between.state) (number_at r) _
     (flow_line_leads setup block_delete plan (number_at r) bytes r))
-    (λ q there. flow_executed setup block_delete plan program fuel q there))
+    (λ q more there. flow_executed setup block_delete plan program fuel q more there))
 
 -- the lines of a text
-went_from : (setup : Setup) (t : Taken) (q : Progress) (flow rest : Progress → Outcome) → IsReached setup q.between.state
-    → IfOk (flow q) (AreExecuted setup) → IfOk (rest q) (AreExecuted setup) → IfOk (go_from t q flow rest) (AreExecuted setup)
-went_from setup HasFlow q flow rest there f m = f
-went_from setup Done q flow rest there f m = by_ended q.between.state.ended refl where
+went_from : (setup : Setup) (t : Taken) (q : Progress) (cs : List FrameChange) (flow : Progress → Outcome) (rest : Progress → List FrameChange → Outcome) →
+    IsReached setup q.between.state → Executes setup (flow q) → Executes setup (rest q cs) → Executes setup (go_from t q cs flow rest)
+went_from setup HasFlow q cs flow rest there f m = f
+went_from setup Done q cs flow rest there f m = by_ended q.between.state.ended refl where
   by_ended : (b : Bool) → q.between.state.ended ≡ b
-      → (let all : Outcome = Ok q.between.state.commands in IfOk (if b then all else rest q) (AreExecuted setup))
+      → (let all : Outcome = Ok (record { commands = q.between.state.commands; changes = cs }) in Executes setup (if b then all else rest q cs))
   by_ended true e = record { state = q.between.state; reached = there; ended = e; are = refl }
   by_ended false e = m
 
-went_on : (setup : Setup) (s : State) (r : Result (Taken × Progress) DialectFault) (flow rest : Progress → Outcome) → IsReached setup s →
-    IfOk r (λ (x : Taken × Progress). Leads setup s x.1.between.state)
-    → ((q : Progress) → IsReached setup q.between.state → IfOk (flow q) (AreExecuted setup))
-    → ((q : Progress) → IsReached setup q.between.state → IfOk (rest q) (AreExecuted setup))
-    → IfOk (go_on r flow rest) (AreExecuted setup)
-went_on setup s (Err e) flow rest reached leads f more = tt
-went_on setup s (Ok x) flow rest reached leads f more =
-    let there : IsReached setup x.1.between.state = on_from setup s x.1.between.state reached leads in
-    went_from setup x.0 x.1 flow rest there (f x.1 there) (more x.1 there)
+went_on : (setup : Setup) (line : ℕ) (p : Progress) (cs : List FrameChange) (r : Result (Taken × Progress) DialectFault) (flow : Progress → Outcome)
+    (rest : Progress → List FrameChange → Outcome) → IsReached setup p.between.state →
+    IfOk r (λ (x : Taken × Progress). Leads setup p.between.state x.1.between.state)
+    → ((q : Progress) → IsReached setup q.between.state → Executes setup (flow q))
+    → ((q : Progress) (more : List FrameChange) → IsReached setup q.between.state → Executes setup (rest q more))
+    → Executes setup (go_on line p cs r flow rest)
+went_on setup line p cs (Err e) flow rest reached leads f more = tt
+went_on setup line p cs (Ok x) flow rest reached leads f more =
+    let there : IsReached setup x.1.between.state = on_from setup p.between.state x.1.between.state reached leads in
+    let now : List FrameChange = cs ++ changed_by line p x.1 in
+    went_from setup x.0 x.1 now flow rest there (f x.1 there) (more x.1 now there)
 
-lines_executed : (setup : Setup) (block_delete : Bool) (program : ProgramLines) (before : LinesBefore) (lines : List (List ℕ)) (p : Progress) →
-    IsReached setup p.between.state → IfOk (lines_taken setup block_delete program before lines p) (AreExecuted setup)
+lines_executed : (setup : Setup) (block_delete : Bool) (program : ProgramLines) (before : LinesBefore) (lines : List (List ℕ)) (p : Progress)
+    (cs : List FrameChange) → IsReached setup p.between.state → Executes setup (lines_taken setup block_delete program before lines p cs)
 unfolding lines_taken
-lines_executed setup block_delete program before [] p reached = finish_executed setup (number_of before.count) p reached
-lines_executed setup block_delete program before (bytes ∷ rest) p reached =
+lines_executed setup block_delete program before [] p cs reached = last_executed setup (number_of before.count) cs p reached
+lines_executed setup block_delete program before (bytes ∷ rest) p cs reached =
     let now : LinesBefore = lines_after before (first_byte bytes) in
     let mark : Mark = mark_of before p.between.dialect (first_byte bytes) in
     let number : ℕ = number_of now.count in
-    either (AreExecuted setup) (is_end mark) _ _ (finish_executed setup number p reached)
-    (went_on setup p.between.state (at number (marked_taken setup block_delete number mark bytes p)) _ _ reached
+    either setup (is_end mark) _ _ (last_executed setup number cs p reached)
+    (went_on setup number p cs (at number (marked_taken setup block_delete number mark bytes p)) _ _ reached
     (at_any (λ (x : Taken × Progress). Leads setup p.between.state x.1.between.state) number _
     (marked_leads setup block_delete number mark bytes p))
-    (λ q there. flow_executed setup block_delete _ program _ (record { progress = q; flow = begun before.count }) there)
-    (λ q there. lines_executed setup block_delete program now rest q there))
+    (λ q there. flow_executed setup block_delete _ program _ (record { progress = q; flow = begun before.count }) cs there)
+    (λ q more there. lines_executed setup block_delete program now rest q more there))
+
+of_commands : (setup : Setup) (o : Outcome) → Executes setup o → IfOk (commands_in o) (AreExecuted setup)
+of_commands setup (Ok f) h = h
+of_commands setup (Err e) h = tt
 
 program_executed : (d : Dialect) (setup : Setup) (block_delete : Bool) (text : List ℕ) → IfOk (meaning_in d setup block_delete text) (AreExecuted setup)
 program_executed d setup block_delete text =
-    lines_executed setup block_delete (program_of d text) no_lines (split_lines text) (start_progress d setup.machine) (start_reached setup)
+    of_commands setup (executed_in d setup block_delete text)
+    (lines_executed setup block_delete (program_of d text) no_lines (split_lines text) (start_progress d setup.machine) [] (start_reached setup))
 
 -- ---- what a call returns
 
@@ -397,3 +420,21 @@ pub lawfully : {X : Type 0} (view : X → List Command) (Q : List Command → Ty
 lawfully view Q setup (Ok x) law e =
     subst Q (sym e.are) (law e.state e.ended (are_lawful setup e.reached.lines e.state e.reached.leads))
 lawfully view Q setup (Err fault) law e = tt
+
+-- what is said of commands and changes together is said of each
+pub commands_said : {X : Type 0} (commands : X → List Command) (changes : X → List FrameChange) (r : Result X DialectFault) (o : Outcome) →
+    ProgramSays (λ x. record { commands = commands x; changes = changes x }) r o → ProgramSays commands r (commands_in o)
+commands_said commands changes (Ok x) o says = ap commands_in says
+commands_said commands changes (Err (faults.At line cause)) o says = ap commands_in says
+commands_said commands changes (Err faults.Memory) o says = tt
+
+pub changes_said : {X : Type 0} (commands : X → List Command) (changes : X → List FrameChange) (r : Result X DialectFault) (o : Outcome) →
+    ProgramSays (λ x. record { commands = commands x; changes = changes x }) r o → IfOk r (λ x. changes x ≡ changes_of o)
+changes_said commands changes (Ok x) o says = sym (ap changes_of says)
+changes_said commands changes (Err e) o says = tt
+
+pub changes_are : {X : Type 0} (changes : X → List FrameChange) (r : Result X DialectFault) (d : Dialect) (setup : Setup) (block_delete : Bool)
+    (text : List ℕ) → IfOk r (λ x. changes x ≡ changes_of (executed_in d setup block_delete text))
+    → IfOk r (λ x. changes x ≡ changes_in d setup block_delete text)
+unfolding changes_in
+changes_are changes r d setup block_delete text h = h

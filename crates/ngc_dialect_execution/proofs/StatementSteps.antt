@@ -1,5 +1,5 @@
 -- A line of statements: it has flow, or it takes effect.
-use Rattle.std.proofs.Common.{◌≡◌, ℕ, List, Bool, true, false, Result, Ok, Err, refl, sym, ◌∙◌, ap, subst}
+use Rattle.std.proofs.Common.{◌≡◌, ℕ, List, Bool, true, false, Result, Ok, Err, refl, sym, ◌∙◌, ap}
 use Rattle.std.specs.Prelude.{if◌then◌else◌}
 use Rattle.ngc_canonical.specs.State.{Setup}
 use Rattle.ngc_dialect_reader.specs.declared.dialect.Dialect.{Dialect}

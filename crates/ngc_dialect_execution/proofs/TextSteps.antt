@@ -1,5 +1,5 @@
 -- One line of a text after another.
-use Rattle.std.proofs.Common.{◌≡◌, ℕ, List, [], ◌∷◌, length, Bool, true, false, Result, Ok, Err, refl, sym, ◌∙◌, ap, subst, arith}
+use Rattle.std.proofs.Common.{◌≡◌, ℕ, List, [], ◌∷◌, ◌++◌, length, Bool, true, false, Result, Ok, Err, refl, sym, ◌∙◌, ap, subst, arith}
 use Rattle.std.proofs.lemmas.Bool.Decides.{nat_tests}
 use Rattle.ngc_line_reader.specs.Program.{split_lines}
 use Rattle.std.specs.Prelude.{◌==◌, if◌then◌else◌}
@@ -7,6 +7,9 @@ use Rattle.ngc_canonical.specs.declared.fault.Fault.TheVariants.{NoEnd}
 use Rattle.ngc_dialect_reader.specs.declared.dialect.Dialect.{Dialect}
 use Rattle.ngc_canonical.specs.State.{Setup}
 use Rattle.ngc_commands.specs.declared.command.Command.{Command}
+use Rattle.ngc_frames.specs.Changes.{change_at, frame_of}
+use Rattle.ngc_frames.specs.declared.change.FrameChange.{FrameChange}
+use Rattle.ngc_frames.specs.declared.frame.Frame.{Frame}
 use Rattle.ngc_dialect_execution.specs.declared.fault.Cause.{Cause}
 use Rattle.ngc_dialect_execution.specs.declared.fault.Cause.TheVariants as causes
 use Rattle.ngc_dialect_execution.specs.declared.fault.DialectFault.{DialectFault}
@@ -17,9 +20,9 @@ use Rattle.ngc_dialect_execution.specs.declared.lines.Taken.{Taken}
 use Rattle.ngc_dialect_execution.specs.declared.lines.Taken.TheVariants.{Done, HasFlow}
 use Rattle.ngc_dialect_execution.specs.declared.text.LinesBefore.{LinesBefore}
 use Rattle.ngc_dialect_execution.specs.declared.text.Mark.{Mark}
-use Rattle.ngc_dialect_execution.specs.Ending.{at, commands_of, finished}
+use Rattle.ngc_dialect_execution.specs.Ending.{Outcome, at, changed_by, commands_of, finished, with_changes}
 use Rattle.ngc_dialect_execution.specs.Faults.{◌>>=◌, FailsBy, ProgramSays, Says, at_line}
-use Rattle.ngc_dialect_execution.specs.Flow.{Outcome, flow_from}
+use Rattle.ngc_dialect_execution.specs.Flow.{flow_from}
 use Rattle.ngc_dialect_execution.specs.Program.{go_from, go_on, lines_taken, marked_taken}
 use Rattle.ngc_dialect_execution.specs.Taken.{Between, Progress, ended_at}
 use Rattle.ngc_dialect_execution.specs.Text.{ProgramLines, first_byte, is_end, lines_after, mark_of, number_of}
@@ -40,64 +43,79 @@ pub record Passes (before now : LinesBefore) (d : Dialect) (mark : Mark) (bytes 
 
 -- the percent sign that ends the program
 pub at_end : (setup : Setup) (block_delete : Bool) (program : ProgramLines) (before now : LinesBefore) (mark : Mark) (bytes : List ℕ) (line : ℕ)
-    (rest : List (List ℕ)) (p : Progress) → Passes before now p.between.dialect mark bytes line → is_end mark ≡ true
-    → lines_taken setup block_delete program before (bytes ∷ rest) p ≡ finished setup line p
+    (rest : List (List ℕ)) (p : Progress) (cs : List FrameChange) → Passes before now p.between.dialect mark bytes line → is_end mark ≡ true
+    → lines_taken setup block_delete program before (bytes ∷ rest) p cs ≡ with_changes cs (finished setup line p)
 unfolding lines_taken
-at_end setup block_delete program before now mark bytes line rest p h ends =
+at_end setup block_delete program before now mark bytes line rest p cs h ends =
     yes (is_end (mark_of before p.between.dialect (first_byte bytes))) _ _ (ap is_end (sym h.is) ∙ ends)
-    ∙ ap (λ (n : LinesBefore). finished setup (number_of n.count) p) (sym h.after) ∙ ap (λ (n : ℕ). finished setup n p) (sym h.number)
+    ∙ ap (λ (n : LinesBefore). with_changes cs (finished setup (number_of n.count) p)) (sym h.after)
+    ∙ ap (λ (n : ℕ). with_changes cs (finished setup n p)) (sym h.number)
 
 -- another line
 next : (setup : Setup) (block_delete : Bool) (program : ProgramLines) (before now : LinesBefore) (mark : Mark) (bytes : List ℕ) (line : ℕ)
-    (rest : List (List ℕ)) (p : Progress) → Passes before now p.between.dialect mark bytes line → is_end mark ≡ false
-    → lines_taken setup block_delete program before (bytes ∷ rest) p
-    ≡ go_on (at line (marked_taken setup block_delete line mark bytes p)) (λ q. flow_from setup block_delete program before.count q)
-    (λ q. lines_taken setup block_delete program now rest q)
+    (rest : List (List ℕ)) (p : Progress) (cs : List FrameChange) → Passes before now p.between.dialect mark bytes line → is_end mark ≡ false
+    → lines_taken setup block_delete program before (bytes ∷ rest) p cs
+    ≡ go_on line p cs (at line (marked_taken setup block_delete line mark bytes p)) (λ q. flow_from setup block_delete program before.count q cs)
+    (λ q more. lines_taken setup block_delete program now rest q more)
 unfolding lines_taken
-next setup block_delete program before now mark bytes line rest p h on =
+next setup block_delete program before now mark bytes line rest p cs h on =
     let is : Mark = mark_of before p.between.dialect (first_byte bytes) in
-    let flow : Progress → Outcome = λ q. flow_from setup block_delete program before.count q in
-    let after : LinesBefore → Progress → Outcome = λ n q. lines_taken setup block_delete program n rest q in
-    let by : ℕ → LinesBefore → Mark → Outcome = λ number n m. go_on (at number (marked_taken setup block_delete number m bytes p)) flow (after n) in
+    let flow : Progress → Outcome = λ q. flow_from setup block_delete program before.count q cs in
+    let after : LinesBefore → Progress → List FrameChange → Outcome = λ n q more. lines_taken setup block_delete program n rest q more in
+    let by : ℕ → LinesBefore → Mark → Outcome = λ number n m. go_on number p cs (at number (marked_taken setup block_delete number m bytes p)) flow (after n) in
     no (is_end is) _ _ (ap is_end (sym h.is) ∙ on)
     ∙ ap (by (number_of (lines_after before (first_byte bytes)).count) (lines_after before (first_byte bytes))) (sym h.is)
     ∙ ap (λ (n : LinesBefore). by (number_of n.count) n mark) (sym h.after) ∙ ap (λ (n : ℕ). by n now mark) (sym h.number)
 
 taken : (setup : Setup) (block_delete : Bool) (program : ProgramLines) (before now : LinesBefore) (mark : Mark) (bytes : List ℕ) (line : ℕ)
-    (rest : List (List ℕ)) (p : Progress) (x : Taken × Progress) →
+    (rest : List (List ℕ)) (p : Progress) (cs : List FrameChange) (x : Taken × Progress) →
     Passes before now p.between.dialect mark bytes line → is_end mark ≡ false → marked_taken setup block_delete line mark bytes p ≡ Ok x
-    → lines_taken setup block_delete program before (bytes ∷ rest) p
-    ≡ go_from x.0 x.1 (λ q. flow_from setup block_delete program before.count q) (λ q. lines_taken setup block_delete program now rest q)
-taken setup block_delete program before now mark bytes line rest p x h on e =
-    next setup block_delete program before now mark bytes line rest p h on
+    → lines_taken setup block_delete program before (bytes ∷ rest) p cs
+    ≡ go_from x.0 x.1 (cs ++ changed_by line p x.1) (λ q. flow_from setup block_delete program before.count q cs)
+    (λ q more. lines_taken setup block_delete program now rest q more)
+taken setup block_delete program before now mark bytes line rest p cs x h on e =
+    next setup block_delete program before now mark bytes line rest p cs h on
     ∙ ap (λ (r : Result (Taken × Progress) Cause).
-    go_on (at line r) (λ q. flow_from setup block_delete program before.count q) (λ u. lines_taken setup block_delete program now rest u)) e
+    go_on line p cs (at line r) (λ q. flow_from setup block_delete program before.count q cs)
+    (λ q more. lines_taken setup block_delete program now rest q more)) e
+
+-- the changes after a line, in the words of a call
+pub noted : (line count : ℕ) (frame : Frame) (p q : Progress) (cs more : List FrameChange) → count ≡ length p.between.state.commands
+    → frame ≡ frame_of p.between.state → more ≡ cs ++ change_at line count frame (frame_of q.between.state) → more ≡ cs ++ changed_by line p q
+noted line count frame p q cs more counted was is =
+    is ∙ ap (λ (n : ℕ). cs ++ change_at line n frame (frame_of q.between.state)) counted
+    ∙ ap (λ (f : Frame). cs ++ change_at line (length p.between.state.commands) f (frame_of q.between.state)) was
 
 -- the program goes on
 pub goes_on : (setup : Setup) (block_delete : Bool) (program : ProgramLines) (before now : LinesBefore) (mark : Mark) (bytes : List ℕ) (line : ℕ)
-    (rest : List (List ℕ)) (p q : Progress) →
+    (rest : List (List ℕ)) (p q : Progress) (cs more : List FrameChange) →
     Passes before now p.between.dialect mark bytes line → is_end mark ≡ false → marked_taken setup block_delete line mark bytes p ≡ Ok (Done, q)
-    → q.between.state.ended ≡ false
-    → lines_taken setup block_delete program before (bytes ∷ rest) p ≡ lines_taken setup block_delete program now rest q
-goes_on setup block_delete program before now mark bytes line rest p q h on e still =
-    taken setup block_delete program before now mark bytes line rest p (Done, q) h on e ∙ no q.between.state.ended _ _ still
+    → q.between.state.ended ≡ false → more ≡ cs ++ changed_by line p q
+    → lines_taken setup block_delete program before (bytes ∷ rest) p cs ≡ lines_taken setup block_delete program now rest q more
+goes_on setup block_delete program before now mark bytes line rest p q cs more h on e still are =
+    taken setup block_delete program before now mark bytes line rest p cs (Done, q) h on e ∙ no q.between.state.ended _ _ still
+    ∙ ap (λ (l : List FrameChange). lines_taken setup block_delete program now rest q l) (sym are)
+
+abbrev made : List Command → List FrameChange → Outcome
+made commands changes = Ok (record { commands = commands; changes = changes })
 
 -- the line ends the program
 pub ends_there : (setup : Setup) (block_delete : Bool) (program : ProgramLines) (before now : LinesBefore) (mark : Mark) (bytes : List ℕ) (line : ℕ)
-    (rest : List (List ℕ)) (p q : Progress) →
+    (rest : List (List ℕ)) (p q : Progress) (cs more : List FrameChange) (commands : List Command) →
     Passes before now p.between.dialect mark bytes line → is_end mark ≡ false → marked_taken setup block_delete line mark bytes p ≡ Ok (Done, q)
-    → q.between.state.ended ≡ true
-    → lines_taken setup block_delete program before (bytes ∷ rest) p ≡ Ok q.between.state.commands
-ends_there setup block_delete program before now mark bytes line rest p q h on e over =
-    taken setup block_delete program before now mark bytes line rest p (Done, q) h on e ∙ yes q.between.state.ended _ _ over
+    → q.between.state.ended ≡ true → more ≡ cs ++ changed_by line p q → commands ≡ q.between.state.commands
+    → lines_taken setup block_delete program before (bytes ∷ rest) p cs ≡ Ok (record { commands = commands; changes = more })
+ends_there setup block_delete program before now mark bytes line rest p q cs more commands h on e over are given =
+    taken setup block_delete program before now mark bytes line rest p cs (Done, q) h on e ∙ yes q.between.state.ended _ _ over
+    ∙ ap (made q.between.state.commands) (sym are) ∙ ap (λ (l : List Command). made l more) (sym given)
 
 -- the flow begins at the line
 pub flow_begins : (setup : Setup) (block_delete : Bool) (program : ProgramLines) (before now : LinesBefore) (mark : Mark) (bytes : List ℕ) (line : ℕ)
-    (rest : List (List ℕ)) (p q : Progress) →
+    (rest : List (List ℕ)) (p q : Progress) (cs : List FrameChange) →
     Passes before now p.between.dialect mark bytes line → is_end mark ≡ false → marked_taken setup block_delete line mark bytes p ≡ Ok (HasFlow, q)
-    → lines_taken setup block_delete program before (bytes ∷ rest) p ≡ flow_from setup block_delete program before.count q
-flow_begins setup block_delete program before now mark bytes line rest p q h on e =
-    taken setup block_delete program before now mark bytes line rest p (HasFlow, q) h on e
+    → lines_taken setup block_delete program before (bytes ∷ rest) p cs ≡ flow_from setup block_delete program before.count q cs
+flow_begins setup block_delete program before now mark bytes line rest p q cs h on e =
+    taken setup block_delete program before now mark bytes line rest p cs (HasFlow, q) h on e
 
 -- the fault of a line
 pub refused_at : {A B : Type 0} (line : ℕ) (view : B → A) (refusal : Refusal) (r : Result A Cause) → Says view (Err refusal) r
@@ -112,14 +130,15 @@ fails_first (faults.At line cause) r rest passes h = ap rest h ∙ passes (fault
 fails_first faults.Memory r rest passes h = tt
 
 pub refused_there : {B : Type 0} (setup : Setup) (block_delete : Bool) (program : ProgramLines) (before now : LinesBefore) (mark : Mark) (bytes : List ℕ)
-    (line : ℕ) (rest : List (List ℕ)) (p : Progress) (view : B → Taken × Progress) (refusal : Refusal) →
+    (line : ℕ) (rest : List (List ℕ)) (p : Progress) (cs : List FrameChange) (view : B → Taken × Progress) (refusal : Refusal) →
     Passes before now p.between.dialect mark bytes line → is_end mark ≡ false
     → Says view (Err refusal) (marked_taken setup block_delete line mark bytes p)
-    → FailsBy (at_line line refusal) (lines_taken setup block_delete program before (bytes ∷ rest) p)
-refused_there setup block_delete program before now mark bytes line rest p view refusal h on says =
-    subst (FailsBy (at_line line refusal)) (sym (next setup block_delete program before now mark bytes line rest p h on))
+    → FailsBy (at_line line refusal) (lines_taken setup block_delete program before (bytes ∷ rest) p cs)
+refused_there setup block_delete program before now mark bytes line rest p cs view refusal h on says =
+    subst (FailsBy (at_line line refusal)) (sym (next setup block_delete program before now mark bytes line rest p cs h on))
     (fails_first (at_line line refusal) (at line (marked_taken setup block_delete line mark bytes p))
-    (λ r. go_on r (λ q. flow_from setup block_delete program before.count q) (λ q. lines_taken setup block_delete program now rest q)) (λ e. refl)
+    (λ r. go_on line p cs r (λ q. flow_from setup block_delete program before.count q cs)
+    (λ q more. lines_taken setup block_delete program now rest q more)) (λ e. refl)
     (refused_at line view refusal (marked_taken setup block_delete line mark bytes p) says))
 
 -- ---- after a step of a program, in the same words
@@ -159,18 +178,18 @@ passes before now d e mark bytes line is same after number =
     record { is = is ∙ ap (λ (x : Dialect). mark_of before x (first_byte bytes)) same; after = after; number = number }
 
 pub first_left : (setup : Setup) (block_delete : Bool) (program : ProgramLines) (before : LinesBefore) (lines rest : List (List ℕ)) (bytes : List ℕ)
-    (p : Progress) (whole : Outcome) → lines ≡ bytes ∷ rest → lines_taken setup block_delete program before lines p ≡ whole
-    → whole ≡ lines_taken setup block_delete program before (bytes ∷ rest) p
-first_left setup block_delete program before lines rest bytes p whole split leads =
-    sym leads ∙ ap (λ (ls : List (List ℕ)). lines_taken setup block_delete program before ls p) split
+    (p : Progress) (cs : List FrameChange) (whole : Outcome) → lines ≡ bytes ∷ rest → lines_taken setup block_delete program before lines p cs ≡ whole
+    → whole ≡ lines_taken setup block_delete program before (bytes ∷ rest) p cs
+first_left setup block_delete program before lines rest bytes p cs whole split leads =
+    sym leads ∙ ap (λ (ls : List (List ℕ)). lines_taken setup block_delete program before ls p cs) split
 
 pub none_left : (setup : Setup) (block_delete : Bool) (program : ProgramLines) (before : LinesBefore) (lines : List (List ℕ)) (p : Progress)
-    (whole : Outcome) (last : ℕ) → lines ≡ [] → last ≡ number_of before.count → lines_taken setup block_delete program before lines p ≡ whole
-    → whole ≡ finished setup last p
+    (cs : List FrameChange) (whole : Outcome) (last : ℕ) → lines ≡ [] → last ≡ number_of before.count
+    → lines_taken setup block_delete program before lines p cs ≡ whole → whole ≡ with_changes cs (finished setup last p)
 unfolding lines_taken
-none_left setup block_delete program before lines p whole last none number leads =
-    sym leads ∙ ap (λ (ls : List (List ℕ)). lines_taken setup block_delete program before ls p) none
-    ∙ ap (λ (n : ℕ). finished setup n p) (sym number)
+none_left setup block_delete program before lines p cs whole last none number leads =
+    sym leads ∙ ap (λ (ls : List (List ℕ)). lines_taken setup block_delete program before ls p cs) none
+    ∙ ap (λ (n : ℕ). with_changes cs (finished setup n p)) (sym number)
 
 pub refused_as : {Y : Type 0} (found fault : DialectFault) (m n : Result Y DialectFault) → found ≡ fault → m ≡ n → FailsBy fault n → FailsBy found m
 refused_as found fault m n is same says = subst (λ (f : DialectFault). FailsBy f m) (sym is) (subst (FailsBy fault) (sym same) says)

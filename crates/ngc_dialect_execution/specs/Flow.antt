@@ -1,9 +1,9 @@
 -- Lines of a program whose flow has begun: which one is next is decided by the line that was executed.
 -- Our own.
-use Rattle.std.specs.Prelude.{ℕ, zero, suc, ◌+◌, ◌==◌, ◌&&◌, ◌||◌, not, ℤ, List, [], filter, slice_get, Bool, true, false}
+use Rattle.std.specs.Prelude.{ℕ, zero, suc, ◌+◌, ◌==◌, ◌&&◌, ◌||◌, not, ℤ, List, [], ◌++◌, filter, slice_get, Bool, true, false}
 use Rattle.std.specs.Prelude.{Option, Some, None, Result, Ok, Err, if◌then◌else◌}
 use Rattle.std.specs.List.{list_any}
-use Rattle.ngc_commands.specs.declared.command.Command.{Command}
+use Rattle.ngc_frames.specs.declared.change.FrameChange.{FrameChange}
 use Rattle.ngc_canonical.specs.State.{Setup}
 use Rattle.ngc_dialect_reader.specs.declared.part.Part.{Part}
 use Rattle.ngc_dialect_reader.specs.Line.{line_of}
@@ -24,7 +24,7 @@ use Rattle.ngc_dialect_execution.specs.declared.fault.Cause.TheVariants as cause
 use Rattle.ngc_dialect_execution.specs.declared.fault.DialectFault.{DialectFault}
 use Rattle.ngc_dialect_execution.specs.declared.fault.DialectFault.TheVariants as faults
 use Rattle.ngc_dialect_execution.specs.Faults.{◌>>=◌, caused, stored_cause}
-use Rattle.ngc_dialect_execution.specs.Ending.{at, finished}
+use Rattle.ngc_dialect_execution.specs.Ending.{Outcome, at, changed_by, finished, with_changes}
 use Rattle.ngc_dialect_execution.specs.Taken.{Progress, Said, done_at, is_deleted, is_m, said_at, words_of}
 use Rattle.ngc_dialect_execution.specs.Text.{ProgramLines, number_of}
 
@@ -121,9 +121,6 @@ flow_line_taken setup block_delete plan line bytes r = do
 
 -- ---- a program
 
-abbrev pub Outcome : Type 0
-Outcome = Result (List Command) DialectFault
-
 -- the program ends after its last line; else a line is executed
 abbrev pub line_or_end : Option (List ℕ) → Outcome → (List ℕ → Outcome) → Outcome
 line_or_end None over line = over
@@ -133,29 +130,41 @@ abbrev pub ends : Effect → Bool
 ends effects.End = true
 ends _ = false
 
--- after a line the program ends, with the number of that line, or goes on
-abbrev pub then_on : Setup → ℕ → Result (Effect × FlowProgress) DialectFault →
-    (FlowProgress → Outcome) → Outcome
-then_on setup line (Ok x) rest = if ends x.0 then finished setup line x.1.progress else rest x.1
-then_on setup line (Err e) rest = Err e
+-- after a line that did this the program ends, with the number of that line, or goes on
+abbrev pub on_from : Setup → ℕ → Effect × FlowProgress → List FrameChange →
+    (FlowProgress → List FrameChange → Outcome) → Outcome
+on_from setup line x changes rest =
+    if ends x.0 then with_changes changes (finished setup line x.1.progress) else rest x.1 changes
+
+-- the same, with the changes before the line and the change that it makes
+abbrev pub then_on : Setup → ℕ → Progress → List FrameChange →
+    Result (Effect × FlowProgress) DialectFault →
+    (FlowProgress → List FrameChange → Outcome) → Outcome
+then_on setup line p changes (Ok x) rest =
+    on_from setup line x (changes ++ changed_by line p x.1.progress) rest
+then_on setup line p changes (Err e) rest = Err e
 
 -- the number of the line that is next
 abbrev pub number_at : FlowProgress → ℕ
 number_at r = number_of (r.flow.line + 1)
 
--- A program from the line on that is next, where so many lines may still be executed.
-unfoldable pub flow_taken : Setup → Bool → Plan → ProgramLines → ℕ → FlowProgress → Outcome
-flow_taken setup block_delete plan program zero r =
-    line_or_end (slice_get program.lines r.flow.line) (finished setup program.last r.progress)
+-- A program from the line on that is next, where so many lines may still be executed, and these are
+-- the changes of the frame so far.
+unfoldable pub flow_taken : Setup → Bool → Plan → ProgramLines → ℕ → FlowProgress →
+    List FrameChange → Outcome
+flow_taken setup block_delete plan program zero r changes =
+    line_or_end (slice_get program.lines r.flow.line)
+    (with_changes changes (finished setup program.last r.progress))
     (λ bytes. Err (faults.At (number_at r) (causes.Flow TooManyLines)))
-flow_taken setup block_delete plan program (suc fuel) r =
-    line_or_end (slice_get program.lines r.flow.line) (finished setup program.last r.progress)
-    (λ bytes. then_on setup (number_at r)
+flow_taken setup block_delete plan program (suc fuel) r changes =
+    line_or_end (slice_get program.lines r.flow.line)
+    (with_changes changes (finished setup program.last r.progress))
+    (λ bytes. then_on setup (number_at r) r.progress changes
     (at (number_at r) (flow_line_taken setup block_delete plan (number_at r) bytes r))
-    (λ q. flow_taken setup block_delete plan program fuel q))
+    (λ q now. flow_taken setup block_delete plan program fuel q now))
 
 -- the flow begins at line n of a program, counted from 0
-abbrev pub flow_from : Setup → Bool → ProgramLines → ℕ → Progress → Outcome
-flow_from setup block_delete program n p =
+abbrev pub flow_from : Setup → Bool → ProgramLines → ℕ → Progress → List FrameChange → Outcome
+flow_from setup block_delete program n p changes =
     flow_taken setup block_delete (plan_in program.dialect program.lines) program (begun n).fuel
-    (record { progress = p; flow = begun n })
+    (record { progress = p; flow = begun n }) changes

@@ -1,9 +1,9 @@
 pub mod Faults
 pub mod Executed
 pub mod Taken
-pub mod Views
 pub mod Laws
 pub mod Text
 pub mod Ending
+pub mod Views
 pub mod Flow
 pub mod Program

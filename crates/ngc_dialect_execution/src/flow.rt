@@ -6,16 +6,18 @@ ghost use Rattle.ngc_dialect_flow.specs.State.{flow_of};
 ghost use Rattle.ngc_dialect_execution.specs.Faults.{ProgramSays};
 ghost use Rattle.ngc_dialect_execution.specs.Flow as spec;
 ghost use Rattle.ngc_dialect_execution.specs.Text.{program_of};
-ghost use Rattle.ngc_dialect_execution.specs.Views.{progress_in};
+ghost use Rattle.ngc_dialect_execution.specs.Views.{framed_in, progress_in};
 
 use crate::fault::{Cause, DialectFault, at_line};
+use crate::framing::{Executed, add_change, framed};
 use crate::lines::DialectInterpreter;
 use crate::program::finish;
 use crate::text::{LinesBefore, first_line, number_of};
-use ngc_canonical::{Command, Machine, Tools};
+use ngc_canonical::{Machine, Tools};
 use ngc_dialect_flow::Cause::TooManyLines;
 use ngc_dialect_flow::{Effect, State, Table};
 use ngc_dialect_reader::Dialect;
+use ngc_frames::FrameChange;
 use std::alloc::{AllocError, Allocator};
 
 // The lines of a program, and the number of the line after which it ends.
@@ -70,14 +72,16 @@ fn run_lines<A: Allocator + Copy>(
     lines: &[&[u8]],
     last: u32,
     mut state: State,
+    mut changes: Vec<FrameChange, A>,
     machine: &Machine<A>,
     tools: &Tools<A>,
     block_delete: bool,
-) -> Result<Vec<Command, A>, DialectFault>
-    ensures { ProgramSays (λ v. v.items) result (spec.flow_taken (setup_of machine.now tools.now)
+) -> Result<Executed<A>, DialectFault>
+    ensures { ProgramSays framed_in result (spec.flow_taken (setup_of machine.now tools.now)
         block_delete (plan_of table.now)
         (record { dialect = (plan_of table.now).dialect; lines = map (λ l. l.now) lines.now; last = last })
-        (flow_of state).fuel (record { progress = progress_in interpreter; flow = flow_of state })) }
+        (flow_of state).fuel (record { progress = progress_in interpreter; flow = flow_of state })
+        changes.items) }
 {
     while state.line() < lines.len() {
         let index = state.line();
@@ -89,6 +93,8 @@ fn run_lines<A: Allocator + Copy>(
                 cause: Cause::Flow(TooManyLines),
             });
         }
+        let frame = interpreter.frame();
+        let count = interpreter.command_count();
         let effect = match interpreter.take_flow_line(
             machine,
             tools,
@@ -101,11 +107,15 @@ fn run_lines<A: Allocator + Copy>(
             Ok(effect) => effect,
             Err(refusal) => return Err(at_line(line, refusal)),
         };
+        match add_change(&mut changes, &interpreter, line, count, &frame) {
+            Ok(()) => {}
+            Err(_) => return Err(DialectFault::Memory),
+        }
         if is_end(&effect) {
-            return finish(interpreter, machine, tools, line);
+            return framed(finish(interpreter, machine, tools, line), changes);
         }
     }
-    finish(interpreter, machine, tools, last)
+    framed(finish(interpreter, machine, tools, last), changes)
 }
 
 /// Executes a program from a line on, counted from 0, at which its flow begins.
@@ -115,12 +125,13 @@ pub(crate) fn take_flow<A: Allocator + Copy>(
     dialect: Dialect,
     text: &[u8],
     first: usize,
+    changes: Vec<FrameChange, A>,
     machine: &Machine<A>,
     tools: &Tools<A>,
     block_delete: bool,
-) -> Result<Vec<Command, A>, DialectFault>
-    ensures { ProgramSays (λ v. v.items) result (spec.flow_from (setup_of machine.now tools.now)
-        block_delete (program_of dialect text.now) first (progress_in interpreter)) }
+) -> Result<Executed<A>, DialectFault>
+    ensures { ProgramSays framed_in result (spec.flow_from (setup_of machine.now tools.now)
+        block_delete (program_of dialect text.now) first (progress_in interpreter) changes.items) }
 {
     let Ok(program) = program_lines(alloc, dialect, text) else {
         return Err(DialectFault::Memory);
@@ -134,6 +145,7 @@ pub(crate) fn take_flow<A: Allocator + Copy>(
         program.lines.as_slice(),
         program.last,
         State::new(first),
+        changes,
         machine,
         tools,
         block_delete,

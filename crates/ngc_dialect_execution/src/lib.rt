@@ -6,6 +6,7 @@ mod doing;
 mod fault;
 mod flow;
 mod fold;
+mod framing;
 pub mod laws;
 mod lines;
 mod program;
@@ -15,5 +16,5 @@ mod words;
 
 pub use fault::{Cause, DialectFault, Refusal};
 pub use lines::{DialectInterpreter, Taken};
-pub use program::interpret_dialect;
+pub use program::{interpret_dialect, interpret_dialect_with_frames};
 pub use words::WordInterpreter;

@@ -1,7 +1,8 @@
 //! Lines of another control, executed.
-ghost use Rattle.std.specs.Prelude.{◌≡◌, IfOk};
+ghost use Rattle.std.specs.Prelude.{◌≡◌, length, IfOk};
 ghost use Rattle.ngc_machine_files.specs.Machine.{file_of};
 ghost use Rattle.ngc_canonical.specs.Interpreter.{setup_of};
+ghost use Rattle.ngc_frames.specs.Changes.{frame_of};
 ghost use Rattle.ngc_dialect_flow.specs.Places.{plan_of};
 ghost use Rattle.ngc_dialect_flow.specs.State.{flow_of};
 ghost use Rattle.ngc_dialect_execution.specs.Faults.{Says};
@@ -17,6 +18,7 @@ use ngc_canonical::{Command, Machine, Tools};
 use ngc_dialect_flow::{Effect, State, Table};
 use ngc_dialect_parameters::{LineValues, Word};
 use ngc_dialect_reader::{Dialect, DialectLine};
+use ngc_frames::Frame;
 use std::alloc::{AllocError, Allocator};
 
 /// What was done with a line: it was executed or left out, or nothing, since it has flow.
@@ -63,6 +65,20 @@ impl<A: Allocator + Copy> DialectInterpreter<A> {
         ensures { result ≡ (progress_in self.now).between.state.ended }
     {
         self.execution.words.is_ended()
+    }
+
+    /// Returns the frame: the coordinates that are in force, and the unit of lengths.
+    pub(crate) fn frame(&self) -> Frame
+        ensures { result ≡ frame_of (progress_in self.now).between.state }
+    {
+        self.execution.words.frame()
+    }
+
+    /// Returns the number of commands that were executed so far.
+    pub(crate) fn command_count(&self) -> usize
+        ensures { result ≡ length (progress_in self.now).between.state.commands }
+    {
+        self.execution.words.command_count()
     }
 
     /// Returns the dialect.

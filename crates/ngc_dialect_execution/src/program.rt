@@ -1,5 +1,5 @@
 //! The program of a text, executed.
-ghost use Rattle.std.specs.Prelude.{◌≡◌, ◌≤◌, length, IfOk};
+ghost use Rattle.std.specs.Prelude.{◌≡◌, ◌≤◌, [], length, IfOk};
 ghost use Rattle.ngc_line_reader.specs.Program.{split_lines};
 ghost use Rattle.ngc_machine_files.specs.Machine.{file_of};
 ghost use Rattle.ngc_canonical.specs.Interpreter.{setup_of};
@@ -8,17 +8,21 @@ ghost use Rattle.ngc_commands.specs.Sequence.{HaveEvenRadii, EndIsLast, HasEnd};
 ghost use Rattle.ngc_dialect_execution.specs.Faults.{ProgramSays, Says};
 ghost use Rattle.ngc_dialect_execution.specs.Laws.{AreExecuted};
 ghost use Rattle.ngc_dialect_execution.specs.Ending.{finished};
-ghost use Rattle.ngc_dialect_execution.specs.Program.{lines_taken, marked_taken, meaning_in};
-ghost use Rattle.ngc_dialect_execution.specs.Views.{progress_in};
+ghost use Rattle.ngc_dialect_execution.specs.Program.{changes_in, executed_in, lines_taken, marked_taken};
+ghost use Rattle.ngc_dialect_execution.specs.Program.{meaning_in};
+ghost use Rattle.ngc_frames.specs.Changes.{start_frame};
+ghost use Rattle.ngc_dialect_execution.specs.Views.{framed_in, progress_in};
 ghost use Rattle.ngc_dialect_execution.specs.Text as spec;
 
 use crate::fault::{Cause, DialectFault, Refusal, at_line};
 use crate::flow::take_flow;
+use crate::framing::{Executed, add_change, framed};
 use crate::lines::{DialectInterpreter, Taken};
 use crate::text::{LinesBefore, Mark, first_line, number_of};
 use ngc_canonical::Fault::NoEnd;
 use ngc_canonical::{Command, Machine, Tools};
 use ngc_dialect_reader::Dialect;
+use ngc_frames::{FrameHistory, FramedCommands};
 use std::alloc::Allocator;
 
 // Executes a line by its mark.
@@ -75,12 +79,13 @@ fn take_lines<A: Allocator + Copy>(
     machine: &Machine<A>,
     tools: &Tools<A>,
     block_delete: bool,
-) -> Result<Vec<Command, A>, DialectFault>
-    ensures { ProgramSays (λ v. v.items) result
+) -> Result<Executed<A>, DialectFault>
+    ensures { ProgramSays framed_in result
         (lines_taken (setup_of machine.now tools.now) block_delete
         (spec.program_of dialect text.now) spec.no_lines
-        (split_lines text.now) (progress_in interpreter)) }
+        (split_lines text.now) (progress_in interpreter) []) }
 {
+    let mut changes = Vec::new(alloc);
     let mut lines = LinesBefore::none();
     let mut rest = text;
     while !rest.is_empty() {
@@ -89,8 +94,10 @@ fn take_lines<A: Allocator + Copy>(
         let mark = lines.pass(interpreter.dialect(), bytes);
         let line = number_of(lines.count);
         if mark.is_end() {
-            return finish(interpreter, machine, tools, line);
+            return framed(finish(interpreter, machine, tools, line), changes);
         }
+        let frame = interpreter.frame();
+        let count = interpreter.command_count();
         match take_marked(
             &mut interpreter,
             machine,
@@ -108,6 +115,7 @@ fn take_lines<A: Allocator + Copy>(
                     dialect,
                     text,
                     index,
+                    changes,
                     machine,
                     tools,
                     block_delete,
@@ -115,12 +123,22 @@ fn take_lines<A: Allocator + Copy>(
             }
             Err(refusal) => return Err(at_line(line, refusal)),
         }
+        match add_change(&mut changes, &interpreter, line, count, &frame) {
+            Ok(()) => {}
+            Err(_) => return Err(DialectFault::Memory),
+        }
         if interpreter.is_ended() {
-            return Ok(interpreter.into_commands());
+            return Ok(Executed {
+                commands: interpreter.into_commands(),
+                changes,
+            });
         }
         rest = after;
     }
-    finish(interpreter, machine, tools, number_of(lines.count))
+    framed(
+        finish(interpreter, machine, tools, number_of(lines.count)),
+        changes,
+    )
 }
 
 // Executes the program of a text.
@@ -131,22 +149,62 @@ fn execute_text<A: Allocator + Copy>(
     machine: &Machine<A>,
     tools: &Tools<A>,
     block_delete: bool,
-) -> Result<Vec<Command, A>, DialectFault>
-    ensures { ProgramSays (λ v. v.items) result
-        (meaning_in dialect (setup_of machine.now tools.now) block_delete text.now) }
+) -> Result<FramedCommands<A>, DialectFault>
+    ensures says { ProgramSays (λ f. record { commands = f.commands.items; changes = f.frames.changes.items }) result
+        (executed_in dialect (setup_of machine.now tools.now) block_delete text.now) }
+    ensures start { IfOk result
+        (λ f. f.frames.start ≡ start_frame (setup_of machine.now tools.now)) }
 {
-    match DialectInterpreter::new(alloc, dialect, machine) {
-        Ok(interpreter) => take_lines(
-            alloc,
-            interpreter,
-            dialect,
-            text,
-            machine,
-            tools,
-            block_delete,
-        ),
-        Err(_) => Err(DialectFault::Memory),
+    let Ok(interpreter) = DialectInterpreter::new(alloc, dialect, machine) else {
+        return Err(DialectFault::Memory);
+    };
+    let start = interpreter.frame();
+    match take_lines(
+        alloc,
+        interpreter,
+        dialect,
+        text,
+        machine,
+        tools,
+        block_delete,
+    ) {
+        Ok(executed) => {
+            let Executed { commands, changes } = executed;
+            Ok(FramedCommands {
+                commands,
+                frames: FrameHistory { start, changes },
+            })
+        }
+        Err(fault) => Err(fault),
     }
+}
+
+/// Executes the program of a text as `interpret_dialect`, and also returns the frame in force at its
+/// start and each change of it, in the order of execution.
+pub fn interpret_dialect_with_frames<A: Allocator + Copy>(
+    alloc: A,
+    dialect: Dialect,
+    text: &[u8],
+    machine: &Machine<A>,
+    tools: &Tools<A>,
+    block_delete: bool,
+) -> Result<FramedCommands<A>, DialectFault>
+    ensures commands { ProgramSays (λ f. f.commands.items) result
+        (meaning_in dialect (setup_of machine.now tools.now) block_delete text.now) }
+    ensures executed { IfOk result
+        (λ f. AreExecuted (setup_of machine.now tools.now) f.commands.items) }
+    ensures joined { IfOk result
+        (λ f. AreJoined (file_of machine.now).start (ways_of (actions_of f.commands.items))) }
+    ensures radii { IfOk result (λ f. HaveEvenRadii (ways_of (actions_of f.commands.items))) }
+    ensures count { IfOk result (λ f. length f.commands.items ≤ 1000000) }
+    ensures ended { IfOk result (λ f. EndIsLast f.commands.items) }
+    ensures has_end { IfOk result (λ f. HasEnd f.commands.items) }
+    ensures start { IfOk result
+        (λ f. f.frames.start ≡ start_frame (setup_of machine.now tools.now)) }
+    ensures changes { IfOk result (λ f. f.frames.changes.items ≡
+        changes_in dialect (setup_of machine.now tools.now) block_delete text.now) }
+{
+    execute_text(alloc, dialect, text, machine, tools, block_delete)
 }
 
 /// Executes the program of a text on a machine with its tools, and returns its commands in order of
@@ -180,5 +238,8 @@ pub fn interpret_dialect<A: Allocator + Copy>(
     // The last command is the end.
     ensures has_end { IfOk result (λ v. HasEnd v.items) }
 {
-    execute_text(alloc, dialect, text, machine, tools, block_delete)
+    match interpret_dialect_with_frames(alloc, dialect, text, machine, tools, block_delete) {
+        Ok(executed) => Ok(executed.commands),
+        Err(fault) => Err(fault),
+    }
 }

@@ -1,8 +1,9 @@
 //! Words of another control, executed.
-ghost use Rattle.std.specs.Prelude.{◌≡◌, pos, IfOk};
+ghost use Rattle.std.specs.Prelude.{◌≡◌, length, pos, IfOk};
 ghost use Rattle.ngc_line_reader.specs.declared.letter.Letter.TheVariants as letters;
 ghost use Rattle.ngc_machine_files.specs.Machine.{file_of};
 ghost use Rattle.ngc_canonical.specs.Interpreter.{setup_of};
+ghost use Rattle.ngc_frames.specs.Changes.{frame_of};
 ghost use Rattle.ngc_dialect_execution.specs.Faults.{Says};
 ghost use Rattle.ngc_dialect_execution.specs.Taken as spec;
 ghost use Rattle.ngc_dialect_execution.specs.Views.{between_of};
@@ -18,6 +19,7 @@ use ngc_dialect_parameters::Word;
 use ngc_dialect_reader::Dialect;
 use ngc_dialect_rules::{Code, Front, Known, LineCycle, Plain, PlainLines, plain_lines};
 use ngc_fixed_length::Value;
+use ngc_frames::Frame;
 use ngc_line_reader::{Letter, Word as PlainWord};
 use std::alloc::{AllocError, Allocator};
 
@@ -92,6 +94,23 @@ impl<A: Allocator + Copy> WordInterpreter<A> {
         ensures { result ≡ (between_of self.now).state.ended }
     {
         self.interpreter.is_ended()
+    }
+
+    /// Returns the frame: the coordinates that are in force, and the unit of lengths.
+    pub(crate) fn frame(&self) -> Frame
+        ensures { result ≡ frame_of (between_of self.now).state }
+    {
+        Frame {
+            frames: *self.interpreter.frames(),
+            unit: self.interpreter.length_unit(),
+        }
+    }
+
+    /// Returns the number of commands that were executed so far.
+    pub(crate) fn command_count(&self) -> usize
+        ensures { result ≡ length (between_of self.now).state.commands }
+    {
+        self.interpreter.commands().len()
     }
 
     // Executes the plain lines.

@@ -29,10 +29,18 @@ enum Job {
 // Each job with its piece of text, the number of its repetitions, the number of bytes that are
 // written, of commands that are executed, or of events, bytes or lines that are read, and the
 // increments of its heap. In each line to adapt, K0 and the blank after it are left out, and M2 is
-// added. A line to execute has two holes of three moves each; the end is a command too.
+// added. A line to execute has two holes of three moves each; the end is a command too. In a program with
+// flow each piece has a move and changes the unit twice.
 const JOBS: &[(Job, &str, usize, usize, usize)] = &[
     (Job::Adapted, "G1 X1 K0 F100\n", 100, 1_103, 1_024),
     (Job::Executed, "G91 G81 X1 Z-1 R0 L2 F100\n", 50, 301, 8_192),
+    (
+        Job::Executed,
+        "O1 if [1]\nG91 G20 G0 X1\nG21\nO1 endif\n",
+        50,
+        51,
+        8_192,
+    ),
     (Job::Events, "load\n", 1_000, 1_000, 2_048),
     (
         Job::File,

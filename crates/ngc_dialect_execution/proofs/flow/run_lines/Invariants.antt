@@ -12,9 +12,9 @@ abbrev pub invariant-loop-state : goal.invariant-loop-state
 invariant-loop-state g l =
     let program : ProgramLines = record { dialect = (plan_of l.table).dialect; lines = map (λ x. x.now) l.lines; last = l.last } in
     flow_taken (setup_of l.machine l.tools) l.block_delete (plan_of l.table) program (flow_of l.state).fuel
-    (record { progress = progress_in l.interpreter; flow = flow_of l.state })
+    (record { progress = progress_in l.interpreter; flow = flow_of l.state }) l.changes.items
     ≡ flow_taken (setup_of l.machine l.tools) l.block_delete (plan_of l.table) program (flow_of l.fn.state).fuel
-    (record { progress = progress_in l.fn.interpreter; flow = flow_of l.fn.state })
+    (record { progress = progress_in l.fn.interpreter; flow = flow_of l.fn.state }) l.fn.changes.items
 
 abbrev pub decreases-loop-state : goal.decreases-loop-state
 decreases-loop-state g l = (flow_of l.state).fuel

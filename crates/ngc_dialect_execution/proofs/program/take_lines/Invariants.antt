@@ -1,5 +1,5 @@
 -- The lines that are left mean, from what is known so far, what all lines mean.
-use Rattle.std.proofs.Common.{◌≡◌, length}
+use Rattle.std.proofs.Common.{◌≡◌, [], length}
 use Rattle.ngc_canonical.specs.Interpreter.{setup_of}
 use Rattle.ngc_line_reader.specs.Program.{split_lines}
 use Rattle.ngc_dialect_execution.specs.Program.{lines_taken}
@@ -9,8 +9,8 @@ use Rattle.ngc_dialect_execution.proofs.program.take_lines.Given as goal
 
 abbrev pub invariant-loop-rest : goal.invariant-loop-rest
 invariant-loop-rest g l =
-    lines_taken (setup_of l.machine l.tools) l.block_delete (program_of l.dialect l.text) l.lines (split_lines l.rest) (progress_in l.interpreter)
-    ≡ lines_taken (setup_of l.machine l.tools) l.block_delete (program_of l.dialect l.text) no_lines (split_lines l.text) (progress_in l.fn.interpreter)
+    lines_taken (setup_of l.machine l.tools) l.block_delete (program_of l.dialect l.text) l.lines (split_lines l.rest) (progress_in l.interpreter) l.changes.items
+    ≡ lines_taken (setup_of l.machine l.tools) l.block_delete (program_of l.dialect l.text) no_lines (split_lines l.text) (progress_in l.fn.interpreter) []
 
 abbrev pub decreases-loop-rest : goal.decreases-loop-rest
 decreases-loop-rest g l = length l.rest

@@ -1,4 +1,4 @@
-use Rattle.std.proofs.Common.{sym, ap, ◌∙◌}
+use Rattle.std.proofs.Common.{ap, ◌∙◌}
 use Rattle.ngc_dialect_execution.specs.declared.lines.Taken.{Taken}
 use Rattle.ngc_dialect_execution.specs.Taken.{words_of}
 use Rattle.ngc_dialect_execution.specs.Views.{progress_in, progress_of, said_in}
