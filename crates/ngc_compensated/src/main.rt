@@ -6,7 +6,7 @@
 
 mod words;
 
-use ngc_compensation::{Compensation, Motion, Move, Refusal, Side};
+use ngc_compensation::{Compensation, Motion, Move, Outcome, Refusal, Side};
 use ngc_fixed_length::{Plane, Point2, Turn};
 use std::io;
 use words::Words;
@@ -41,29 +41,47 @@ fn print_refusal(rt: &impl Print, refusal: Refusal) -> io::Result<()> {
     println!(rt; "  refused {number}: {refusal}")
 }
 
+/// A move along the third axis, at the feed or at traverse rate.
+#[derive(Clone, Copy)]
+struct Lift {
+    is_feed: bool,
+    height: i64,
+}
+
 /// Compensation that is on, and the moves along the third axis that wait for the end of the held
 /// move.
 #[derive(Drop)]
 struct Run {
     compensation: Option<Compensation>,
-    waiting: Vec<Move>,
+    waiting: Vec<Lift>,
+}
+
+// Returns whether a step took a move along the third axis alone.
+fn is_lift(before: &Compensation, outcome: &Outcome) -> bool {
+    before.held.is_some() && outcome.made.is_none()
+}
+
+fn print_lift(rt: &impl Print, lift: &Lift, made: &Move) -> io::Result<()> {
+    let name = if lift.is_feed { "feed" } else { "traverse" };
+    let u = made.end.u.nanometres();
+    let v = made.end.v.nanometres();
+    let w = lift.height;
+    println!(rt; "  {name} {u} {v} {w}")
+}
+
+// Prints the moves along the third axis at the end of the held move.
+fn print_waiting(rt: &impl Print, waiting: &[Lift], made: &Move) -> io::Result<()> {
+    for lift in waiting {
+        print_lift(rt, lift, made)?;
+    }
+    Ok(())
 }
 
 impl Run {
     // Prints the held move as it is made, and the moves that waited for its end.
-    fn print_made(&mut self, rt: &impl Print, made: Option<Move>) -> io::Result<()> {
-        let Some(made) = made else {
-            return Ok(());
-        };
-        print_move(rt, &made)?;
-        for lift in &self.waiting {
-            let moved = Move {
-                motion: lift.motion,
-                end: made.end,
-                height: lift.height,
-            };
-            print_move(rt, &moved)?;
-        }
+    fn print_made(&mut self, rt: &impl Print, made: &Move) -> io::Result<()> {
+        print_move(rt, made)?;
+        print_waiting(rt, &self.waiting, made)?;
         self.waiting.clear();
         Ok(())
     }
@@ -91,9 +109,30 @@ impl Run {
         };
         self.compensation = None;
         match compensation.finish() {
-            Ok(made) => self.print_made(rt, made),
+            Ok(Some(made)) => self.print_made(rt, &made),
+            Ok(None) => Ok(()),
             Err(refusal) => print_refusal(rt, refusal),
         }
+    }
+
+    fn take(&mut self, rt: &impl Print, outcome: &Outcome) -> io::Result<()> {
+        if let Some(made) = &outcome.made {
+            self.print_made(rt, made)?;
+        }
+        if let Some(corner) = &outcome.corner {
+            print_move(rt, corner)?;
+        }
+        self.compensation = Some(outcome.next);
+        Ok(())
+    }
+
+    // Keeps a move along the third axis until the end of the held move is known.
+    fn keep(&mut self, next: &Move) -> io::Result<()> {
+        self.waiting.push(Lift {
+            is_feed: matches!(next.motion, Motion::Feed),
+            height: next.height.nanometres(),
+        })?;
+        Ok(())
     }
 
     fn step(&mut self, rt: &impl Print, next: &Move) -> io::Result<()> {
@@ -102,15 +141,10 @@ impl Run {
         };
         match compensation.step(next) {
             Ok(outcome) => {
-                if outcome.made.is_none() && compensation.held.is_some() {
-                    self.waiting.push(*next)?;
+                if is_lift(&compensation, &outcome) {
+                    self.keep(next)?;
                 }
-                self.print_made(rt, outcome.made)?;
-                if let Some(corner) = outcome.corner {
-                    print_move(rt, &corner)?;
-                }
-                self.compensation = Some(outcome.next);
-                Ok(())
+                self.take(rt, &outcome)
             }
             Err(refusal) => print_refusal(rt, refusal),
         }
