@@ -1,5 +1,5 @@
 -- What words do doesn't depend on the line numbers of the line or of the commands before it.
-use Rattle.std.proofs.Common.{◌≡◌, ℕ, zero, suc, List, [], ◌∷◌, ◌++◌, length, map, Option, Some, None, Bool, true, false, Result, Ok, Err, refl, ap, sym, ◌∙◌}
+use Rattle.std.proofs.Common.{◌≡◌, ℕ, zero, suc, List, [], ◌∷◌, length, map, Option, Some, None, Bool, true, false, Result, Ok, Err, refl, ap, sym, ◌∙◌}
 use Rattle.std.proofs.lemmas.List.{map-append}
 use Rattle.std.specs.Prelude.{ℤ, nat_lt, unsigned_abs, not, if◌then◌else◌}
 use Rattle.ngc_fixed_length.specs.declared.modes.Turn.{Turn}

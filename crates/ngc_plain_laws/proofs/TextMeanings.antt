@@ -1,7 +1,7 @@
 -- The text of plain lines does what the plain lines do.
-use Rattle.std.proofs.Common.{◌≡◌, ℕ, zero, suc, ◌+◌, List, [], ◌∷◌, ◌++◌, length, map, Option, Some, None, Bool, true, false, Result, Ok, Err, refl, ap, sym, subst, ◌∙◌, arith}
+use Rattle.std.proofs.Common.{◌≡◌, ℕ, suc, ◌+◌, List, [], ◌∷◌, ◌++◌, length, map, Bool, true, false, Result, Ok, Err, refl, ap, sym, subst, ◌∙◌, arith}
 use Rattle.std.proofs.lemmas.Bool.{and_parts}
-use Rattle.std.specs.Prelude.{ℤ, ◌&&◌, nat_le, if◌then◌else◌}
+use Rattle.std.specs.Prelude.{ℤ, nat_le, if◌then◌else◌}
 use Rattle.std.specs.List.{AllByRecursion, list_all}
 use Rattle.ngc_line_reader.specs.declared.letter.Letter.{Letter}
 use Rattle.ngc_line_reader.specs.Grammar.{Reading, Reads}
@@ -9,23 +9,22 @@ use Rattle.ngc_line_reader.specs.Program.{Line, numbered}
 use Rattle.ngc_line_reader.specs.ProgramText.{AreReadings, HaveReadings}
 use Rattle.ngc_line_reader.proofs.UniqueLine.{one_reading}
 use Rattle.ngc_commands.specs.declared.command.Command.{Command}
-use Rattle.ngc_commands.specs.declared.command.Action.{Action}
 use Rattle.ngc_commands.specs.Movement.{actions_of}
 use Rattle.ngc_canonical.specs.declared.fault.Fault.{Fault}
 use Rattle.ngc_canonical.specs.declared.fault.Fault.TheVariants.{NoEnd}
 use Rattle.ngc_canonical.specs.declared.fault.ProgramFault.{ProgramFault}
 use Rattle.ngc_canonical.specs.declared.fault.ProgramFault.TheVariants.{At}
-use Rattle.ngc_canonical.specs.Meaning.{Program, after_line, at_line, execute_words, remaining, past_last, go_on, then_lines, from_state, commands_of, meaning}
+use Rattle.ngc_canonical.specs.Meaning.{Program, after_line, at_line, execute_words, remaining, past_last, go_on, then_lines, from_state, commands_of}
 use Rattle.ngc_canonical.specs.Meaning.{parsed_program, with_readings}
 use Rattle.ngc_canonical.specs.State.{Setup, State, start_state}
 use Rattle.ngc_canonical.specs.Steps.{◌>>=◌}
 use Rattle.ngc_canonical.proofs.Lines.{step_remaining, words_do}
-use Rattle.ngc_plain_text.specs.Text.{line_text, program_text}
-use Rattle.ngc_plain_text.specs.Limits.{AreValues, is_short, are_few}
+use Rattle.ngc_plain_text.specs.Text.{line_text}
+use Rattle.ngc_plain_text.specs.Limits.{AreValues, is_short}
 use Rattle.ngc_plain_text.proofs.LineTexts.{reading_of, items_of, line_reads, line_says, within_limit, line_reads_back}
 use Rattle.ngc_plain_text.proofs.ProgramTexts.{texts_read_back}
 use Rattle.ngc_dialect_execution.specs.Executed.{PlainLine, execute_plain, executed}
-use Rattle.ngc_plain_laws.specs.Laws.{LinesDoWords, Means, words_in, text_of, IsPrintable, in_text, HasCommands, TextsHaveCommands, TextsLackEnd, HasFault, TextsHaveFaults}
+use Rattle.ngc_plain_laws.specs.Laws.{LinesDoWords, Means, words_in, text_of, IsPrintable, in_text, TextsHaveCommands, TextsLackEnd, TextsHaveFaults}
 use Rattle.ngc_plain_laws.proofs.LineNumbers.{bare, bared, same_actions, words_same}
 
 -- ---- a line

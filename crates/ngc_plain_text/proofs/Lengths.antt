@@ -1,9 +1,9 @@
 -- The text of words from the left, and lengths of texts.
-use Rattle.std.proofs.Common.{◌≡◌, ℕ, suc, ◌+◌, ◌-◌, ◌/◌, ◌%◌, ◌<◌, ◌≤◌, ℤ, ap, sym, ◌∙◌, refl, Bool, true, false, List, [], ◌∷◌, ◌++◌, length, take, drop, flat_map, get_or, arith}
+use Rattle.std.proofs.Common.{◌≡◌, ℕ, suc, ◌+◌, ◌-◌, ◌/◌, ◌%◌, ◌≤◌, ℤ, ap, sym, ◌∙◌, refl, Bool, true, List, [], ◌∷◌, ◌++◌, length, take, drop, flat_map, get_or, arith, subst}
 use Rattle.std.proofs.lemmas.List.{length-take, length-append, length-map, take_all, append-nil}
 use Rattle.std.proofs.lemmas.List.Sums.{sum_by-cons}
 use Rattle.std.proofs.lemmas.List.Concat.{flat_map-cons}
-use Rattle.std.proofs.lemmas.Bool.{le-leb, lt-leb}
+use Rattle.std.proofs.lemmas.Bool.{le-leb}
 use Rattle.std.proofs.lemmas.Bool.Decides.{nat_tests}
 use Rattle.std.specs.List.{sum_by}
 use Rattle.std.specs.Prelude.{decimal, unsigned_abs, nat_le, ◌&&◌}
@@ -11,7 +11,7 @@ use Rattle.ngc_text.specs.Millimetres.{decimals, kept, number_text, size_text, s
 use Rattle.ngc_line_reader.specs.declared.word.Word.{Word}
 use Rattle.ngc_line_reader.specs.Words.{pair_of, pairs_of}
 use Rattle.ngc_plain_text.specs.Text.{word_text, next_word_text, line_text}
-use Rattle.ngc_plain_text.specs.Limits.{is_short}
+use Rattle.ngc_plain_text.specs.Limits.{is_short, AreValues}
 
 -- ---- the words of a line
 
@@ -73,8 +73,7 @@ is_tested ws i n ends e few =
     ap (λ (k : ℕ). nat_le k 257) (e ∙ ap (sum_by spaced) (take_all i ws ends)) ∙ bytes_tested ws
     ∙ sym (ap (λ (b : Bool). b && nat_le (length (line_text (pairs_of ws))) 256) words)
 
-pub too_many : (ws : List Word) → 64 < length ws → is_short (pairs_of ws) ≡ false
-too_many ws many =
-    let count : length (pairs_of ws) ≡ length ws = length-map ws pair_of in
-    let words : nat_le (length (pairs_of ws)) 64 ≡ false = lt-leb _ _ (omega (arith, count, many)) in
-    ap (λ (b : Bool). b && nat_le (length (line_text (pairs_of ws))) 256) words
+-- ---- values in range
+
+pub all_values : (ws : List Word) (i : ℕ) → length ws ≤ i → AreValues (pairs_of (take i ws)) → AreValues (pairs_of ws)
+all_values ws i ends h = subst (λ (vs : List Word). AreValues (pairs_of vs)) (take_all i ws ends) h

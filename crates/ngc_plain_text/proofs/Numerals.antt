@@ -102,9 +102,6 @@ leading_4 n = let a = leading_3 n in let e : n % 1000 ≡ n / 100 % 10 * 100 + n
 leading_5 : (n : ℕ) → n ≡ (10 * (10 * (10 * (10 * (n / 100000) + n / 10000 % 10) + n / 1000 % 10) + n / 100 % 10) + n / 10 % 10) * 10 + n % 10
 leading_5 n = let a = leading_4 n in let e : n % 100 ≡ n / 10 % 10 * 10 + n % 10 = omega arith in omega (arith, a, e)
 
-zero_after : (n m : ℕ) → (n % m == 0) ≡ true → n % m ≡ 0
-zero_after n m h = zero_of (n % m) h
-
 digits_1 : (n : ℕ) → n < 1000000 → n % 100000 ≡ 0 → AreDecimals n (take 1 (six_digits n))
 digits_1 n h e = record { digits = (high_digit n h, tt); few = omega arith; value = let p = leading_1 n in omega (arith, p, e) }
 

@@ -1,8 +1,9 @@
-ghost use Rattle.std.specs.Prelude.{◌≡◌, ◌≤◌, ◌<◌, length, decimal, unsigned_abs};
+ghost use Rattle.std.specs.Prelude.{◌≡◌, ◌≤◌, ◌<◌, length, decimal, unsigned_abs, IsTrue};
+ghost use Rattle.ngc_fixed_length.specs.Limits.{IsValue};
 ghost use Rattle.ngc_line_reader.specs.Words.{pair_of, pairs_of};
 ghost use Rattle.ngc_text.specs.Millimetres.{kept, sign_text, length_text};
 ghost use Rattle.ngc_plain_text.specs.Text.{word_text};
-ghost use Rattle.ngc_plain_text.specs.Limits.{is_short as keeps_limits};
+ghost use Rattle.ngc_plain_text.specs.Limits.{is_short as keeps_limits, AreValues};
 
 use itoa::Buffer;
 use ngc_fixed_length::Value;
@@ -55,7 +56,8 @@ fn sign_length(value: Value) -> usize
 
 // Returns the number of millionths without the sign.
 fn millionths_of(value: Value) -> u64
-    ensures { result ≡ unsigned_abs value }
+    ensures size { result ≡ unsigned_abs value }
+    ensures range { IsValue value }
 {
     value.millionths().unsigned_abs()
 }
@@ -64,15 +66,18 @@ fn millionths_of(value: Value) -> u64
 fn value_length(value: Value) -> usize
     ensures value { result ≡ length (length_text value) }
     ensures few { result ≤ 48 }
+    ensures range { IsValue value }
 {
     let size = millionths_of(value);
     sign_length(value) + digits_length(size / 1_000_000) + decimals_length(size % 1_000_000)
 }
 
 /// Returns whether a plain line keeps the limits of our own language: at most 64 words, and at most
-/// 256 bytes without the line feed.
+/// 256 bytes without the line feed. The values of a line that does are in the range that the laws
+/// require.
 pub fn is_short(words: &[Word]) -> bool
-    ensures { result ≡ keeps_limits (pairs_of words.now) }
+    ensures limits { result ≡ keeps_limits (pairs_of words.now) }
+    ensures values { IsTrue result → AreValues (pairs_of words.now) }
 {
     if words.len() > MOST_WORDS {
         return false;
