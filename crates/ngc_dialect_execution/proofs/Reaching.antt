@@ -46,7 +46,8 @@ use Rattle.ngc_dialect_execution.specs.Ending.{Framed, Outcome, at, changed_by, 
 use Rattle.ngc_dialect_execution.specs.Faults.{◌>>=◌ as ◌>>=c◌, caused, stored_cause, ProgramSays}
 use Rattle.ngc_dialect_execution.specs.Flow.{FlowProgress, effect_done, effect_taken, ends, flow_line_taken, flow_statements_taken, flow_taken, line_or_end, number_at, other_words, others_taken, passed_over, said_if, stepped, then_on, turned, values_from, with_values}
 use Rattle.ngc_dialect_execution.specs.Laws.{AreLawful, AreExecuted, IsReached}
-use Rattle.ngc_dialect_execution.specs.Program.{changes_in, changes_of, commands_in, executed_in, go_from, go_on, lines_taken, marked_taken, meaning_in}
+use Rattle.ngc_dialect_execution.specs.Mounting.{before_lines, first_number, mounted, mounting, with_between, with_mounted}
+use Rattle.ngc_dialect_execution.specs.Program.{changes_in, changes_of, commands_in, executed_in, from_begun, go_from, go_on, lines_taken, marked_taken, meaning_in}
 use Rattle.ngc_dialect_execution.specs.Taken.{Between, Progress, Said, END, done_at, ended_at, has_flow, is_deleted, known_of, line_taken, parts_taken, said_at, start_progress, statements_taken, with_state, words_of, words_taken, plain_taken, move_taken, moves_taken, with_series, start_taken, cycle_taken, cycle_if}
 use Rattle.ngc_dialect_execution.specs.Text.{ProgramLines, first_byte, is_end, lines_after, mark_of, no_lines, number_of, program_of}
 use Rattle.ngc_dialect_execution.proofs.Lawful.{are_lawful, in_order}
@@ -395,10 +396,32 @@ of_commands : (setup : Setup) (o : Outcome) → Executes setup o → IfOk (comma
 of_commands setup (Ok f) h = h
 of_commands setup (Err e) h = tt
 
+-- the tool that is mounted first
+mounted_leads : (setup : Setup) (n : Option ℕ) (b : Between) → KnownLeads setup b.state (mounted setup n b)
+mounted_leads setup None b = stays_there setup b.state
+mounted_leads setup (Some n) b = plain_lead setup 1 (mounting n) b
+
+with_mounted_reached : (setup : Setup) (p : Progress) (r : Result Between Cause) → IsReached setup p.between.state → KnownLeads setup p.between.state r
+    → IfOk (at 1 (r >>=c λ b. Ok (with_between p b))) (λ (q : Progress). IsReached setup q.between.state)
+with_mounted_reached setup p (Ok b) reached leads = on_from setup p.between.state b.state reached leads
+with_mounted_reached setup p (Err e) reached leads = tt
+
+before_reached : (d : Dialect) (setup : Setup) → IfOk (before_lines d setup) (λ (p : Progress). IsReached setup p.between.state)
+before_reached d setup =
+    let p = start_progress d setup.machine in
+    with_mounted_reached setup p (mounted setup (first_number d setup.tools) p.between) (start_reached setup)
+    (mounted_leads setup (first_number d setup.tools) p.between)
+
+from_begun_executed : (setup : Setup) (r : Result Progress DialectFault) (rest : Progress → Outcome) → IfOk r (λ (p : Progress). IsReached setup p.between.state)
+    → ((p : Progress) → IsReached setup p.between.state → Executes setup (rest p)) → Executes setup (from_begun r rest)
+from_begun_executed setup (Ok p) rest there on = on p there
+from_begun_executed setup (Err e) rest there on = tt
+
 program_executed : (d : Dialect) (setup : Setup) (block_delete : Bool) (text : List ℕ) → IfOk (meaning_in d setup block_delete text) (AreExecuted setup)
 program_executed d setup block_delete text =
     of_commands setup (executed_in d setup block_delete text)
-    (lines_executed setup block_delete (program_of d text) no_lines (split_lines text) (start_progress d setup.machine) [] (start_reached setup))
+    (from_begun_executed setup (before_lines d setup) _ (before_reached d setup)
+    (λ p there. lines_executed setup block_delete (program_of d text) no_lines (split_lines text) p [] there))
 
 -- ---- what a call returns
 

@@ -6,4 +6,5 @@ pub mod Text
 pub mod Ending
 pub mod Views
 pub mod Flow
+pub mod Mounting
 pub mod Program

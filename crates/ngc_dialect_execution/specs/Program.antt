@@ -14,7 +14,8 @@ use Rattle.ngc_dialect_execution.specs.declared.text.Mark.TheVariants.{Begins, E
 use Rattle.ngc_dialect_execution.specs.declared.text.LinesBefore.{LinesBefore}
 use Rattle.ngc_dialect_execution.specs.Ending.{Outcome, at, changed_by, finished, with_changes}
 use Rattle.ngc_dialect_execution.specs.Flow.{flow_from}
-use Rattle.ngc_dialect_execution.specs.Taken.{Progress, line_taken, start_progress}
+use Rattle.ngc_dialect_execution.specs.Mounting.{before_lines}
+use Rattle.ngc_dialect_execution.specs.Taken.{Progress, line_taken}
 use Rattle.ngc_dialect_execution.specs.Text.{ProgramLines, first_byte, is_end, lines_after, mark_of, no_lines}
 use Rattle.ngc_dialect_execution.specs.Text.{number_of, program_of}
 
@@ -57,11 +58,14 @@ lines_taken setup block_delete program before (bytes ∷ rest) p changes =
     (λ q. flow_from setup block_delete program before.count q changes)
     (λ q more. lines_taken setup block_delete program now rest q more))
 
+abbrev pub from_begun : Result Progress DialectFault → (Progress → Outcome) → Outcome
+from_begun (Ok p) rest = rest p
+from_begun (Err e) rest = Err e
+
 -- what a program's text does, or its first fault
 abbrev pub executed_in : Dialect → Setup → Bool → List ℕ → Outcome
-executed_in d setup block_delete text =
-    lines_taken setup block_delete (program_of d text) no_lines (split_lines text)
-    (start_progress d setup.machine) []
+executed_in d setup block_delete text = from_begun (before_lines d setup)
+    (λ p. lines_taken setup block_delete (program_of d text) no_lines (split_lines text) p [])
 
 abbrev pub commands_in : Outcome → Result (List Command) DialectFault
 commands_in (Ok f) = Ok f.commands

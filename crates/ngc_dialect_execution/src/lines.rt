@@ -1,5 +1,5 @@
 //! Lines of another control, executed.
-ghost use Rattle.std.specs.Prelude.{◌≡◌, length, IfOk};
+ghost use Rattle.std.specs.Prelude.{◌≡◌, ◌≤◌, length, IfOk, IfSome};
 ghost use Rattle.ngc_machine_files.specs.Machine.{file_of};
 ghost use Rattle.ngc_canonical.specs.Interpreter.{setup_of};
 ghost use Rattle.ngc_frames.specs.Changes.{frame_of};
@@ -7,6 +7,7 @@ ghost use Rattle.ngc_dialect_flow.specs.Places.{plan_of};
 ghost use Rattle.ngc_dialect_flow.specs.State.{flow_of};
 ghost use Rattle.ngc_dialect_execution.specs.Faults.{Says};
 ghost use Rattle.ngc_dialect_execution.specs.Flow as flow;
+ghost use Rattle.ngc_dialect_execution.specs.Mounting.{with_mounted};
 ghost use Rattle.ngc_dialect_execution.specs.Taken as spec;
 ghost use Rattle.ngc_dialect_execution.specs.Taken.{Progress};
 ghost use Rattle.ngc_dialect_execution.specs.Views.{progress_in, said_in};
@@ -239,6 +240,20 @@ impl<A: Allocator + Copy> DialectInterpreter<A> {
             return pass_over(state);
         }
         self.take_flow_parts(machine, tools, table, state, line)
+    }
+
+    /// Mounts a tool in the first line, before anything else.
+    pub(crate) fn mount(
+        &mut self,
+        machine: &Machine<A>,
+        tools: &Tools<A>,
+        number: Option<u32>,
+    ) -> Result<(), Refusal>
+        requires { IfSome number (λ n. n ≤ 9999) }
+        ensures { Says (λ _. progress_in self.new) result (with_mounted
+            (setup_of machine.now tools.now) number (progress_in self.old)) }
+    {
+        self.execution.words.mount(machine, tools, number)
     }
 
     /// Ends the program after its last line, whose number is `line`, as by M2.

@@ -1,7 +1,8 @@
 //! The program of a text, executed.
-ghost use Rattle.std.specs.Prelude.{◌≡◌, ◌≤◌, [], length, IfOk};
+ghost use Rattle.std.specs.Prelude.{◌≡◌, ◌≤◌, [], length, IfOk, IfSome};
 ghost use Rattle.ngc_line_reader.specs.Program.{split_lines};
 ghost use Rattle.ngc_machine_files.specs.Machine.{file_of};
+ghost use Rattle.ngc_machine_files.specs.Tools.{tools_of};
 ghost use Rattle.ngc_canonical.specs.Interpreter.{setup_of};
 ghost use Rattle.ngc_commands.specs.Movement.{actions_of, ways_of, AreJoined};
 ghost use Rattle.ngc_commands.specs.Sequence.{HaveEvenRadii, EndIsLast, HasEnd};
@@ -9,6 +10,7 @@ ghost use Rattle.ngc_dialect_execution.specs.Faults.{ProgramSays, Says};
 ghost use Rattle.ngc_dialect_execution.specs.Laws.{AreExecuted};
 ghost use Rattle.ngc_dialect_execution.specs.Ending.{finished};
 ghost use Rattle.ngc_dialect_execution.specs.Program.{changes_in, executed_in, lines_taken, marked_taken};
+ghost use Rattle.ngc_dialect_execution.specs.Mounting.{first_number};
 ghost use Rattle.ngc_dialect_execution.specs.Program.{meaning_in};
 ghost use Rattle.ngc_frames.specs.Changes.{start_frame};
 ghost use Rattle.ngc_dialect_execution.specs.Views.{framed_in, progress_in};
@@ -141,6 +143,17 @@ fn take_lines<A: Allocator + Copy>(
     )
 }
 
+// Returns the number of the tool that is mounted before the first line.
+fn first_number<A: Allocator>(dialect: Dialect, tools: &Tools<A>) -> Option<u32>
+    ensures value { result ≡ first_number dialect (tools_of tools.now) }
+    ensures range { IfSome result (λ n. n ≤ 9999) }
+{
+    match (dialect, tools.tools()) {
+        (Dialect::Grbl, [only]) => Some(only.number),
+        _ => None,
+    }
+}
+
 // Executes the program of a text.
 fn execute_text<A: Allocator + Copy>(
     alloc: A,
@@ -155,10 +168,14 @@ fn execute_text<A: Allocator + Copy>(
     ensures start { IfOk result
         (λ f. f.frames.start ≡ start_frame (setup_of machine.now tools.now)) }
 {
-    let Ok(interpreter) = DialectInterpreter::new(alloc, dialect, machine) else {
+    let Ok(mut interpreter) = DialectInterpreter::new(alloc, dialect, machine) else {
         return Err(DialectFault::Memory);
     };
     let start = interpreter.frame();
+    match interpreter.mount(machine, tools, first_number(dialect, tools)) {
+        Ok(()) => {}
+        Err(refusal) => return Err(at_line(1, refusal)),
+    }
     match take_lines(
         alloc,
         interpreter,
@@ -211,6 +228,8 @@ pub fn interpret_dialect_with_frames<A: Allocator + Copy>(
 /// execution. A program that doesn't end by M2 or M30 ends after its last line, as by M2. From the first
 /// line on that has an O word, M98 or M99, or one of Fanuc's WHILE, IF and GOTO, the flow decides which
 /// line is next, and 2,000,000 lines are executed at most. Returns the first fault with its line.
+///
+/// Grbl changes no tools: a tool table with one tool has the one that is mounted before the first line.
 ///
 /// With block delete on, lines that begin with `/` are left out before anything is evaluated.
 pub fn interpret_dialect<A: Allocator + Copy>(

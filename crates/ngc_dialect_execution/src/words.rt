@@ -1,10 +1,11 @@
 //! Words of another control, executed.
-ghost use Rattle.std.specs.Prelude.{◌≡◌, length, pos, IfOk};
+ghost use Rattle.std.specs.Prelude.{◌≡◌, ◌≤◌, ◌*◌, length, pos, IfOk, IfSome};
 ghost use Rattle.ngc_line_reader.specs.declared.letter.Letter.TheVariants as letters;
 ghost use Rattle.ngc_machine_files.specs.Machine.{file_of};
 ghost use Rattle.ngc_canonical.specs.Interpreter.{setup_of};
 ghost use Rattle.ngc_frames.specs.Changes.{frame_of};
 ghost use Rattle.ngc_dialect_execution.specs.Faults.{Says};
+ghost use Rattle.ngc_dialect_execution.specs.Mounting.{mounted};
 ghost use Rattle.ngc_dialect_execution.specs.Taken as spec;
 ghost use Rattle.ngc_dialect_execution.specs.Views.{between_of};
 
@@ -44,6 +45,35 @@ fn end_word() -> PlainWord
     };
     PlainWord {
         letter: Letter::M,
+        value,
+    }
+}
+
+// Returns the word M6.
+fn change_word() -> PlainWord
+    ensures { result ≡ record { letter = letters.M; value = pos 6000000 } }
+{
+    let value = match Value::from_millionths(6_000_000) {
+        Ok(value) => value,
+        Err(_) => Value::zero(),
+    };
+    PlainWord {
+        letter: Letter::M,
+        value,
+    }
+}
+
+// Returns the word T of a tool.
+fn tool_word(number: u32) -> PlainWord
+    requires { number ≤ 9999 }
+    ensures { result ≡ record { letter = letters.T; value = pos (number * 1000000) } }
+{
+    let value = match Value::from_millionths(i128::from(number) * 1_000_000) {
+        Ok(value) => value,
+        Err(_) => Value::zero(),
+    };
+    PlainWord {
+        letter: Letter::T,
         value,
     }
 }
@@ -248,6 +278,28 @@ impl<A: Allocator + Copy> WordInterpreter<A> {
             None => Ok(()),
             Some(cycle) => self.take_cycle(machine, tools, line, words, &cycle),
         }
+    }
+
+    /// Mounts a tool in the first line, before anything else, as by T and M6. A fault is that of a
+    /// plain line; nothing is then stated of what is known.
+    pub(crate) fn mount(
+        &mut self,
+        machine: &Machine<A>,
+        tools: &Tools<A>,
+        number: Option<u32>,
+    ) -> Result<(), Refusal>
+        requires { IfSome number (λ n. n ≤ 9999) }
+        ensures { Says (λ _. between_of self.new) result (mounted
+            (setup_of machine.now tools.now) number (between_of self.old)) }
+    {
+        let Some(number) = number else {
+            return Ok(());
+        };
+        self.plain.clear();
+        self.plain.push(Plain::Word(tool_word(number)));
+        self.plain.push(Plain::Word(change_word()));
+        self.plain.push(Plain::End);
+        self.take_plain(machine, tools, 1)
     }
 
     /// Ends the program after its last line, whose number is `line`, as by M2. A fault is that of too
