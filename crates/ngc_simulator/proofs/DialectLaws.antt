@@ -31,7 +31,7 @@ use Rattle.ngc_inputs.proofs.SetupLaws.{on_placed}
 use Rattle.ngc_inputs.proofs.UnreadLaws.{AllRead, all_read, placed_read}
 use Rattle.ngc_simulator.specs.Answers.{DialectComes, dialect_inputs, source_input}
 use Rattle.ngc_simulator.specs.DialectPlaces.{PlacesDialect}
-use Rattle.ngc_simulator.specs.Dialects.{IsSent, ListsDialect, OnDialect, StopsDialect, NotesFault, NotesRefusal}
+use Rattle.ngc_simulator.specs.Dialects.{IsRead, IsSent, ListsDialect, OnDialect, StopsDialect, NotesFault, NotesRefusal}
 use Rattle.ngc_simulator.specs.Dialects.{CertifiesDialect, CertifiesJob, ChecksDialect, OnDialectJob}
 use Rattle.ngc_simulator.specs.declared.dialects.DialectFiles.{DialectFiles}
 use Rattle.ngc_simulator.specs.declared.dialects.Sent.{Sent}
@@ -40,21 +40,26 @@ use Rattle.ngc_simulator.specs.declared.place_request.PlaceRequest.{PlaceRequest
 use Rattle.ngc_simulator.specs.declared.done.Done.TheVariants.{Quietly, WithNotes}
 use Rattle.ngc_simulator.proofs.AdaptLaws.{told_none}
 
--- of the files that are named, from what was read of them
+-- of a control and its files, from what was read of them
+pub on_read : (control : List ℕ) (machine tools : Option (List ℕ)) (changes : Changes) (program : Option (List ℕ)) (bytes : FileBytes) (sent : Sent)
+    (P : Dialect → Setup → List ℕ → Type 0) → IsRead control machine tools changes program bytes sent
+    → P sent.dialect (setup_of sent.shop.machine sent.shop.tools) sent.text.items → OnDialect control bytes machine tools changes program P
+on_read control machine tools changes program bytes sent P is p =
+    let setup : Setup = setup_of sent.shop.machine sent.shop.tools in
+    subst (λ (known : Option Dialect). IfSome known (λ d. OnPlaced bytes machine tools changes (λ s. IfSome (bytes program) (λ source. P d s source))))
+    (sym is.known)
+    (on_placed bytes machine tools changes setup (λ s. IfSome (bytes program) (λ source. P sent.dialect s source)) is.placed.0 is.placed.1
+    (if_known (bytes program) (λ b. sent.text.items ≡ b) (λ source. P sent.dialect setup source)
+    (λ b same. subst (λ (source : List ℕ). P sent.dialect setup source) same p) is.text))
+
+-- of the files that are named
 pub on_dialect : (names : DialectFiles) (bytes : FileBytes) (sent : Sent) (P : Dialect → Setup → List ℕ → Type 0) → IsSent names bytes sent
     → P sent.dialect (setup_of sent.shop.machine sent.shop.tools) sent.text.items
     → OnDialect names.control.now bytes (option_map (λ n. n.now) names.machine) (option_map (λ n. n.now) names.tools) names.changes
     (option_map (λ n. n.now) names.program) P
 on_dialect names bytes sent P is p =
-    let machine : Option (List ℕ) = option_map (λ n. n.now) names.machine in
-    let tools : Option (List ℕ) = option_map (λ n. n.now) names.tools in
-    let program : Option (List ℕ) = option_map (λ n. n.now) names.program in
-    let setup : Setup = setup_of sent.shop.machine sent.shop.tools in
-    subst (λ (known : Option Dialect). IfSome known (λ d. OnPlaced bytes machine tools names.changes (λ s. IfSome (bytes program) (λ source. P d s source))))
-    (sym is.known)
-    (on_placed bytes machine tools names.changes setup (λ s. IfSome (bytes program) (λ source. P sent.dialect s source)) is.placed.0 is.placed.1
-    (if_known (bytes program) (λ b. sent.text.items ≡ b) (λ source. P sent.dialect setup source)
-    (λ b same. subst (λ (source : List ℕ). P sent.dialect setup source) same p) is.text))
+    on_read names.control.now (option_map (λ n. n.now) names.machine) (option_map (λ n. n.now) names.tools) names.changes
+    (option_map (λ n. n.now) names.program) bytes sent P is p
 
 -- a command that does its work
 pub dialect_comes : (Stops : AnswerFault → Type 0) (Does : Result Done AnswerFault → Type 0) (old new : Option (List ℕ)) (outcome : Result Done AnswerFault) →

@@ -30,3 +30,5 @@ pub mod UnreadableLaws
 pub mod FaultsLaws
 -- The result of running a program for another control, from the results of its parts.
 pub mod DialectRunLaws
+-- The report of a program for another control, from the results of its parts.
+pub mod DialectReportLaws

@@ -1,7 +1,7 @@
 -- The result of reporting whether a program fits, from the results of its parts.
 use Rattle.std.proofs.Common.{◌≡◌, ℕ, List, Option, Some, Bool, true, false, Result, Ok, Err, IfSome, ap, ap₂, inl, inr, refl, subst, sym}
 use Rattle.std.proofs.Common.{◌∙◌}
-use Rattle.std.specs.Prelude.{IsErrAnd, is_some, option_map}
+use Rattle.std.specs.Prelude.{◌⊎◌, IfErr, is_some, option_map}
 use Rattle.std.specs.Io.KnownBytes.{Appends, Keeps}
 use Rattle.ngc_text.specs.Written.{AppendsPrefix}
 use Rattle.ngc_text.specs.declared.writing.WriteFault.{WriteFault}
@@ -28,9 +28,10 @@ use Rattle.ngc_program_report.specs.JobReports.{IsFitText, IsRefusalText, IsRefu
 use Rattle.ngc_program_report.specs.Coordinates.{History}
 use Rattle.ngc_program_report.specs.Framed.{FramedData, IsHistoryAt, frames_in, setup_in}
 use Rattle.ngc_program_report.specs.JobReports.{first_text}
-use Rattle.ngc_program_report.specs.Reported.{own_lines}
+use Rattle.ngc_program_report.specs.Reported.{ReportedLines, own_lines}
 use Rattle.ngc_inputs.specs.Jobs.{IsMadeOf, IsProgram, IsUnmade, WhyNotMade}
-use Rattle.ngc_simulator.specs.Reporting.{IsAllReport, IsFirstReport, IsFitReport, IsReportOf, IsRejectionReport, Reports, frames_of}
+use Rattle.ngc_simulator.specs.Reporting.{IsAllReport, IsFirstReport, IsFitReport, IsJobFit, IsJobMisfit, IsReport, IsReportOf, IsRejectionReport}
+use Rattle.ngc_simulator.specs.Reporting.{Reports, ReportsJob, frames_of}
 use Rattle.ngc_program_report.specs.Texts.{LastsFor}
 use Rattle.ngc_program_report.specs.Texts.{commands_of, fault_text, fits_text, is_on, refusal_text, refusals_text, rejection_text}
 use Rattle.ngc_program_report.specs.declared.request.ReportRequest.{ReportRequest}
@@ -87,15 +88,6 @@ module _ (setup : Setup) (bytes : List ℕ) (request : ReportRequest) (text : Pr
         (frames_at Off) (frames_at On);
   }
 
-  pub told_fit : (c : CertificateData) (old new : Option (List ℕ)) → IsMadeOf f.job request.cuts c → Prints (IsFitText f c request.form request.origins (own_lines text.lines)) old new (Ok tt) →
-      Reports setup bytes request old new (Ok tt)
-  told_fit c old new made tells = (tells.0, fit_report c tells.0 made tells.1, tells.2)
-
-  pub fit_stopped : (c : CertificateData) (old new : Option (List ℕ)) (fault : ReportFault) → IsMadeOf f.job request.cuts c
-      → Prints (IsFitText f c request.form request.origins (own_lines text.lines)) old new (Err fault) → Reports setup bytes request old new (Err (of_report fault))
-  fit_stopped c old new faults.Memory made tells = tells
-  fit_stopped c old new (faults.Write fault) made tells = (tells.0, inl (fit_report c tells.0 made tells.1), tells.2)
-
   -- ---- and one of which a command isn't cleared
 
   at_setting : (s : Setting) → commands_in (is_on s) f.job ≡ commands_of s f.job.off (commands_in true f.job)
@@ -151,15 +143,50 @@ module _ (setup : Setup) (bytes : List ℕ) (request : ReportRequest) (text : Pr
   refusal_report true s k t unmade is = all_report s k t unmade is
   refusal_report false s k t unmade is = first_report s k t unmade is
 
-  pub told_refusal : (s : Setting) (k : ℕ) (old new : Option (List ℕ)) → IsUnmade f.job request.cuts (NotCleared s k)
-      → Prints (IsRefusalText request.all f request s k (own_lines text.lines)) old new (Ok tt) → Reports setup bytes request old new (Err (answers.Make (NotCleared s k)))
-  told_refusal s k old new unmade tells = (tells.0, refusal_report request.all s k tells.0 unmade tells.1, tells.2)
+  stopped_report : (t : List ℕ)
+      → IsJobFit f (own_lines text.lines) request t ⊎ ((s : Setting) × (k : ℕ) × IsJobMisfit f (own_lines text.lines) request s k t) → IsReport setup bytes request t
+  stopped_report t (inl fits) = inl (fit_report fits.certificate t fits.made fits.tells)
+  stopped_report t (inr misfits) = inr (inl (misfits.0, misfits.1, refusal_report request.all misfits.0 misfits.1 t misfits.2.unmade misfits.2.tells))
 
-  pub refusal_stopped : (s : Setting) (k : ℕ) (old new : Option (List ℕ)) (fault : ReportFault) → IsUnmade f.job request.cuts (NotCleared s k)
-      → Prints (IsRefusalText request.all f request s k (own_lines text.lines)) old new (Err fault) → Reports setup bytes request old new (Err (of_report fault))
-  refusal_stopped s k old new faults.Memory unmade tells = tells
-  refusal_stopped s k old new (faults.Write fault) unmade tells =
-      (tells.0, inr (inl (s, k, refusal_report request.all s k tells.0 unmade tells.1)), tells.2)
+  -- the report of the job is that of the program
+  pub job_reported : (old new : Option (List ℕ)) (r : Result (Unit {0}) AnswerFault) → ReportsJob f (own_lines text.lines) request old new r →
+      Reports setup bytes request old new r
+  job_reported old new (Ok u) tells = (tells.0, fit_report tells.1.certificate tells.0 tells.1.made tells.1.tells, tells.2)
+  job_reported old new (Err (answers.Make (NotCleared s k))) tells =
+      (tells.0, refusal_report request.all s k tells.0 tells.1.unmade tells.1.tells, tells.2)
+  job_reported old new (Err (answers.Make Memory)) tells = tells
+  job_reported old new (Err (answers.Write fault)) tells = (tells.0, stopped_report tells.0 tells.1, tells.2)
+  job_reported old new (Err _) tells = absurd tells
+
+-- the faults of a report of a job
+pub job_faults : (f : FramedData) (lines : ReportedLines) (request : ReportRequest) (old new : Option (List ℕ)) (r : Result (Unit {0}) AnswerFault)
+    → ReportsJob f lines request old new r → IfErr r OfCertifying
+job_faults f lines request old new (Ok u) tells = tt
+job_faults f lines request old new (Err (answers.Make (NotCleared s k))) tells = tt
+job_faults f lines request old new (Err (answers.Make Memory)) tells = tt
+job_faults f lines request old new (Err (answers.Write fault)) tells = tt
+job_faults f lines request old new (Err _) tells = absurd tells
+
+-- none of them is of reading the program
+pub job_unread : (f : FramedData) (lines : ReportedLines) (request : ReportRequest) (old new : Option (List ℕ)) (r : Result (Unit {0}) AnswerFault) (P : Type 0)
+    → ReportsJob f lines request old new r → r ≡ Err (answers.Read reads.Device) → P
+job_unread f lines request old new r P tells read = absurd (subst (ReportsJob f lines request old new) read tells)
+
+-- ---- a job that isn't reported whole
+
+pub fit_stopped : (f : FramedData) (lines : ReportedLines) (request : ReportRequest) (c : CertificateData) (old new : Option (List ℕ)) (fault : ReportFault)
+    → IsMadeOf f.job request.cuts c → Prints (IsFitText f c request.form request.origins lines) old new (Err fault)
+    → ReportsJob f lines request old new (Err (of_report fault))
+fit_stopped f lines request c old new faults.Memory made tells = tells
+fit_stopped f lines request c old new (faults.Write fault) made tells =
+    (tells.0, inl (record { certificate = c; made = made; tells = tells.1 }), tells.2)
+
+pub refusal_stopped : (f : FramedData) (lines : ReportedLines) (request : ReportRequest) (s : Setting) (k : ℕ) (old new : Option (List ℕ)) (fault : ReportFault)
+    → IsUnmade f.job request.cuts (NotCleared s k) → Prints (IsRefusalText request.all f request s k lines) old new (Err fault)
+    → ReportsJob f lines request old new (Err (of_report fault))
+refusal_stopped f lines request s k old new faults.Memory unmade tells = tells
+refusal_stopped f lines request s k old new (faults.Write fault) unmade tells =
+    (tells.0, inr (s, k, record { unmade = unmade; tells = tells.1 }), tells.2)
 
 -- ---- a program's text
 
@@ -226,19 +253,6 @@ rejected setup bytes request text s (programs.At line e) told old new is_text ha
 pub report_sink : (fault : ReportFault) (old new : ℕ) → FailsByWriting (Err fault) old new → FailsWith (of_report fault) old new
 report_sink faults.Memory old new h = h
 report_sink (faults.Write fault) old new h = h
-
-pub report_faults : (fault : ReportFault) → OfCertifying (of_report fault)
-report_faults faults.Memory = tt
-report_faults (faults.Write fault) = tt
-
--- nor is it a fault of reading the program
-not_reading : (fault : ReportFault) (P : Type 0) → answers.Read reads.Device ≡ of_report fault → P
-not_reading faults.Memory P is = cc
-not_reading (faults.Write fault) P is = cc
-
-pub report_source : (r : Result (Unit {0}) AnswerFault) (fault : ReportFault) (P : Type 0) → IsErrAnd r (λ a. a ≡ of_report fault)
-    → r ≡ Err (answers.Read reads.Device) → P
-report_source r fault P fails read = not_reading fault P (subst (λ (x : Result (Unit {0}) AnswerFault). IsErrAnd x (λ a. a ≡ of_report fault)) read fails)
 
 -- ---- on the files that the command line names
 

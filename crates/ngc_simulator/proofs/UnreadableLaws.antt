@@ -11,7 +11,7 @@ use Rattle.ngc_line_reader.specs.ProgramView.{FaultIs}
 use Rattle.ngc_line_reader.specs.declared.program.fault.ReadFault.{ReadFault}
 use Rattle.ngc_report.specs.declared.form.Form.{Form}
 use Rattle.ngc_simulator.specs.AllFaults.{ReportsFaults}
-use Rattle.ngc_simulator.specs.Answers.{ReportResult, ReportsOn, UnreadableOn, requested_form, request_of}
+use Rattle.ngc_simulator.specs.Answers.{OwnReportResult, ReportsOn, UnreadableOn, requested_form, request_of}
 use Rattle.ngc_inputs.specs.Faults.{OfCertifying, OfExplaining}
 use Rattle.ngc_simulator.specs.Reporting.{Reports}
 use Rattle.ngc_inputs.specs.Setups.{FileBytes, KeepsFiles}
@@ -89,7 +89,7 @@ module _ (bytes after : FileBytes) (options : ReportOptions) (shop : Shop) (sour
 
   -- where nothing is written besides the report
   pub reported_comes : (new : Option (List ℕ)) (fault : AnswerFault) → OfCertifying fault → IfSome source (Reported new (Err fault)) →
-      ReportResult bytes options old new (Err fault)
+      OwnReportResult bytes options old new (Err fault)
   reported_comes new (answers.Read e) of reports =
       inr (inr (inl (
         tt,
@@ -107,7 +107,7 @@ module _ (bytes after : FileBytes) (options : ReportOptions) (shop : Shop) (sour
   -- where the fault of the program is written
   pub told_comes : (later : FileBytes) (name : List ℕ) (mid new : Option (List ℕ)) (fault : ReadFault) (answer : AnswerFault) → OfExplaining answer
       → option_map (λ n. n.now) options.program ≡ Some name → KeepsFiles after later → IfSome source (Reported mid (Err (answers.Read fault)))
-      → TellsKnown (requested_form options.json) (Some name) (later (Some name)) mid new fault answer → ReportResult bytes options old new (Err answer)
+      → TellsKnown (requested_form options.json) (Some name) (later (Some name)) mid new fault answer → OwnReportResult bytes options old new (Err answer)
   told_comes later name mid new fault answer of named keeps_later reports tells = inr (inr (inl (
     of,
     unreadable_on new answer
@@ -126,7 +126,7 @@ module _ (bytes after : FileBytes) (options : ReportOptions) (shop : Shop) (sour
   ToldAll new fault text = ReportsFaults (setup_of shop.machine shop.tools) (requested_form options.json) text old new fault
 
   -- where all faults are written
-  pub faults_comes : (new : Option (List ℕ)) (fault : AnswerFault) → options.all ≡ true → IfSome source (ToldAll new fault) → ReportResult bytes options old new (Err fault)
+  pub faults_comes : (new : Option (List ℕ)) (fault : AnswerFault) → options.all ≡ true → IfSome source (ToldAll new fault) → OwnReportResult bytes options old new (Err fault)
   faults_comes new fault all tells = inr (inr (inr (
     all,
     on_placed bytes (Some options.machine.now) (Some options.tools.now) options.changes (setup_of shop.machine shop.tools)

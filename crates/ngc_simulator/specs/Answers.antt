@@ -67,7 +67,8 @@ use Rattle.ngc_adapt_program.specs.Requests.{control_named, dropped_codes}
 use Rattle.ngc_simulator.specs.Adapting.{Adapts, IsRequest}
 use Rattle.ngc_simulator.specs.DialectPlaces.{PlacesDialect}
 use Rattle.ngc_simulator.specs.Dialects.{CertifiesDialect, ChecksDialect, ListsDialect, OnDialect}
-use Rattle.ngc_simulator.specs.Dialects.{StopsDialect}
+use Rattle.ngc_simulator.specs.Dialects.{StopsDialect, named_dialect}
+use Rattle.ngc_simulator.specs.DialectReports.{ReportsDialect}
 use Rattle.ngc_simulator.specs.Making.{Makes, OnDump, has_source}
 use Rattle.ngc_inputs.specs.Unread.{FailsByInput}
 
@@ -364,14 +365,50 @@ ReportFails bytes options old new fault =
     ((OfExplaining fault × UnreadableOn bytes options old new fault)
     ⊎ FaultsOn bytes options old new fault)
 
-abbrev pub ReportResult : FileBytes → ReportOptions → Option (List ℕ) → Option (List ℕ) →
+abbrev pub OwnReportResult : FileBytes → ReportOptions → Option (List ℕ) → Option (List ℕ) →
     Result Done AnswerFault → Type 0
-ReportResult bytes options old new (Ok Quietly) = ReportsOn bytes options old new (Ok tt)
-ReportResult bytes options old new (Ok (RunThrough time)) = ⊥
-ReportResult bytes options old new (Ok (WithNotes notes)) = ⊥
-ReportResult bytes options old new (Err fault) =
+OwnReportResult bytes options old new (Ok Quietly) = ReportsOn bytes options old new (Ok tt)
+OwnReportResult bytes options old new (Ok (RunThrough time)) = ⊥
+OwnReportResult bytes options old new (Ok (WithNotes notes)) = ⊥
+OwnReportResult bytes options old new (Err fault) =
     ReportsPlacedRefusal (requested_form options.json) bytes (Some options.machine.now)
     (Some options.tools.now) options.changes old new fault ⊎ ReportFails bytes options old new fault
+
+-- a control that isn't known leaves the output unchanged, and the refusal of a machine file or a tool
+-- table is reported
+abbrev pub StopsReport : List ℕ → FileBytes → ReportOptions → Option (List ℕ) → Option (List ℕ) →
+    AnswerFault → Type 0
+StopsReport control bytes options old new answers.UnknownControl =
+    (named_dialect control ≡ None) × Keeps old new
+StopsReport control bytes options old new fault =
+    ReportsPlacedRefusal (requested_form options.json) bytes (Some options.machine.now)
+    (Some options.tools.now) options.changes old new fault
+
+abbrev pub DialectReportsOn : List ℕ → FileBytes → ReportOptions → Option (List ℕ) →
+    Option (List ℕ) → Result Done AnswerFault → Type 0
+DialectReportsOn control bytes options old new outcome =
+    OnDialect control bytes (Some options.machine.now) (Some options.tools.now) options.changes
+    (option_map (λ name. name.now) options.program)
+    (λ d setup source. ReportsDialect d setup source (request_of options) old new outcome)
+
+abbrev pub DialectReportResult : List ℕ → FileBytes → ReportOptions → Option (List ℕ) →
+    Option (List ℕ) → Result Done AnswerFault → Type 0
+DialectReportResult control bytes options old new (Ok done) =
+    DialectReportsOn control bytes options old new (Ok done)
+DialectReportResult control bytes options old new (Err fault) =
+    StopsReport control bytes options old new fault ⊎
+    DialectReportsOn control bytes options old new (Err fault)
+
+abbrev pub ReportResultIn : Option (List ℕ) → FileBytes → ReportOptions → Option (List ℕ) →
+    Option (List ℕ) → Result Done AnswerFault → Type 0
+ReportResultIn None bytes options old new outcome = OwnReportResult bytes options old new outcome
+ReportResultIn (Some control) bytes options old new outcome =
+    DialectReportResult control bytes options old new outcome
+
+abbrev pub ReportResult : FileBytes → ReportOptions → Option (List ℕ) → Option (List ℕ) →
+    Result Done AnswerFault → Type 0
+ReportResult bytes options old new outcome =
+    ReportResultIn (option_map (λ name. name.now) options.dialect) bytes options old new outcome
 
 -- what is requested of `place`, where the system is known
 abbrev pub place_request : PlaceOptions → System → PlaceRequest
@@ -755,10 +792,19 @@ abbrev pub show_inputs : ShowOptions → List Input
 show_inputs options =
     shop_inputs (Some options.machine.now) (option_map (λ name. name.now) options.tools)
 
-abbrev pub report_inputs : ReportOptions → List Input
-report_inputs options =
+abbrev pub own_report_inputs : ReportOptions → List Input
+own_report_inputs options =
     shop_inputs (Some options.machine.now) (Some options.tools.now)
     ++ program_input (option_map (λ name. name.now) options.program) ∷ []
+
+abbrev pub report_inputs_in : Option (List ℕ) → ReportOptions → List Input
+report_inputs_in None options = own_report_inputs options
+report_inputs_in (Some control) options =
+    dialect_inputs (Some options.machine.now) (Some options.tools.now)
+    (option_map (λ name. name.now) options.program)
+
+abbrev pub report_inputs : ReportOptions → List Input
+report_inputs options = report_inputs_in (option_map (λ name. name.now) options.dialect) options
 
 abbrev pub own_place_inputs : PlaceOptions → List Input
 own_place_inputs options =
@@ -843,7 +889,7 @@ IsQuiet (commands.RunThrough options) = ⊥
 IsQuiet (commands.Live options) = options.dialect ≡ None
 IsQuiet (commands.Draw options) = Unit {0}
 IsQuiet (commands.Show options) = Unit {0}
-IsQuiet (commands.Report options) = Unit {0}
+IsQuiet (commands.Report options) = options.dialect ≡ None
 IsQuiet (commands.Place options) = options.dialect ≡ None
 IsQuiet (commands.Adapt options) = ⊥
 IsQuiet (commands.Machine options) = ⊥

@@ -60,12 +60,17 @@ StopsDialect control bytes machine tools changes answers.UnknownControl =
 StopsDialect control bytes machine tools changes fault =
     RefusesPlaced bytes machine tools changes fault
 
--- what was read is what the names are of
-pub record IsSent (names : DialectFiles) (bytes : FileBytes) (sent : Sent) : Type 0 where
-  pub known : named_dialect names.control.now ≡ Some sent.dialect
-  pub placed : PlacedResultIs bytes (option_map (λ n. n.now) names.machine)
-      (option_map (λ n. n.now) names.tools) names.changes (Ok sent.shop)
-  pub text : IfSome (bytes (option_map (λ n. n.now) names.program)) (λ b. sent.text.items ≡ b)
+-- what was read is of this control and of these files
+pub record IsRead (control : List ℕ) (machine tools : Option (List ℕ)) (changes : Changes)
+    (program : Option (List ℕ)) (bytes : FileBytes) (sent : Sent) : Type 0 where
+  pub known : named_dialect control ≡ Some sent.dialect
+  pub placed : PlacedResultIs bytes machine tools changes (Ok sent.shop)
+  pub text : IfSome (bytes program) (λ b. sent.text.items ≡ b)
+
+abbrev pub IsSent : DialectFiles → FileBytes → Sent → Type 0
+IsSent names bytes sent = IsRead names.control.now (option_map (λ n. n.now) names.machine)
+    (option_map (λ n. n.now) names.tools) names.changes (option_map (λ n. n.now) names.program) bytes
+    sent
 
 -- why nothing was read by the names
 abbrev pub StopsSending : DialectFiles → FileBytes → AnswerFault → Type 0

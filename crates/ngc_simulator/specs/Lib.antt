@@ -15,6 +15,7 @@ pub mod Adapting
 pub mod Dialects
 pub mod DialectPlaces
 pub mod DialectRuns
+pub mod DialectReports
 pub mod Certifying
 pub mod Placing
 pub mod Answers

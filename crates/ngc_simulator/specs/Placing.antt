@@ -1,11 +1,12 @@
 -- The result of finding at which shifts of an origin a program fits. Our own.
-use Rattle.std.specs.Prelude.{◌≡◌, ℕ, List, Option, Result, Ok, Err, slice_get}
+use Rattle.std.specs.Prelude.{◌≡◌, ℕ, List, Option, Some, None, Result, Ok, Err, slice_get}
 use Rattle.std.specs.Io.KnownBytes.{Appends, Keeps}
 use Rattle.ngc_text.specs.Written.{AppendsPrefix}
 use Rattle.ngc_fixed_length.specs.declared.modes.System.{System}
 use Rattle.ngc_line_reader.specs.ProgramText.{program_of}
 use Rattle.ngc_line_reader.specs.ProgramView.{FaultIs}
 use Rattle.ngc_machine_files.specs.Machine.{MachineFile}
+use Rattle.ngc_commands.specs.declared.command.Command.{Command}
 use Rattle.ngc_canonical.specs.State.{Setup}
 use Rattle.ngc_canonical.specs.Meaning.{Program as ProgramLines}
 use Rattle.ngc_certificate_text.specs.Certificate.{CertificateData}
@@ -13,7 +14,6 @@ use Rattle.ngc_certificate.specs.declared.fault.MakeFault.TheVariants.{NotCleare
 use Rattle.ngc_job.specs.Job.{JobData, IsJobOf, commands_in}
 use Rattle.ngc_report.specs.declared.form.Form.{Form}
 use Rattle.ngc_report.specs.declared.form.Form.TheVariants.{Words, Json}
-use Rattle.ngc_program_report.specs.Coordinates.{line_of}
 use Rattle.ngc_program_report.specs.Texts.{is_on}
 use Rattle.ngc_shifted_program.specs.Executions.{Execution, execution_of}
 use Rattle.ngc_place_report.specs.Texts.{document_text, words_text}
@@ -29,6 +29,11 @@ use Rattle.ngc_simulator.specs.declared.place_request.PlaceRequest.{PlaceRequest
 abbrev pub placement_text : Form → MachineFile → System → Placement → List ℕ
 placement_text Words machine system p = words_text machine system p
 placement_text Json machine system p = document_text machine system p
+
+-- the program line of a command, 0 without one
+abbrev pub line_of : Option Command → ℕ
+line_of None = 0
+line_of (Some c) = c.line
 
 -- a certificate is made for a job where its origin is; or the first command that isn't cleared is
 -- of this line

@@ -17,15 +17,49 @@ use Rattle.ngc_certificate.specs.Made.{IsMade}
 use Rattle.ngc_certificate.specs.Uncleared.{AreUncleared}
 use Rattle.ngc_inputs.specs.declared.fault.AnswerFault.{AnswerFault}
 use Rattle.ngc_inputs.specs.declared.fault.AnswerFault.TheVariants as answers
-use Rattle.ngc_inputs.specs.Jobs.{AreMeanings, IsMadeFor, IsProgram, IsRefusedAt}
+use Rattle.ngc_inputs.specs.Jobs.{AreMeanings, IsMadeFor, IsMadeOf, IsProgram, IsRefusedAt, IsUnmade}
 use Rattle.ngc_frames.specs.Changes.{frame_changes, start_frame}
 use Rattle.ngc_program_report.specs.Coordinates.{History, history_of}
-use Rattle.ngc_program_report.specs.JobReports.{IsStartClear, OffBegins, OnBegins}
-use Rattle.ngc_program_report.specs.Reported.{own_lines}
+use Rattle.ngc_program_report.specs.Framed.{FramedData}
+use Rattle.ngc_program_report.specs.JobReports.{IsFitText, IsRefusalText, IsStartClear, OffBegins}
+use Rattle.ngc_program_report.specs.JobReports.{OnBegins}
+use Rattle.ngc_program_report.specs.Reported.{ReportedLines, own_lines}
 use Rattle.ngc_program_report.specs.Texts.{LastsFor, commands_of, fault_text, fits_text, is_on}
 use Rattle.ngc_program_report.specs.Texts.{refusal_text, refusals_text}
 use Rattle.ngc_program_report.specs.Times.{ProgramTimeData}
 use Rattle.ngc_program_report.specs.declared.request.ReportRequest.{ReportRequest}
+
+-- ---- jobs
+
+-- the report of a job of which a certificate is made, for a program with these lines
+pub record IsJobFit (f : FramedData) (lines : ReportedLines) (request : ReportRequest)
+    (text : List ℕ) : Type 0 where
+  pub certificate : CertificateData
+  pub made : IsMadeOf f.job request.cuts certificate
+  pub tells : IsFitText f certificate request.form request.origins lines text
+
+-- the report of one of which command k isn't cleared at a setting
+pub record IsJobMisfit (f : FramedData) (lines : ReportedLines) (request : ReportRequest)
+    (s : Setting) (k : ℕ) (text : List ℕ) : Type 0 where
+  pub unmade : IsUnmade f.job request.cuts (NotCleared s k)
+  pub tells : IsRefusalText request.all f request s k lines text
+
+-- From what the sink had taken to what it has taken now: the report of a job that fits was written, or
+-- the report of the obstacle, whose fault is returned; or a prefix of one of them if the sink failed.
+-- If memory ran out, the output is unchanged.
+abbrev pub ReportsJob : FramedData → ReportedLines → ReportRequest → Option (List ℕ) →
+    Option (List ℕ) → Result (Unit {0}) AnswerFault → Type 0
+ReportsJob f lines request old new (Ok u) =
+    (text : List ℕ) × IsJobFit f lines request text × Appends old new text
+ReportsJob f lines request old new (Err (answers.Make (NotCleared s k))) =
+    (text : List ℕ) × IsJobMisfit f lines request s k text × Appends old new text
+ReportsJob f lines request old new (Err (answers.Make Memory)) = Keeps old new
+ReportsJob f lines request old new (Err (answers.Write fault)) =
+    (text : List ℕ) × (IsJobFit f lines request text ⊎
+    ((s : Setting) × (k : ℕ) × IsJobMisfit f lines request s k text)) × AppendsPrefix old new text
+ReportsJob f lines request old new (Err _) = ⊥
+
+-- ---- programs in our own language
 
 -- the frames of a program at a setting
 abbrev pub frames_of : Setup → List NumberedLine → Setting → History

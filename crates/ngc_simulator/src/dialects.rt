@@ -1,21 +1,25 @@
 //! Programs for other controls that are executed in their own language: their files, and why they are
 //! refused.
-ghost use Rattle.std.specs.Prelude.{◌≡◌, false, IfErr, IfOk, IsSome, option_map};
+ghost use Rattle.std.specs.Prelude.{◌≡◌, false, IfErr, IfOk, IsSome, Some, option_map};
 ghost use Rattle.ngc_dialect_faults.specs.Lines.{fault_line};
-ghost use Rattle.ngc_simulator.specs.Answers.{dialect_inputs};
-ghost use Rattle.ngc_simulator.specs.Dialects.{IsSent, StopsSending, named_dialect};
+ghost use Rattle.ngc_simulator.specs.Answers.{StopsReport, dialect_inputs, report_inputs_in};
+ghost use Rattle.ngc_simulator.specs.Dialects.{IsRead, IsSent, StopsSending, named_dialect};
+ghost use Rattle.ngc_inputs.specs.Faults.{FailsByOutput};
 ghost use Rattle.ngc_inputs.specs.Setups.{KeepsFiles, KeepsNamed};
 ghost use Rattle.ngc_inputs.specs.Unread.{FailsByInput, SourceFails};
 
 use crate::adapting::source_bytes;
 use crate::done::Notes;
+use crate::mistaken_files::read_placed_reporting;
+use crate::reporting_files::requested_form;
 use ngc_certificate_text::Setting;
+use ngc_command_line::ReportOptions;
 use ngc_dialect_execution::Cause;
 use ngc_dialect_faults::write_dialect_fault;
 use ngc_dialect_reader::Dialect;
 use ngc_inputs::{AnswerFault, Files, Shop, read_placed};
 use ngc_margins::Changes;
-use ngc_text::Device;
+use ngc_text::{Device, Sink};
 use std::alloc::Global;
 
 /// The names of a control and of the files for it.
@@ -71,6 +75,41 @@ pub(crate) fn read_sent<F: Files>(
     };
     let shop = read_placed(alloc, names.machine, names.tools, &names.changes, files)?;
     let text = source_bytes(alloc, names.program, files)?;
+    Ok(Sent {
+        dialect,
+        shop,
+        text,
+    })
+}
+
+/// Reads the files of a report for a control, as `read_sent` does. If a machine file or a tool table is
+/// refused, its mistake is written.
+pub(crate) fn read_sent_reporting<F: Files, W: Sink>(
+    alloc: Global,
+    control: &str,
+    options: &ReportOptions<'_>,
+    files: &mut F,
+    output: &mut W,
+) -> Result<Sent, AnswerFault>
+    ensures sent { IfOk result (λ sent. IsRead control.now (Some options.now.machine.now)
+        (Some options.now.tools.now) options.now.changes
+        (option_map (λ n. n.now) options.now.program) (F.bytes files.old) sent
+        × (W.written output.new ≡ W.written output.old)) }
+    ensures stops { IfErr result (StopsReport control.now (F.bytes files.old) options.now
+        (W.written output.old) (W.written output.new)) }
+    ensures unread { FailsByInput (SourceFails F.R.remaining F.R.failures) (F.bytes files.old)
+        (report_inputs_in (Some control.now) options.now) (F.failures files.old)
+        (F.failures files.new) result }
+    ensures sink { FailsByOutput result (W.failures output.old) (W.failures output.new) }
+{
+    let Some(dialect) = dialect_named(control) else {
+        return Err(AnswerFault::UnknownControl);
+    };
+    let form = requested_form(options.json);
+    let (machine, tools) = (options.machine, Some(options.tools));
+    let changes = &options.changes;
+    let shop = read_placed_reporting(alloc, form, machine, tools, changes, files, output)?;
+    let text = source_bytes(alloc, options.program, files)?;
     Ok(Sent {
         dialect,
         shop,

@@ -8,6 +8,7 @@ mod checking;
 mod dialect_certificates;
 mod dialect_lister;
 mod dialect_places;
+mod dialect_reports;
 mod dialect_runs;
 mod dialects;
 mod done;

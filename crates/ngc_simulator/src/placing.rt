@@ -8,7 +8,6 @@ ghost use Rattle.ngc_line_reader.specs.declared.program.fault.ReadFault.TheVaria
 ghost use Rattle.ngc_machine_files.specs.Machine.{file_of};
 ghost use Rattle.ngc_canonical.specs.Interpreter.{setup_of};
 ghost use Rattle.ngc_job.specs.Job.{commands_in};
-ghost use Rattle.ngc_program_report.specs.Coordinates.{line_of};
 ghost use Rattle.ngc_program_report.specs.Texts.{is_on};
 ghost use Rattle.ngc_inputs.specs.Faults.{FailsByOutput, OfCertifying};
 ghost use Rattle.ngc_inputs.specs.Unread.{FailsByInput, SourceFails};
@@ -16,7 +15,7 @@ ghost use Rattle.ngc_simulator.specs.Answers.{OwnPlaceResult, PlaceResult, own_p
 ghost use Rattle.ngc_simulator.specs.Answers.{place_inputs, place_request};
 ghost use Rattle.ngc_simulator.specs.Answers.{requested_system};
 ghost use Rattle.ngc_simulator.specs.Placing.{IsHere, OfPlacing, PlaceWritten, PlacesJob};
-ghost use Rattle.ngc_simulator.specs.Placing.{placement_text};
+ghost use Rattle.ngc_simulator.specs.Placing.{line_of, placement_text};
 ghost use Rattle.ngc_shifted_program.specs.Executions.{Execution, IsExecution};
 
 use crate::certifier::{plans_for, refused};

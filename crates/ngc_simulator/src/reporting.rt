@@ -8,7 +8,9 @@ ghost use Rattle.ngc_line_reader.specs.ProgramView.{text_in};
 ghost use Rattle.ngc_line_reader.specs.declared.program.fault.ReadFault.TheVariants.{Device};
 ghost use Rattle.ngc_inputs.specs.Faults.{FailsByOutput, FailsWith, OfCertifying, OfReporting};
 ghost use Rattle.ngc_inputs.specs.Jobs.{WhyNotMade};
-ghost use Rattle.ngc_simulator.specs.Reporting.{Reports};
+ghost use Rattle.ngc_program_report.specs.Framed.{framed_in};
+ghost use Rattle.ngc_program_report.specs.Reported.{reported};
+ghost use Rattle.ngc_simulator.specs.Reporting.{Reports, ReportsJob};
 
 use crate::certifier::plans_for;
 use ngc_canonical::{ProgramFault, has_deleted_lines};
@@ -17,7 +19,7 @@ use ngc_inputs::AnswerFault;
 use ngc_line_reader::Program;
 use ngc_machine_files::{Machine, Tools};
 use ngc_program_report::{
-    ReportRequest, ReportedText, framed_job, report_fit, report_refusal, write_rejection,
+    FramedJob, ReportRequest, ReportedText, framed_job, report_fit, report_refusal, write_rejection,
 };
 use ngc_text::{Sink, Source};
 use std::alloc::Allocator;
@@ -61,6 +63,33 @@ fn report_rejection<A: Allocator, W: Sink>(
     }
 }
 
+/// Writes the report of a job, for the text of its program: its margins and its time, or the obstacle,
+/// with fault 304. If memory runs out, nothing is written; if a write fails (902), a prefix is written.
+pub(crate) fn report_job<A: Allocator + Copy, W: Sink>(
+    alloc: A,
+    text: &ReportedText<'_, A>,
+    framed: FramedJob<A>,
+    request: ReportRequest,
+    output: &mut W,
+) -> Result<(), AnswerFault>
+    ensures reports { ReportsJob (framed_in framed) (reported text.now) request
+        (W.written output.old) (W.written output.new) result }
+    ensures sink { FailsByOutput result (W.failures output.old) (W.failures output.new) }
+{
+    match plans_for(alloc, &framed.job, request.cuts) {
+        Ok(plans) => {
+            let (form, origins) = (request.form, &request.origins);
+            report_fit(alloc, text, framed, &plans, form, origins, output)?;
+            Ok(())
+        }
+        Err(MakeFault::NotCleared { setting, command }) => {
+            report_refusal(alloc, text, &framed, setting, command, request, output)?;
+            Err(AnswerFault::Make(MakeFault::NotCleared { setting, command }))
+        }
+        Err(MakeFault::Memory) => Err(AnswerFault::Make(MakeFault::Memory)),
+    }
+}
+
 /// Writes whether a program fits on a machine with its tools: its extent and its clearance, the use
 /// of each tool and the time; or the obstacle, with fault 304. A program with lines that begin with
 /// `/` has a report for each setting of block delete. For any other fault nothing is written,
@@ -92,23 +121,5 @@ pub fn report_program<A: Allocator + Copy, R: Source, W: Sink>(
         }
     };
     let text = ReportedText::Own(&program);
-    match plans_for(alloc, &framed.job, request.cuts) {
-        Ok(plans) => {
-            report_fit(
-                alloc,
-                &text,
-                framed,
-                &plans,
-                request.form,
-                &request.origins,
-                output,
-            )?;
-            Ok(())
-        }
-        Err(MakeFault::NotCleared { setting, command }) => {
-            report_refusal(alloc, &text, &framed, setting, command, request, output)?;
-            Err(AnswerFault::Make(MakeFault::NotCleared { setting, command }))
-        }
-        Err(MakeFault::Memory) => Err(AnswerFault::Make(MakeFault::Memory)),
-    }
+    report_job(alloc, &text, framed, request, output)
 }

@@ -1,9 +1,11 @@
 //! The report of a program, from the files that the command line names.
 ghost use Rattle.std.specs.Prelude.{◌≡◌};
-ghost use Rattle.ngc_simulator.specs.Answers.{ReportResult, requested_form, report_inputs, request_of};
+ghost use Rattle.ngc_simulator.specs.Answers.{OwnReportResult, ReportResult, own_report_inputs};
+ghost use Rattle.ngc_simulator.specs.Answers.{report_inputs, request_of, requested_form};
 ghost use Rattle.ngc_inputs.specs.Faults.{FailsByOutput};
 ghost use Rattle.ngc_inputs.specs.Unread.{FailsByInput, SourceFails};
 
+use crate::dialect_reports::report_dialect;
 use crate::done::Done;
 use crate::faults_files::report_all_faults;
 use crate::mistaken_files::read_placed_reporting;
@@ -23,7 +25,8 @@ pub(crate) fn requested_form(json: bool) -> Form
     if json { Form::Json } else { Form::Words }
 }
 
-fn request_of(options: &ReportOptions<'_>) -> ReportRequest
+/// Returns what is requested of a report.
+pub(crate) fn request_of(options: &ReportOptions<'_>) -> ReportRequest
     ensures { result ≡ request_of options.now }
 {
     ReportRequest {
@@ -34,20 +37,20 @@ fn request_of(options: &ReportOptions<'_>) -> ReportRequest
     }
 }
 
-/// Writes the report of a program. Its faults are those of a certificate that isn't made. If a
-/// machine file or a tool table is refused, its mistake is written. If a named program can't be
-/// read, the line at fault is written. If all is requested, all faults of a named program that
-/// can't be read or is refused are written.
-pub(crate) fn report_files<F: Files, W: Sink>(
+// Writes the report of a program in our own language. Its faults are those of a certificate that isn't
+// made. If a machine file or a tool table is refused, its mistake is written. If a named program can't
+// be read, the line at fault is written. If all is requested, all faults of a named program that can't
+// be read or is refused are written.
+fn report_own<F: Files, W: Sink>(
     alloc: Global,
     options: &ReportOptions<'_>,
     files: &mut F,
     output: &mut W,
 ) -> Result<Done, AnswerFault>
-    ensures comes { ReportResult (F.bytes files.old) options.now (W.written output.old)
+    ensures comes { OwnReportResult (F.bytes files.old) options.now (W.written output.old)
         (W.written output.new) result }
     ensures unread { FailsByInput (SourceFails F.R.remaining F.R.failures) (F.bytes files.old)
-        (report_inputs options.now) (F.failures files.old) (F.failures files.new) result }
+        (own_report_inputs options.now) (F.failures files.old) (F.failures files.new) result }
     ensures sink { FailsByOutput result (W.failures output.old) (W.failures output.new) }
 {
     let request = request_of(options);
@@ -79,5 +82,24 @@ pub(crate) fn report_files<F: Files, W: Sink>(
             Err(told)
         }
         _ => Err(fault),
+    }
+}
+
+/// Writes the report of a program.
+pub(crate) fn report_files<F: Files, W: Sink>(
+    alloc: Global,
+    options: &ReportOptions<'_>,
+    files: &mut F,
+    output: &mut W,
+) -> Result<Done, AnswerFault>
+    ensures comes { ReportResult (F.bytes files.old) options.now (W.written output.old)
+        (W.written output.new) result }
+    ensures unread { FailsByInput (SourceFails F.R.remaining F.R.failures) (F.bytes files.old)
+        (report_inputs options.now) (F.failures files.old) (F.failures files.new) result }
+    ensures sink { FailsByOutput result (W.failures output.old) (W.failures output.new) }
+{
+    match options.dialect {
+        None => report_own(alloc, options, files, output),
+        Some(control) => report_dialect(alloc, control, options, files, output),
     }
 }

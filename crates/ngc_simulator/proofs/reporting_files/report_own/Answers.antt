@@ -5,7 +5,7 @@ use Rattle.std.specs.Io.KnownBytes.{Keeps}
 use Rattle.ngc_report.proofs.Converted.{turned}
 use Rattle.ngc_inputs.proofs.JobLaws.{keeps_same}
 use Rattle.ngc_simulator.proofs.ReportLaws.{asked, reported_files}
-use Rattle.ngc_simulator.specs.Answers.{ReportResult, ReportsOn, program_input, request_of, report_inputs}
+use Rattle.ngc_simulator.specs.Answers.{OwnReportResult, ReportsOn, program_input, request_of, own_report_inputs}
 use Rattle.ngc_simulator.specs.AllFaults.{ReportsFaults}
 use Rattle.ngc_simulator.specs.Mistaken.{ReportsPlacedRefusal}
 use Rattle.ngc_simulator.specs.Reporting.{Reports}
@@ -15,12 +15,12 @@ use Rattle.ngc_inputs.specs.declared.fault.AnswerFault.TheVariants as answers
 use Rattle.ngc_inputs.proofs.UnreadLaws.{certify_told, program_again, placed_read, reported_before, told_behind, unopened, unread_told}
 use Rattle.ngc_simulator.proofs.UnreadableLaws.{TellsKnown, faults_comes, reported_comes, told_comes}
 use Rattle.std.specs.Prelude.{IsSome, option_map}
-use Rattle.ngc_simulator.proofs.reporting_files.report_files.Goals as goal
+use Rattle.ngc_simulator.proofs.reporting_files.report_own.Goals as goal
 
 pub returns-in_err-shop-clause-comes : goal.returns-in_err-shop-clause-comes
 returns-in_err-shop-clause-comes g c =
     turned _ c.in_err-shop.field-0.0
-    (ReportResult (g.F.Files.bytes c.args.files.now) c.args.options.now (g.W.Sink.written c.args.output.now)
+    (OwnReportResult (g.F.Files.bytes c.args.files.now) c.args.options.now (g.W.Sink.written c.args.output.now)
     (g.W.Sink.written c.read_placed_reporting.new.output)) c.from_residual.ensures.1
     (inl (subst (λ (f : Form). ReportsPlacedRefusal f (g.F.Files.bytes c.args.files.now) (Some c.args.options.now.machine.now) (Some c.args.options.now.tools.now) c.args.options.now.changes
     (g.W.Sink.written c.args.output.now) (g.W.Sink.written c.read_placed_reporting.new.output) c.in_err-shop.field-0.0)
@@ -30,9 +30,9 @@ pub returns-in_err-report_all_faults-clause-comes : goal.returns-in_err-report_a
 returns-in_err-report_all_faults-clause-comes g c =
     let fault = c.in_err-report_all_faults.field-0.0 in
     let new = g.W.Sink.written c.report_all_faults.new.output in
-    turned _ fault (ReportResult (g.F.Files.bytes c.args.files.now) c.args.options.now (g.W.Sink.written c.args.output.now) new)
+    turned _ fault (OwnReportResult (g.F.Files.bytes c.args.files.now) c.args.options.now (g.W.Sink.written c.args.output.now) new)
     c.from_residual-in_err-report_all_faults.ensures.1
-    (subst (λ (o : Option (List ℕ)). ReportResult (g.F.Files.bytes c.args.files.now) c.args.options.now o new (Err fault)) c.in_ok-shop.ensures.said.1
+    (subst (λ (o : Option (List ℕ)). OwnReportResult (g.F.Files.bytes c.args.files.now) c.args.options.now o new (Err fault)) c.in_ok-shop.ensures.said.1
     (faults_comes (g.F.Files.bytes c.args.files.now) (g.F.Files.bytes c.read_placed_reporting.new.files) c.args.options.now c.in_ok-shop.shop
     (g.F.Files.bytes c.read_placed_reporting.new.files (option_map (λ n. n.now) c.args.options.now.program)) (g.W.Sink.written c.read_placed_reporting.new.output)
     c.in_ok-shop.ensures.said.0 c.read_placed_reporting.ensures.keeps refl new fault c.in_err-report_all_faults.ensures.all
@@ -43,7 +43,7 @@ returns-in_err-report_all_faults-clause-comes g c =
 pub returns-in_err-source-clause-comes : goal.returns-in_err-source-clause-comes
 returns-in_err-source-clause-comes g c =
     let fault = answers.Input c.in_err-source.field-0.0 in
-    turned _ fault (ReportResult (g.F.Files.bytes c.args.files.now) c.args.options.now (g.W.Sink.written c.args.output.now)
+    turned _ fault (OwnReportResult (g.F.Files.bytes c.args.files.now) c.args.options.now (g.W.Sink.written c.args.output.now)
     (g.W.Sink.written c.report_all_faults.new.output)) c.from_residual-in_err-source.ensures.1
     (inl (tt, inl (subst (λ (o : Option (List ℕ)). Keeps o (g.W.Sink.written c.report_all_faults.new.output)) (c.in_ok-report_all_faults.ensures.silent ∙ c.in_ok-shop.ensures.said.1) (keeps_same _))))
 
@@ -60,7 +60,7 @@ pub returns-in-None-clause-comes : goal.returns-in-None-clause-comes
 returns-in-None-clause-comes g c =
     let fault = c.in-Err.fault in
     let new = g.W.Sink.written c.report_program.new.output in
-    subst (λ (o : Option (List ℕ)). ReportResult (g.F.Files.bytes c.args.files.now) c.args.options.now o new (Err fault)) (c.in_ok-report_all_faults.ensures.silent ∙ c.in_ok-shop.ensures.said.1)
+    subst (λ (o : Option (List ℕ)). OwnReportResult (g.F.Files.bytes c.args.files.now) c.args.options.now o new (Err fault)) (c.in_ok-report_all_faults.ensures.silent ∙ c.in_ok-shop.ensures.said.1)
     (reported_comes (g.F.Files.bytes c.args.files.now) (g.F.Files.bytes c.report_all_faults.new.files) c.args.options.now c.in_ok-shop.shop _
     (g.W.Sink.written c.report_all_faults.new.output)
     c.in_ok-shop.ensures.said.0 (λ n. c.report_all_faults.ensures.keeps n ∙ c.read_placed_reporting.ensures.keeps n) c.in_ok-source.ensures.bytes new fault c.in-Err.ensures.faults
@@ -70,7 +70,7 @@ pub returns-clause-comes : goal.returns-clause-comes
 returns-clause-comes g c =
     let fault = c.in-Err.fault in
     let new = g.W.Sink.written c.report_program.new.output in
-    subst (λ (o : Option (List ℕ)). ReportResult (g.F.Files.bytes c.args.files.now) c.args.options.now o new (Err fault)) (c.in_ok-report_all_faults.ensures.silent ∙ c.in_ok-shop.ensures.said.1)
+    subst (λ (o : Option (List ℕ)). OwnReportResult (g.F.Files.bytes c.args.files.now) c.args.options.now o new (Err fault)) (c.in_ok-report_all_faults.ensures.silent ∙ c.in_ok-shop.ensures.said.1)
     (reported_comes (g.F.Files.bytes c.args.files.now) (g.F.Files.bytes c.report_all_faults.new.files) c.args.options.now c.in_ok-shop.shop _
     (g.W.Sink.written c.report_all_faults.new.output)
     c.in_ok-shop.ensures.said.0 (λ n. c.report_all_faults.ensures.keeps n ∙ c.read_placed_reporting.ensures.keeps n) c.in_ok-source.ensures.bytes new fault c.in-Err.ensures.faults
@@ -85,7 +85,7 @@ returns-in-Read-clause-comes g c =
     let new = g.W.Sink.written c.report_unreadable-told.new.output in
     let reports = asked c.args.options.now shop c.request_of-request.result _ _ mid
     (Err c.in-Err.fault) c.request_of-request.ensures c.in-Err.ensures.reports in
-    subst (λ (o : Option (List ℕ)). ReportResult (g.F.Files.bytes c.args.files.now) c.args.options.now o new (Err answer)) (c.in_ok-report_all_faults.ensures.silent ∙ c.in_ok-shop.ensures.said.1)
+    subst (λ (o : Option (List ℕ)). OwnReportResult (g.F.Files.bytes c.args.files.now) c.args.options.now o new (Err answer)) (c.in_ok-report_all_faults.ensures.silent ∙ c.in_ok-shop.ensures.said.1)
     (told_comes (g.F.Files.bytes c.args.files.now) (g.F.Files.bytes c.report_all_faults.new.files) c.args.options.now shop
     (g.F.R.Source.remaining c.in_ok-source.source)
     (g.W.Sink.written c.report_all_faults.new.output) c.in_ok-shop.ensures.said.0 (λ n. c.report_all_faults.ensures.keeps n ∙ c.read_placed_reporting.ensures.keeps n) c.in_ok-source.ensures.bytes
@@ -101,7 +101,7 @@ returns-in-Read-clause-comes g c =
 pub returns-in_err-shop-clause-unread : goal.returns-in_err-shop-clause-unread
 returns-in_err-shop-clause-unread g c =
     unread_told (SourceFails g.F.R.Source.remaining g.F.R.Source.failures) (g.F.Files.bytes c.args.files.now)
-    (report_inputs c.args.options.now) _ _ _ c.in_err-shop.field-0.0 c.from_residual.ensures.1
+    (own_report_inputs c.args.options.now) _ _ _ c.in_err-shop.field-0.0 c.from_residual.ensures.1
     (reported_before (SourceFails g.F.R.Source.remaining g.F.R.Source.failures) (g.F.Files.bytes c.args.files.now)
     (shop_inputs (Some c.args.options.now.machine.now) (Some c.args.options.now.tools.now))
     (program_input (option_map (λ n. n.now) c.args.options.now.program) ∷ []) _ _ (unread_by c.in_err-shop.field-0.0) c.in_err-shop.ensures.unread)
@@ -109,7 +109,7 @@ returns-in_err-shop-clause-unread g c =
 pub returns-in_err-report_all_faults-clause-unread : goal.returns-in_err-report_all_faults-clause-unread
 returns-in_err-report_all_faults-clause-unread g c =
     let program = option_map (λ n. n.now) c.args.options.now.program in
-    unread_told (SourceFails g.F.R.Source.remaining g.F.R.Source.failures) (g.F.Files.bytes c.args.files.now) (report_inputs c.args.options.now) _ _ _
+    unread_told (SourceFails g.F.R.Source.remaining g.F.R.Source.failures) (g.F.Files.bytes c.args.files.now) (own_report_inputs c.args.options.now) _ _ _
     c.in_err-report_all_faults.field-0.0 c.from_residual-in_err-report_all_faults.ensures.1
     (told_behind (SourceFails g.F.R.Source.remaining g.F.R.Source.failures) (g.F.Files.bytes c.args.files.now) (g.F.Files.bytes c.read_placed_reporting.new.files)
     (shop_inputs (Some c.args.options.now.machine.now) (Some c.args.options.now.tools.now)) OfProgram program [] _ _ _
@@ -120,7 +120,7 @@ returns-in_err-report_all_faults-clause-unread g c =
 
 pub returns-in_err-source-clause-unread : goal.returns-in_err-source-clause-unread
 returns-in_err-source-clause-unread g c =
-    unread_told (SourceFails g.F.R.Source.remaining g.F.R.Source.failures) (g.F.Files.bytes c.args.files.now) (report_inputs c.args.options.now) _ _ _
+    unread_told (SourceFails g.F.R.Source.remaining g.F.R.Source.failures) (g.F.Files.bytes c.args.files.now) (own_report_inputs c.args.options.now) _ _ _
     (answers.Input c.in_err-source.field-0.0) c.from_residual-in_err-source.ensures.1
     (unopened (SourceFails g.F.R.Source.remaining g.F.R.Source.failures) (g.F.Files.bytes c.args.files.now)
     (shop_inputs (Some c.args.options.now.machine.now) (Some c.args.options.now.tools.now)) OfProgram

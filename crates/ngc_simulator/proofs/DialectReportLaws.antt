@@ -1,0 +1,68 @@
+-- The report of a program for another control, from the results of its parts.
+use Rattle.std.proofs.Common.{◌≡◌, ℕ, List, [], ◌∷◌, Option, Some, None, Bool, true, false, Result, Ok, Err, IfErr, IfOk, ap, inr, refl, subst, sym, ◌∙◌}
+use Rattle.std.specs.Prelude.{◌||◌, is_some, option_map, MatchResult}
+use Rattle.std.specs.List.{list_any}
+use Rattle.std.specs.Io.KnownBytes.{Keeps}
+use Rattle.ngc_canonical.specs.State.{Setup}
+use Rattle.ngc_commands.specs.declared.command.Command.{Command}
+use Rattle.ngc_dialect_execution.specs.Program.{meaning_in}
+use Rattle.ngc_dialect_reader.specs.declared.dialect.Dialect.{Dialect}
+use Rattle.ngc_frames.specs.declared.history.FrameHistory.{FrameHistory}
+use Rattle.ngc_inputs.specs.Unread.{unread_by}
+use Rattle.ngc_inputs.specs.declared.fault.AnswerFault.{AnswerFault}
+use Rattle.ngc_inputs.specs.declared.fault.AnswerFault.TheVariants as answers
+use Rattle.ngc_certificate.specs.declared.fault.MakeFault.TheVariants.{Memory, NotCleared}
+use Rattle.ngc_job.specs.Job.{JobData, commands_in}
+use Rattle.ngc_line_reader.specs.Program.{split_lines}
+use Rattle.ngc_program_report.specs.Framed.{FramedData, framed_in}
+use Rattle.ngc_program_report.specs.declared.framed.FramedJob.{FramedJob}
+use Rattle.ngc_program_report.specs.Reported.{other_lines}
+use Rattle.ngc_program_report.specs.declared.request.ReportRequest.{ReportRequest}
+use Rattle.ngc_command_line.specs.declared.options.ReportOptions.{ReportOptions}
+use Rattle.ngc_inputs.specs.Setups.{FileBytes}
+use Rattle.ngc_simulator.specs.Answers.{DialectReportResult, DialectReportsOn, StopsReport, requested_form}
+use Rattle.ngc_simulator.specs.Mistaken.{ReportsPlacedRefusal}
+use Rattle.ngc_simulator.specs.DialectReports.{IsFramedDialect, ReportsDialect, begins_with_slash, dialect_frames, has_deleted}
+use Rattle.ngc_simulator.specs.Dialects.{NotesFault, NotesRefusal}
+use Rattle.ngc_simulator.specs.Reporting.{ReportsJob}
+use Rattle.ngc_simulator.specs.declared.done.Done.{Done}
+use Rattle.ngc_simulator.specs.declared.done.Done.TheVariants.{Quietly, WithNotes}
+use Rattle.ngc_simulator.specs.declared.done.Notes.{Notes}
+use Rattle.ngc_certificate_text.specs.declared.piece.Setting.TheVariants.{Off, On}
+
+-- ---- the report
+
+-- what holds of the job that was made
+pub of_framed : {A : Type 0} (P : FramedData → Type 0) (Q : Notes → Type 0) (r : Result (FramedJob A) Notes) (f : FramedJob A) → r ≡ Ok f
+    → MatchResult r (λ x. P (framed_in x)) Q → P (framed_in f)
+of_framed {A} P Q r f is holds = subst (λ (x : Result (FramedJob A) Notes). MatchResult x (λ y. P (framed_in y)) Q) is holds
+
+-- a report that isn't written whole
+pub dialect_stopped : (d : Dialect) (setup : Setup) (source : List ℕ) (request : ReportRequest) (f : FramedData) (old new : Option (List ℕ)) (fault : AnswerFault)
+    → IsFramedDialect d setup source f → ReportsJob f (other_lines source) request old new (Err fault) → ReportsDialect d setup source request old new (Err fault)
+dialect_stopped d setup source request f old new answers.Memory framed tells = absurd tells
+dialect_stopped d setup source request f old new _ framed tells = (f, framed, tells)
+
+-- no file was left unread
+pub report_read : (d : Dialect) (setup : Setup) (source : List ℕ) (request : ReportRequest) (old new : Option (List ℕ)) (outcome : Result Done AnswerFault) →
+    ReportsDialect d setup source request old new outcome → IfErr outcome (λ fault. unread_by fault ≡ None)
+report_read d setup source request old new (Ok done) tells = tt
+report_read d setup source request old new (Err (answers.Input e)) tells = absurd tells.2
+report_read d setup source request old new (Err (answers.Read e)) tells = absurd tells.2
+report_read d setup source request old new (Err (answers.Certificate e)) tells = absurd tells.2
+report_read d setup source request old new (Err _) tells = refl
+
+-- ---- its files
+
+-- a machine file or a tool table that is refused, or a file that isn't read
+pub stops_report : (control : List ℕ) (bytes : FileBytes) (options : ReportOptions) (old new : Option (List ℕ)) (fault : AnswerFault)
+    → ReportsPlacedRefusal (requested_form options.json) bytes (Some options.machine.now) (Some options.tools.now) options.changes old new fault
+    → StopsReport control bytes options old new fault
+stops_report control bytes options old new answers.UnknownControl refuses = absurd refuses.0
+stops_report control bytes options old new _ refuses = refuses
+
+-- a report that is made of files that were read
+pub dialect_reported : (control : List ℕ) (bytes : FileBytes) (options : ReportOptions) (old new : Option (List ℕ)) (outcome : Result Done AnswerFault)
+    → DialectReportsOn control bytes options old new outcome → DialectReportResult control bytes options old new outcome
+dialect_reported control bytes options old new (Ok done) does = does
+dialect_reported control bytes options old new (Err fault) does = inr does

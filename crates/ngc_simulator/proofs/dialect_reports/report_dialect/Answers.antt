@@ -1,0 +1,49 @@
+use Rattle.std.proofs.Common.{ℕ, List, Option, Some, inl, ap, subst, sym, ◌∙◌}
+use Rattle.std.specs.Prelude.{option_map}
+use Rattle.ngc_canonical.specs.Interpreter.{setup_of}
+use Rattle.ngc_inputs.specs.Setups.{FileBytes}
+use Rattle.ngc_inputs.specs.Unread.{SourceFails}
+use Rattle.ngc_inputs.proofs.UnreadLaws.{unread_told}
+use Rattle.ngc_program_report.specs.declared.request.ReportRequest.{ReportRequest}
+use Rattle.ngc_report.proofs.Converted.{turned}
+use Rattle.ngc_simulator.specs.Answers.{DialectReportResult, report_inputs_in, request_of}
+use Rattle.ngc_simulator.specs.DialectReports.{ReportsDialect}
+use Rattle.ngc_simulator.proofs.DialectLaws.{all_were_read, on_read}
+use Rattle.ngc_simulator.proofs.DialectReportLaws.{dialect_reported, report_read}
+use Rattle.ngc_simulator.proofs.dialect_reports.report_dialect.Goals as goal
+
+pub returns-in_err-sent-clause-comes : goal.returns-in_err-sent-clause-comes
+returns-in_err-sent-clause-comes g c =
+    turned _ c.in_err-sent.field-0.0
+    (DialectReportResult c.args.control.now (g.F.Files.bytes c.args.files.now) c.args.options.now (g.W.Sink.written c.args.output.now)
+    (g.W.Sink.written c.read_sent_reporting.new.output)) c.from_residual.ensures.1 (inl c.in_err-sent.ensures.stops)
+
+pub returns-in_err-sent-clause-unread : goal.returns-in_err-sent-clause-unread
+returns-in_err-sent-clause-unread g c =
+    unread_told (SourceFails g.F.R.Source.remaining g.F.R.Source.failures) (g.F.Files.bytes c.args.files.now)
+    (report_inputs_in (Some c.args.control.now) c.args.options.now) _ _ _ c.in_err-sent.field-0.0 c.from_residual.ensures.1 c.in_err-sent.ensures.unread
+
+pub returns-clause-comes : goal.returns-clause-comes
+returns-clause-comes g c =
+    let old : Option (List ℕ) = g.W.Sink.written c.args.output.now in
+    let new : Option (List ℕ) = g.W.Sink.written c.report_sent.new.output in
+    let machine : Option (List ℕ) = Some c.args.options.now.machine.now in
+    let tools : Option (List ℕ) = Some c.args.options.now.tools.now in
+    let bytes : FileBytes = g.F.Files.bytes c.args.files.now in
+    let sent = c.in_ok-sent.sent in
+    let setup = setup_of sent.shop.machine sent.shop.tools in
+    let outcome = c.report_sent.result in
+    let reports = subst (λ (r : ReportRequest). ReportsDialect sent.dialect setup sent.text.items r (g.W.Sink.written c.read_sent_reporting.new.output) new outcome)
+    c.request_of.ensures c.report_sent.ensures.reports in
+    dialect_reported c.args.control.now bytes c.args.options.now old new outcome
+    (on_read c.args.control.now machine tools c.args.options.now.changes (option_map (λ n. n.now) c.args.options.now.program) bytes sent
+    (λ d s source. ReportsDialect d s source (request_of c.args.options.now) old new outcome) c.in_ok-sent.ensures.sent.0
+    (subst (λ (o : Option (List ℕ)). ReportsDialect sent.dialect setup sent.text.items (request_of c.args.options.now) o new outcome)
+    c.in_ok-sent.ensures.sent.1 reports))
+
+pub returns-clause-unread : goal.returns-clause-unread
+returns-clause-unread g c =
+    let sent = c.in_ok-sent.sent in
+    all_were_read (SourceFails g.F.R.Source.remaining g.F.R.Source.failures) (g.F.Files.bytes c.args.files.now)
+    (report_inputs_in (Some c.args.control.now) c.args.options.now) _ _ c.report_sent.result c.in_ok-sent.ensures.unread
+    (report_read sent.dialect (setup_of sent.shop.machine sent.shop.tools) sent.text.items c.request_of.result _ _ c.report_sent.result c.report_sent.ensures.reports)

@@ -1,0 +1,64 @@
+-- The report of a program for another control. Our own.
+use Rattle.std.specs.Prelude.{◌≡◌, ◌==◌, ℕ, List, Option, Some, None, is_some, Result, Ok, Err, Bool}
+use Rattle.std.specs.Prelude.{true, false}
+use Rattle.std.specs.List.{list_any}
+use Rattle.std.specs.Io.KnownBytes.{Keeps}
+use Rattle.ngc_canonical.specs.State.{Setup}
+use Rattle.ngc_dialect_execution.specs.Program.{changes_in, meaning_in}
+use Rattle.ngc_dialect_execution.specs.Text.{first_byte}
+use Rattle.ngc_dialect_reader.specs.declared.dialect.Dialect.{Dialect}
+use Rattle.ngc_frames.specs.Changes.{start_frame}
+use Rattle.ngc_inputs.specs.declared.fault.AnswerFault.{AnswerFault}
+use Rattle.ngc_inputs.specs.declared.fault.AnswerFault.TheVariants as answers
+use Rattle.ngc_job.specs.Job.{commands_in}
+use Rattle.ngc_line_reader.specs.Program.{split_lines}
+use Rattle.ngc_program_report.specs.Coordinates.{History, history_of}
+use Rattle.ngc_program_report.specs.Framed.{FramedData}
+use Rattle.ngc_program_report.specs.Reported.{other_lines}
+use Rattle.ngc_program_report.specs.declared.request.ReportRequest.{ReportRequest}
+use Rattle.ngc_simulator.specs.Dialects.{NotesRefusal}
+use Rattle.ngc_simulator.specs.Reporting.{ReportsJob}
+use Rattle.ngc_simulator.specs.declared.done.Done.{Done}
+use Rattle.ngc_simulator.specs.declared.done.Done.TheVariants.{Quietly, RunThrough, WithNotes}
+
+-- the first byte of a line that isn't white space is `/`
+abbrev pub is_slash : Option ℕ → Bool
+is_slash None = false
+is_slash (Some byte) = byte == 47
+
+abbrev pub begins_with_slash : List ℕ → Bool
+begins_with_slash line = is_slash (first_byte line)
+
+-- a line of a text begins with `/`
+abbrev pub has_deleted : List ℕ → Bool
+has_deleted source = list_any begins_with_slash (split_lines source)
+
+-- the frames of a program's text at a setting of block delete
+abbrev pub dialect_frames : Dialect → Setup → Bool → List ℕ → History
+dialect_frames d setup block_delete source =
+    history_of (start_frame setup) (changes_in d setup block_delete source)
+
+-- The job of a program's text, with the frames of its commands: what the text means at both settings of
+-- block delete, or only with block delete off if no line begins with `/`.
+pub record IsFramedDialect (d : Dialect) (setup : Setup) (source : List ℕ) (f : FramedData) : Type 0
+  where
+    pub machine : f.job.machine ≡ setup.machine
+    pub tools : f.job.tools ≡ setup.tools
+    pub off : meaning_in d setup false source ≡ Ok f.job.off
+    pub on : meaning_in d setup (has_deleted source) source ≡ Ok (commands_in true f.job)
+    pub apart : is_some f.job.on ≡ has_deleted source
+    pub off_frames : f.off ≡ dialect_frames d setup false source
+    pub on_frames : f.on ≡ dialect_frames d setup (has_deleted source) source
+
+-- The report of a program's job was written, which quotes the lines of its text; a refused program leaves
+-- the output unchanged, and notes say why. Lack of memory shows nothing.
+abbrev pub ReportsDialect : Dialect → Setup → List ℕ → ReportRequest → Option (List ℕ) →
+    Option (List ℕ) → Result Done AnswerFault → Type 0
+ReportsDialect d setup source request old new (Ok Quietly) = (f : FramedData) ×
+    IsFramedDialect d setup source f × ReportsJob f (other_lines source) request old new (Ok tt)
+ReportsDialect d setup source request old new (Ok (RunThrough time)) = ⊥
+ReportsDialect d setup source request old new (Ok (WithNotes notes)) =
+    NotesRefusal d setup source notes × Keeps old new
+ReportsDialect d setup source request old new (Err answers.Memory) = Keeps old new
+ReportsDialect d setup source request old new (Err fault) = (f : FramedData) ×
+    IsFramedDialect d setup source f × ReportsJob f (other_lines source) request old new (Err fault)

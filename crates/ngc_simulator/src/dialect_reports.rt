@@ -1,0 +1,206 @@
+//! Reports of programs for other controls.
+ghost use Rattle.std.specs.Prelude.{◌≡◌, ◌∷◌, ◌≤◌, ◌<◌, IfErr, IfOk, IfSome, MatchResult, Some};
+ghost use Rattle.std.specs.Prelude.{length};
+ghost use Rattle.ngc_canonical.specs.Interpreter.{setup_of};
+ghost use Rattle.ngc_dialect_execution.specs.Program.{meaning_in};
+ghost use Rattle.ngc_dialect_execution.specs.Text as spec;
+ghost use Rattle.ngc_inputs.specs.Faults.{FailsByOutput};
+ghost use Rattle.ngc_inputs.specs.Unread.{FailsByInput, SourceFails};
+ghost use Rattle.ngc_job.specs.Job.{AreCommands};
+ghost use Rattle.ngc_line_reader.specs.Program.{split_lines};
+ghost use Rattle.ngc_machine_files.specs.Machine.{file_of};
+ghost use Rattle.ngc_program_report.specs.Framed.{framed_in, history_in};
+ghost use Rattle.ngc_simulator.specs.Answers.{DialectReportResult, report_inputs_in};
+ghost use Rattle.ngc_simulator.specs.DialectReports.{IsFramedDialect, ReportsDialect};
+ghost use Rattle.ngc_simulator.specs.DialectReports.{begins_with_slash, dialect_frames};
+ghost use Rattle.ngc_simulator.specs.DialectReports.{has_deleted};
+ghost use Rattle.ngc_simulator.specs.Dialects.{NotesFault, NotesRefusal, is_on};
+
+use crate::dialects::{Sent, read_sent_reporting, refused};
+use crate::done::{Done, Notes};
+use crate::reporting::report_job;
+use crate::reporting_files::request_of;
+use memchr::memchr;
+use ngc_certificate_text::Setting;
+use ngc_command_line::ReportOptions;
+use ngc_dialect_execution::{DialectFault, interpret_dialect_with_frames};
+use ngc_dialect_reader::Dialect;
+use ngc_frames::FramedCommands;
+use ngc_inputs::{AnswerFault, Files, Shop};
+use ngc_job::Job;
+use ngc_program_report::{FramedJob, ReportRequest, ReportedText};
+use ngc_text::Sink;
+use std::alloc::Global;
+
+// Returns the first line of a text, and what follows its line feed.
+fn first_line(text: &[u8]) -> (&[u8], &[u8])
+    requires { 1 ≤ length text.now }
+    ensures lines { split_lines text.now ≡ result.0.now ∷ split_lines result.1.now }
+    ensures shorter { length result.1.now < length text.now }
+{
+    match memchr(b'\n', text) {
+        Some(end) => (&text[..end], &text[end + 1..]),
+        None => (text, &text[text.len()..]),
+    }
+}
+
+fn is_blank(byte: u8) -> bool
+    ensures { result ≡ spec.is_blank byte }
+{
+    byte == b' ' || byte == b'\t' || byte == b'\r'
+}
+
+// Returns the first byte of a line that isn't white space.
+fn first_byte(line: &[u8]) -> Option<u8>
+    ensures { result ≡ spec.first_byte line.now }
+{
+    line.iter().copied().find(|byte| !is_blank(*byte))
+}
+
+fn begins_with_slash(line: &[u8]) -> bool
+    ensures { result ≡ begins_with_slash line.now }
+{
+    match first_byte(line) {
+        None => false,
+        Some(byte) => byte == b'/',
+    }
+}
+
+// Returns whether a line of a text begins with `/`.
+fn has_deleted_lines(text: &[u8]) -> bool
+    ensures { result ≡ has_deleted text.now }
+{
+    let mut rest = text;
+    while !rest.is_empty() {
+        let (line, after) = first_line(rest);
+        if begins_with_slash(line) {
+            return true;
+        }
+        rest = after;
+    }
+    false
+}
+
+fn is_on(setting: Setting) -> bool
+    ensures { result ≡ is_on setting }
+{
+    match setting {
+        Setting::Off => false,
+        Setting::On => true,
+    }
+}
+
+// Executes a program at a setting of block delete, and returns its commands and their frames, or notes
+// on why it is refused.
+fn framed_at(
+    alloc: Global,
+    dialect: Dialect,
+    text: &[u8],
+    shop: &Shop,
+    setting: Setting,
+) -> Result<Result<FramedCommands<Global>, Notes>, AnswerFault>
+    ensures executed { IfOk result (λ made. MatchResult made
+        (λ f. (meaning_in dialect (setup_of shop.now.machine shop.now.tools) (is_on setting) text.now
+        ≡ Ok f.commands.items)
+        × ((history_in f.frames ≡ dialect_frames dialect
+        (setup_of shop.now.machine shop.now.tools) (is_on setting) text.now)
+        × AreCommands (file_of shop.now.machine).start f.commands.items))
+        (NotesFault dialect (setup_of shop.now.machine shop.now.tools) (is_on setting) text.now
+        (Some setting))) }
+    ensures fault { IfErr result (λ e. e ≡ AnswerFault.Memory) }
+{
+    match interpret_dialect_with_frames(
+        alloc,
+        dialect,
+        text,
+        &shop.machine,
+        &shop.tools,
+        is_on(setting),
+    ) {
+        Ok(framed) => Ok(Ok(framed)),
+        Err(DialectFault::Memory) => Err(AnswerFault::Memory),
+        Err(DialectFault::At { line, cause }) => {
+            let notes = refused(alloc, Some(setting), line, &cause)?;
+            Ok(Err(notes))
+        }
+    }
+}
+
+// Returns the job of a program with the frames of its commands, or notes on why it is refused. If no
+// line begins with `/`, it is executed once.
+fn framed_dialect(
+    alloc: Global,
+    dialect: Dialect,
+    text: &[u8],
+    shop: Shop,
+) -> Result<Result<FramedJob<Global>, Notes>, AnswerFault>
+    ensures framed { IfOk result (λ made. MatchResult made
+        (λ f. IsFramedDialect dialect (setup_of shop.machine shop.tools) text.now (framed_in f))
+        (NotesRefusal dialect (setup_of shop.machine shop.tools) text.now)) }
+    ensures fault { IfErr result (λ e. e ≡ AnswerFault.Memory) }
+{
+    let off = match framed_at(alloc, dialect, text, &shop, Setting::Off)? {
+        Ok(off) => off,
+        Err(notes) => return Ok(Err(notes)),
+    };
+    if !has_deleted_lines(text) {
+        let Shop { machine, tools } = shop;
+        let job = Job::from_commands(machine, tools, off.commands, None);
+        let (off, on) = (off.frames, None);
+        return Ok(Ok(FramedJob { job, off, on }));
+    }
+    let on = match framed_at(alloc, dialect, text, &shop, Setting::On)? {
+        Ok(on) => on,
+        Err(notes) => return Ok(Err(notes)),
+    };
+    let Shop { machine, tools } = shop;
+    let job = Job::from_commands(machine, tools, off.commands, Some(on.commands));
+    let (off, on) = (off.frames, Some(on.frames));
+    Ok(Ok(FramedJob { job, off, on }))
+}
+
+// Writes the report of a program, or returns notes on why it is refused.
+fn report_sent<W: Sink>(
+    alloc: Global,
+    sent: Sent,
+    request: ReportRequest,
+    output: &mut W,
+) -> Result<Done, AnswerFault>
+    ensures reports { ReportsDialect sent.dialect (setup_of sent.shop.machine sent.shop.tools)
+        sent.text.items request (W.written output.old) (W.written output.new) result }
+    ensures sink { FailsByOutput result (W.failures output.old) (W.failures output.new) }
+{
+    let Sent {
+        dialect,
+        shop,
+        text,
+    } = sent;
+    match framed_dialect(alloc, dialect, text.as_slice(), shop)? {
+        Ok(framed) => {
+            let text = ReportedText::Other(text.as_slice());
+            report_job(alloc, &text, framed, request, output)?;
+            Ok(Done::Quietly)
+        }
+        Err(notes) => Ok(Done::WithNotes(notes)),
+    }
+}
+
+/// Writes the report of a program for a control. If a machine file or a tool table is refused, its
+/// mistake is written. Notes say why a program is refused.
+pub(crate) fn report_dialect<F: Files, W: Sink>(
+    alloc: Global,
+    control: &str,
+    options: &ReportOptions<'_>,
+    files: &mut F,
+    output: &mut W,
+) -> Result<Done, AnswerFault>
+    ensures comes { DialectReportResult control.now (F.bytes files.old) options.now
+        (W.written output.old) (W.written output.new) result }
+    ensures unread { FailsByInput (SourceFails F.R.remaining F.R.failures) (F.bytes files.old)
+        (report_inputs_in (Some control.now) options.now) (F.failures files.old)
+        (F.failures files.new) result }
+    ensures sink { FailsByOutput result (W.failures output.old) (W.failures output.new) }
+{
+    let sent = read_sent_reporting(alloc, control, options, files, output)?;
+    report_sent(alloc, sent, request_of(options), output)
+}
