@@ -53,7 +53,7 @@ pub(crate) fn dialects() -> &'static [Row]
             number: 137,
             rule: "Calls are nested over 10 deep, or over 32 loops are open: use fewer (our own).",
             example: "command with `--dialect linuxcnc`: `o1 sub`, `o1 call`, `o1 endsub`, `o1 call`",
-            answer: "`ngc: fault 137 line 2: subprograms are nested over 10 deep`",
+            answer: "`ngc: fault 137 line 2: subprograms nested over 10 deep`",
             place: None,
             mend: "A subprogram that calls itself needs a condition that ends it.",
         },
