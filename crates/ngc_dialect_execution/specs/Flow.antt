@@ -148,8 +148,8 @@ then_on setup line p changes (Err e) rest = Err e
 abbrev pub number_at : FlowProgress → ℕ
 number_at r = number_of (r.flow.line + 1)
 
--- A program from the line on that is next, where so many lines may still be executed, and these are
--- the changes of the frame so far.
+-- A program from the line on that is next, where `fuel` lines may still be executed, and these are the
+-- changes of the frame so far.
 unfoldable pub flow_taken : Setup → Bool → Plan → ProgramLines → ℕ → FlowProgress →
     List FrameChange → Outcome
 flow_taken setup block_delete plan program zero r changes =

@@ -37,7 +37,7 @@ mark_of before d (Some byte) = if byte == 37 then percent_mark before d else IsL
 abbrev pub counted : ℕ → ℕ
 counted count = min (count + 1) 18446744073709551615
 
--- the number of the last of so many lines; the numbers of lines end at 4,294,967,295
+-- the number of the last of `count` lines; the numbers of lines end at 4,294,967,295
 abbrev pub number_of : ℕ → ℕ
 number_of count = min count 4294967295
 

@@ -127,7 +127,7 @@ impl LinesBefore {
     }
 }
 
-/// Returns the number of the last of so many lines.
+/// Returns the number of the last of `count` lines.
 pub(crate) fn number_of(count: usize) -> u32
     ensures { result ≡ spec.number_of count }
 {

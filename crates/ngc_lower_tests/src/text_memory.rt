@@ -36,7 +36,7 @@ const JOBS: &[(Job, &str, usize, usize, usize)] = &[
     (Job::Executed, "G91 G81 X1 Z-1 R0 L2 F100\n", 50, 301, 8_192),
     (
         Job::Executed,
-        "O1 if [1]\nG91 G20 G0 X1\nG21\nO1 endif\n",
+        "O1 if [1]\nG91 G20 G0 X0.1\nG21\nO1 endif\n",
         50,
         51,
         8_192,
