@@ -481,7 +481,7 @@ def keeping(checks, page):
     page.value("localStorage.clear(); 0")
     page.open()
     page.value("document.getElementById('rapids').click(); document.getElementById('colour').value = 'feed'; document.getElementById('speed').value = '100'; document.getElementById('query').value = 'g1'; 0")
-    page.browser.value("location.reload(); 0")
+    page.browser.value("window.reloaded = true; location.reload(); 0")
     page.wait("document.documentElement?.dataset.ready === 'true' && !window.reloaded && typeof ngc === 'object'")
     page.settle()
     shown = page.value("[document.getElementById('rapids').checked, document.getElementById('colour').value, document.getElementById('speed').value, document.getElementById('query').value, document.getElementById('example').value]")
@@ -570,7 +570,7 @@ def machine_and_zero(checks, page):
 
 
 def cuts(checks, page):
-    page.open()
+    page.example("slot.ngc")
     # The line passes the corner of the left clamp at X 30, Y 80 by 1.4 mm. Its box, and each eighth of it, has the corner inside.
     slanted = "G21 G53 G0 X0 Y108\nG53 Z-70\nG53 X107 Y1\nM2\n"
     page.give({"slanted.ngc": slanted})
