@@ -593,8 +593,9 @@ def cuts(checks, page):
     page.edit(3, "G53 X107 Y2")
     page.settle()
     checks.equal("an edit keeps them", page.value("ngc.store.state.cuts"), 64)
-    page.example("low_slot.ngc")
+    page.give({"another.ngc": slanted})
     checks.equal("another program has 8 cuts again", page.value("ngc.store.state.cuts"), None)
+    page.example("low_slot.ngc")
     checks.expect("a motion along one axis has no button for more cuts", "cuts" not in page.text("verdict-actions"), page.text("verdict-actions"))
     page.example("slot.ngc")
 
