@@ -52,7 +52,7 @@ named name value k = record k {
   locals = if is_global name then k.locals else counted (k.names name) k.locals;
 }
 
--- whether there is space for a name: one that is set, or one of the first 10,000
+-- whether there is room for a name: one that is set, or one of the first 10,000
 abbrev pub has_room : List ℕ → Stored → Bool
 has_room name k =
     nat_lt (if is_global name then k.globals else k.locals) NAMES || is_some (k.names name)

@@ -36,14 +36,14 @@ impl<A: Allocator + Clone> Names<A> {
         self.table.get(name).copied()
     }
 
-    // Returns whether there is space for a name: one that is set, or one of the first 10,000.
+    // Returns whether there is room for a name: one that is set, or one of the first 10,000.
     pub(crate) fn has_room(&self, name: &[u8]) -> bool
         ensures { result ≡ (nat_lt (spec.count_in self.now) 10000 || is_some (spec.value_in self.now name.now)) }
     {
         self.count < MOST || self.value(name).is_some()
     }
 
-    // Returns how many names there are after a name is set for which there is space.
+    // Returns how many names there are after a name is set for which there is room.
     fn count_with(&self, name: &[u8]) -> usize
         requires { (nat_lt (spec.count_in self.now) 10000 || is_some (spec.value_in self.now name.now)) ≡ true }
         ensures { result ≡ counted (spec.value_in self.now name.now) (spec.count_in self.now) }
@@ -54,7 +54,7 @@ impl<A: Allocator + Clone> Names<A> {
         }
     }
 
-    // Sets a name for which there is space. The only error is refused memory.
+    // Sets a name for which there is room. The only error is refused memory.
     pub(crate) fn set(&mut self, alloc: A, name: &[u8], value: Number) -> Result<(), AllocError>
         requires { (nat_lt (spec.count_in self.old) 10000 || is_some (spec.value_in self.old name.now)) ≡ true }
         ensures values { OnOk result ((other : List ℕ) → spec.value_in self.new other

@@ -104,7 +104,7 @@ impl<A: Allocator + Copy> Parameters<A> {
         }
     }
 
-    // Returns whether there is space for a name.
+    // Returns whether there is room for a name.
     fn has_room(&self, name: &[u8]) -> bool
         ensures { result ≡ spec.has_room name.now (stored_in self.now) }
     {
@@ -115,7 +115,7 @@ impl<A: Allocator + Copy> Parameters<A> {
         }
     }
 
-    // Sets a name for which there is space.
+    // Sets a name for which there is room.
     fn store_name(&mut self, name: &[u8], value: Number) -> Result<(), AllocError>
         requires { spec.has_room name.now (stored_in self.old) ≡ true }
         ensures set { OnOk result (stored_in self.new ≡ spec.named name.now value (stored_in self.old)) }
