@@ -61,8 +61,8 @@ lowered s t r z old new Left stock near low b = record {
 step_within : (k m j n : ℕ) → 0 < n → j * n ≤ (k + 1) * m → k < n → j ≤ m
 step_within k m j n some h small =
     elim (cases_lt m j) [
-      | inl more ↦ (let a : (m + 1) * n ≤ j * n = mul-le (m + 1) n j n more (omega arith) in
-          let b : (k + 1) * m ≤ n * m = mul-le (k + 1) m n m small (omega arith) in
+      | inl more ↦ (let a : (m + 1) * n ≤ j * n = mul-le (m + 1) n j n (omega arith) (omega arith) in
+          let b : (k + 1) * m ≤ n * m = mul-le (k + 1) m n m (omega arith) (omega arith) in
           absurd (omega (arith, a, b, h, some)))
       | inr less ↦ less
     ]
@@ -142,8 +142,8 @@ part_of n m j some more small =
           let below : i * m ≤ j * n = omega arith in
           let past : j * n < (i + 1) * m = omega arith in
           let lt : i < n = elim (cases_lt i n) [
-            | inl yes ↦ yes
-            | inr no ↦ (let a : n * m ≤ i * m = mul-le n m i m no (omega arith) in let b : n * (j + 1) ≤ n * m = mul-le n (j + 1) n m (omega arith) less in absurd (omega (arith, a, b, below, some)))
+            | inl good ↦ good
+            | inr bad ↦ (let a : n * m ≤ i * m = mul-le n m i m bad (omega arith) in let b : n * (j + 1) ≤ n * m = mul-le n (j + 1) n m (omega arith) (omega arith) in absurd (omega (arith, a, b, below, some)))
           ] in
           (i, lt, below, omega arith))
       | inr all ↦ (
