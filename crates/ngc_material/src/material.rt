@@ -95,7 +95,7 @@ fn touch_on(
 }
 
 /// Returns where a traverse may touch material deepest, or `None` if it touches none.
-fn touch(stock: &Stock, heights: &[u32], tool: &Tool, line: &Line) -> Option<Touch>
+fn deepest_touch(stock: &Stock, heights: &[u32], tool: &Tool, line: &Line) -> Option<Touch>
     requires heights { AreHeights stock.now heights.now }
     requires line { IsReached line.now.start line.now.end }
     ensures none { IfNone result (IsClear stock.now tool.now line.now.start line.now.end heights.now) }
@@ -179,7 +179,7 @@ impl<A: Allocator> Material<A> {
     {
         match pace {
             Pace::Rapid => {
-                let touch = touch(&self.stock, self.heights.as_slice(), tool, line);
+                let touch = deepest_touch(&self.stock, self.heights.as_slice(), tool, line);
                 if touch.is_some() {
                     cut(&self.stock, self.heights.as_mut_slice(), tool, line);
                 }
