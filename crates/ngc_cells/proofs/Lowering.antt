@@ -52,16 +52,16 @@ row_lowered g s r level row first end span start old new known inside before aft
           let e = rest k late in
           record {
             near = λ h.
-              let q = n.1 (subst (λ (x : ℕ). IsNear s r (centre g x)) (sym p.2) h) in
-              inside k (omega (arith, p.2, q.0)) (omega (arith, p.2, q.1)) ∙ ap (λ (x : ℕ). min x level) e;
+                let q = n.1 (subst (λ (x : ℕ). IsNear s r (centre g x)) (sym p.2) h) in
+                inside k (omega (arith, p.2, q.0)) (omega (arith, p.2, q.1)) ∙ ap (λ (x : ℕ). min x level) e;
             other = λ f.
-              elim (cases_lt i first) [
-                | inl low ↦ before k (omega (arith, p.2)) ∙ e
-                | inr high ↦ elim (cases_lt i end) [
-                  | inl within ↦ absurd (f (subst (λ (x : ℕ). IsNear s r (centre g x)) p.2 (n.0 (high, within))))
-                  | inr past ↦ after k (omega (arith, p.2)) ∙ e
-                ]
-              ];
+                elim (cases_lt i first) [
+                  | inl low ↦ before k (omega (arith, p.2)) ∙ e
+                  | inr high ↦ elim (cases_lt i end) [
+                    | inl within ↦ absurd (f (subst (λ (x : ℕ). IsNear s r (centre g x)) p.2 (n.0 (high, within))))
+                    | inr past ↦ after k (omega (arith, p.2)) ∙ e
+                  ]
+                ];
           })
     ]
 

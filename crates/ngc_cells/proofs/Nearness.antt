@@ -116,14 +116,14 @@ cases_core : (n k m j r : ℕ) (dx dy wx wy : ℤ) → 0 < m → k * m ≤ j * n
 cases_core n k m j r dx dy wx wy some first last h =
     by_lt_z (pos 0) (across (pos n) (pos k) dx dy wx wy)
     (λ ahead. by_lt_z (across (pos n) (pos k) dx dy wx wy) (long dx dy)
-      (λ before. inr (inr (ahead, before)))
-      (λ past.
-        let next = next_across n k dx dy wx wy in
-        inr (inl (nearer n (k + 1) m j r dx dy wx wy some
-          (product_least ((pos m *ℤ pos (k + 1)) -ℤ (pos n *ℤ pos j)) (across (pos n) (pos (k + 1)) dx dy wx wy) (omega (arith, ints, last)) (omega (arith, ints, next, past)))
-          h))))
+    (λ before. inr (inr (ahead, before)))
+    (λ past.
+    let next = next_across n k dx dy wx wy in
+    inr (inl (nearer n (k + 1) m j r dx dy wx wy some
+    (product_least ((pos m *ℤ pos (k + 1)) -ℤ (pos n *ℤ pos j)) (across (pos n) (pos (k + 1)) dx dy wx wy) (omega (arith, ints, last)) (omega (arith, ints, next, past)))
+    h))))
     (λ behind. inl (nearer n k m j r dx dy wx wy some
-      (same_signs ((pos m *ℤ pos k) -ℤ (pos n *ℤ pos j)) (across (pos n) (pos k) dx dy wx wy) (omega (arith, ints, first)) behind) h))
+    (same_signs ((pos m *ℤ pos k) -ℤ (pos n *ℤ pos j)) (across (pos n) (pos k) dx dy wx wy) (omega (arith, ints, first)) behind) h))
 
 places : (n k m j : ℕ) (c l : ℤ) → c ≡ (pos n *ℤ pos j) -ℤ (pos k *ℤ pos m) → l ≡ pos m → pos 0 <ℤ c → c <ℤ l → (0 < m) × (k * m ≤ j * n) × (j * n ≤ (k + 1) * m)
 places n k m j c l e f after before = (omega (arith, ints, e, f, after, before), omega (arith, ints, e, after), omega (arith, ints, e, f, before))
@@ -142,9 +142,9 @@ foot_core n k r dx dy wx wy after before close =
     let ln = natural l (long_least dx dy) in
     let kl = product_least (pos k) l (omega (arith, ints)) (long_least dx dy) in
     let tp : pos 0 ≤ℤ t = by_lt_z t (pos 0) (λ less.
-        let q = times_most (pos n) t (pos 0) (omega (arith, ints)) (omega (arith, ints, less)) in
-        let z : pos n *ℤ pos 0 ≡ pos 0 = omega (arith, ints) in
-        absurd (omega (arith, ints, q, z, e, kl, after))) (λ more. more) in
+    let q = times_most (pos n) t (pos 0) (omega (arith, ints)) (omega (arith, ints, less)) in
+    let z : pos n *ℤ pos 0 ≡ pos 0 = omega (arith, ints) in
+    absurd (omega (arith, ints, q, z, e, kl, after))) (λ more. more) in
     let tn = natural t tp in
     let m = unsigned_abs l in
     let j = unsigned_abs t in
@@ -215,9 +215,9 @@ between_core n j m i a b r dx dy wx wy h g =
     let p = scaled_in (a * m) n j r dx dy (wx -ℤ pos b) wy h in
     let q = scaled_in (b * n) m i r dx dy (wx +ℤ pos a) wy g in
     let s = sum_most
-        (short (pos ((a * m) * n)) (pos ((a * m) * j)) dx (wx -ℤ pos b)) (short (pos ((a * m) * n)) (pos ((a * m) * j)) dy wy)
-        (short (pos ((b * n) * m)) (pos ((b * n) * i)) dx (wx +ℤ pos a)) (short (pos ((b * n) * m)) (pos ((b * n) * i)) dy wy)
-        (((a * m) * n) * r) (((b * n) * m) * r) p q in
+    (short (pos ((a * m) * n)) (pos ((a * m) * j)) dx (wx -ℤ pos b)) (short (pos ((a * m) * n)) (pos ((a * m) * j)) dy wy)
+    (short (pos ((b * n) * m)) (pos ((b * n) * i)) dx (wx +ℤ pos a)) (short (pos ((b * n) * m)) (pos ((b * n) * i)) dy wy)
+    (((a * m) * n) * r) (((b * n) * m) * r) p q in
     let ex = shared_x (pos n) (pos j) (pos m) (pos i) (pos a) (pos b) dx wx in
     let ey = shared_y (pos n) (pos j) (pos m) (pos i) (pos a) (pos b) dy wy in
     let e : ((a * m) * n) * r + ((b * n) * m) * r ≡ ((a * m) * n + (b * n) * m) * r = omega arith in
@@ -259,15 +259,17 @@ between s r l x h y lx xh pl ph =
           let dx = s.end.x -ℤ s.start.x in
           let dy = s.end.y -ℤ s.start.y in
           let wl : l -ℤ s.start.x ≡ (x -ℤ s.start.x) -ℤ pos b = omega (arith, ints, eb) in
-          let wh : h -ℤ s.start.x ≡ (x -ℤ s.start.x) +ℤ pos a = omega (arith, ints, ea) in
-          ((a * m) * n + (b * n) * m, (a * m) * j + (b * n) * i,
-          record {
-            some = some_sum a b n m some pl.2.some ph.2.some;
-            first = first_share s.part s.parts n j m i a b pl.2.first ph.2.first;
-            last = last_share (s.part + 1) s.parts n j m i a b pl.2.last ph.2.last;
-          },
-          between_core n j m i a b r dx dy (x -ℤ s.start.x) (y -ℤ s.start.y)
-            (subst (λ (w : ℤ). off (pos n) (pos j) dx dy w (y -ℤ s.start.y) ≤ℤ pos ((n * r) * (n * r))) wl pl.3)
-            (subst (λ (w : ℤ). off (pos m) (pos i) dx dy w (y -ℤ s.start.y) ≤ℤ pos ((m * r) * (m * r))) wh ph.3)))
+          let wh : h -ℤ s.start.x ≡ (x -ℤ s.start.x) +ℤ pos a = omega (arith, ints, ea) in (
+            (a * m) * n + (b * n) * m,
+            (a * m) * j + (b * n) * i,
+            record {
+              some = some_sum a b n m some pl.2.some ph.2.some;
+              first = first_share s.part s.parts n j m i a b pl.2.first ph.2.first;
+              last = last_share (s.part + 1) s.parts n j m i a b pl.2.last ph.2.last;
+            },
+            between_core n j m i a b r dx dy (x -ℤ s.start.x) (y -ℤ s.start.y)
+                (subst (λ (w : ℤ). off (pos n) (pos j) dx dy w (y -ℤ s.start.y) ≤ℤ pos ((n * r) * (n * r))) wl pl.3)
+                (subst (λ (w : ℤ). off (pos m) (pos i) dx dy w (y -ℤ s.start.y) ≤ℤ pos ((m * r) * (m * r))) wh ph.3),
+          ))
       | inr none ↦ (let e : l ≡ x = omega (arith, ints, eb, none) in subst (λ (w : ℤ). IsNear s r (spot w y)) e pl)
     ]

@@ -68,7 +68,10 @@ hull_between a b x h g i =
     let l = lowest a b h g in
     let m = highest a b h g in
     record {
-      least = l.0; greatest = m.0; least_in = l.1; greatest_in = m.1;
+      least = l.0;
+      greatest = m.0;
+      least_in = l.1;
+      greatest_in = m.1;
       low = omega (arith, ints, i.low, l.2);
       high = omega (arith, ints, i.high, m.2);
     }

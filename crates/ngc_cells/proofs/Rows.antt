@@ -51,8 +51,8 @@ pub along_zero : (n k dx dy ax rise : ℤ) → (dy *ℤ rise) -ℤ (dx *ℤ ((n 
 along_zero n k dx dy ax rise =
     let e : pos 0 -ℤ ax ≡ neg_ℤ ax = omega (arith, ints) in
     let f = ring (n ∷ k ∷ dx ∷ dy ∷ ax ∷ rise ∷ [])
-        (L (P (V 3) (V 5)) (P (V 2) (S (P (V 0) (V 4)) (P (V 1) (V 2)))))
-        (S (P (V 2) (L (P (V 0) (M (V 4))) (P (V 1) (V 2)))) (P (V 3) (V 5))) refl in
+    (L (P (V 3) (V 5)) (P (V 2) (S (P (V 0) (V 4)) (P (V 1) (V 2)))))
+    (S (P (V 2) (L (P (V 0) (M (V 4))) (P (V 1) (V 2)))) (P (V 3) (V 5))) refl in
     f ∙ ap (λ (z : ℤ). (dx *ℤ ((n *ℤ z) -ℤ (k *ℤ dx))) +ℤ (dy *ℤ rise)) (sym e)
 
 -- ---- spans
@@ -121,8 +121,8 @@ above_ends n k r a b y some small p q =
     let m = n - k in
     let e : n ≡ m + k = omega arith in
     let f = ring (pos m ∷ pos k ∷ a ∷ b ∷ y ∷ pos r ∷ [])
-        (L (L (P (S (V 0) (V 1)) (L (V 4) (V 2))) (P (V 1) (L (V 3) (V 2)))) (P (S (V 0) (V 1)) (V 5)))
-        (S (P (V 0) (L (V 4) (S (V 2) (V 5)))) (P (V 1) (L (V 4) (S (V 3) (V 5))))) refl in
+    (L (L (P (S (V 0) (V 1)) (L (V 4) (V 2))) (P (V 1) (L (V 3) (V 2)))) (P (S (V 0) (V 1)) (V 5)))
+    (S (P (V 0) (L (V 4) (S (V 2) (V 5)))) (P (V 1) (L (V 4) (S (V 3) (V 5))))) refl in
     let g = times_most (pos m) (pos 1) (y -ℤ (a +ℤ pos r)) (omega (arith, ints)) (omega (arith, ints, p)) in
     let h = times_most (pos k) (pos 1) (y -ℤ (b +ℤ pos r)) (omega (arith, ints)) (omega (arith, ints, q)) in
     rw e (omega (arith, ints, f, g, h, some, e))
@@ -132,8 +132,8 @@ below_ends n k r a b y some small p q =
     let m = n - k in
     let e : n ≡ m + k = omega arith in
     let f = ring (pos m ∷ pos k ∷ a ∷ b ∷ y ∷ pos r ∷ [])
-        (S (L (P (S (V 0) (V 1)) (L (V 4) (V 2))) (P (V 1) (L (V 3) (V 2)))) (P (S (V 0) (V 1)) (V 5)))
-        (M (S (P (V 0) (L (L (V 2) (V 5)) (V 4))) (P (V 1) (L (L (V 3) (V 5)) (V 4))))) refl in
+    (S (L (P (S (V 0) (V 1)) (L (V 4) (V 2))) (P (V 1) (L (V 3) (V 2)))) (P (S (V 0) (V 1)) (V 5)))
+    (M (S (P (V 0) (L (L (V 2) (V 5)) (V 4))) (P (V 1) (L (L (V 3) (V 5)) (V 4))))) refl in
     let g = times_most (pos m) (pos 1) ((a -ℤ pos r) -ℤ y) (omega (arith, ints)) (omega (arith, ints, p)) in
     let h = times_most (pos k) (pos 1) ((b -ℤ pos r) -ℤ y) (omega (arith, ints)) (omega (arith, ints, q)) in
     rw e (omega (arith, ints, f, g, h, some, e))
@@ -183,10 +183,10 @@ near_row s r w y a b c ab all some width fa fb fc hab bab hall ball x =
     let near_a : (z : ℤ) → IsIn a z → IsNear s r (spot z y) = λ z i. first_of s r (spot z y) some ((fa z).0 i) in
     let near_b : (z : ℤ) → IsIn b z → IsNear s r (spot z y) = λ z i. last_of s r (spot z y) some ((fb z).0 i) in
     let near_c : (z : ℤ) → IsIn c z → IsNear s r (spot z y) =
-        λ z i. let p = (fc z).0 i in beside_of s r (spot z y) (record { along = p.0; close = (close_is s r w (spot z y) width).1 p.1 }) in
+    λ z i. let p = (fc z).0 i in beside_of s r (spot z y) (record { along = p.0; close = (close_is s r w (spot z y) width).1 p.1 }) in
     let near_e : (z : ℤ) → IsInEither a b z → IsNear s r (spot z y) = λ z i. elim i [ inl p ↦ near_a z p | inr p ↦ near_b z p ] in
     let near_ab : (z : ℤ) → IsIn ab z → IsNear s r (spot z y) =
-        λ z i. let p = bab z i in between s r p.least z p.greatest y p.low p.high (near_e p.least p.least_in) (near_e p.greatest p.greatest_in) in
+    λ z i. let p = bab z i in between s r p.least z p.greatest y p.low p.high (near_e p.least p.least_in) (near_e p.greatest p.greatest_in) in
     let near_f : (z : ℤ) → IsInEither ab c z → IsNear s r (spot z y) = λ z i. elim i [ inl p ↦ near_ab z p | inr p ↦ near_c z p ] in (
       (λ i. let p = ball x i in between s r p.least x p.greatest y p.low p.high (near_f p.least p.least_in) (near_f p.greatest p.greatest_in)),
       (λ h. elim (cases_of s r (spot x y) h) [

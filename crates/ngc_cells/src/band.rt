@@ -158,7 +158,13 @@ fn along_at_zero(stretch: &Stretch, y: i64) -> i128
 {
     let x = stretch.end.x - stretch.start.x;
     let up = stretch.end.y - stretch.start.y;
-    let rise = ahead(stretch.parts, stretch.part, stretch.start.y, stretch.end.y, y);
+    let rise = ahead(
+        stretch.parts,
+        stretch.part,
+        stretch.start.y,
+        stretch.end.y,
+        y,
+    );
     let middle = middle(stretch.parts, stretch.part, stretch.start.x, stretch.end.x);
     product(up, rise) - product(x, middle)
 }

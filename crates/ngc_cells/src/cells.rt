@@ -41,7 +41,12 @@ pub fn lower(grid: &Grid, heights: &mut [u32], stretch: &Stretch, radius: u32, l
         let span = near_span(stretch, radius, width, y);
         let indices = indices_in(grid.corner.x, grid.half, grid.columns, &span);
         let begin = row as usize * grid.columns as usize;
-        lower_cells(heights, begin + indices.first as usize, begin + indices.end as usize, level);
+        lower_cells(
+            heights,
+            begin + indices.first as usize,
+            begin + indices.end as usize,
+            level,
+        );
     }
 }
 
@@ -92,7 +97,12 @@ pub fn highest_above(
         let span = near_span(stretch, radius, width, y);
         let indices = indices_in(grid.corner.x, grid.half, grid.columns, &span);
         let begin = row as usize * grid.columns as usize;
-        peak = peak_in(heights, begin + indices.first as usize, begin + indices.end as usize, peak);
+        peak = peak_in(
+            heights,
+            begin + indices.first as usize,
+            begin + indices.end as usize,
+            peak,
+        );
     }
     if level < peak.height {
         Some(peak)

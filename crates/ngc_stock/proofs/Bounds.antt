@@ -41,17 +41,17 @@ lowered : (s : Stock) (t : Stretch) (r : ℕ) (z : ℤ) (old new : List ℕ) (Le
 lowered s t r z old new Left stock near low b = record {
   count = low.count ∙ b.count;
   each = λ k small q h i.
-    let less : k < length old = omega (arith, low.count, small) in
-    let one = low.each k less in
-    let was = b.each k less q h i in
-    by_lt_z q.z (s.bottom +ℤ pos (slice_index new k))
-    (λ yes. yes)
-    (λ no.
+      let less : k < length old = omega (arith, low.count, small) in
+      let one = low.each k less in
+      let was = b.each k less q h i in
+      by_lt_z q.z (s.bottom +ℤ pos (slice_index new k))
+      (λ yes. yes)
+      (λ no.
       let far : ¬ (IsNear t r (centre s.grid k)) = λ n.
-          let st = stock q h in
-          let lev = level_over s z q.z st.bottom st.top (near k q n h i) in
-          let e = one.near n in
-          lower_of s.bottom q.z (slice_index old k) (level_of s z) (slice_index new k) e was lev no in
+      let st = stock q h in
+      let lev = level_over s z q.z st.bottom st.top (near k q n h i) in
+      let e = one.near n in
+      lower_of s.bottom q.z (slice_index old k) (level_of s z) (slice_index new k) e was lev no in
       let e = one.other far in
       absurd (omega (arith, ints, e, was, no)));
 }
@@ -81,8 +81,8 @@ piece_below s t a b i grid thick small k q near uncut cell =
     by_lt_z q.z (highest_tip t a b i)
     (λ yes. yes)
     (λ no.
-      let p = times_most (pos m) (highest_tip t a b i) q.z (omega (arith, ints)) no in
-      absurd (uncut (record { n = m; k = j; some = on.some; within = step_within i m j (pieces a b) some on.last small; around = whole; low = omega (arith, ints, up, p) })))
+    let p = times_most (pos m) (highest_tip t a b i) q.z (omega (arith, ints)) no in
+    absurd (uncut (record { n = m; k = j; some = on.some; within = step_within i m j (pieces a b) some on.last small; around = whole; low = omega (arith, ints, up, p) })))
 
 end_below : (s : Stock) (t : Tool) (a b : Point3) (grid : IsGrid s.grid) → kappa s.grid ≤ radius t →
     (k : ℕ) (q : Point3) → IsNear (point_at b) (radius t - kappa s.grid) (centre s.grid k) → ¬ (IsCutBy t a b q) → IsInCell s.grid k q →
@@ -130,7 +130,7 @@ raised_apart : (m raise : ℕ) (low q at : ℤ) → 0 < m → q <ℤ (low +ℤ p
 raised_apart m raise low q at some below up h =
     let p = product_above (pos m) ((low +ℤ pos raise) -ℤ q) (omega (arith, ints, some)) (omega (arith, ints, below)) in
     let e : pos m *ℤ ((low +ℤ pos raise) -ℤ q) ≡ ((pos m *ℤ low) +ℤ (pos m *ℤ pos raise)) -ℤ (pos m *ℤ q) =
-        ring (pos m ∷ low ∷ pos raise ∷ q ∷ []) (P (V 0) (L (S (V 1) (V 2)) (V 3))) (L (S (P (V 0) (V 1)) (P (V 0) (V 2))) (P (V 0) (V 3))) refl in
+    ring (pos m ∷ low ∷ pos raise ∷ q ∷ []) (P (V 0) (L (S (V 1) (V 2)) (V 3))) (L (S (P (V 0) (V 1)) (P (V 0) (V 2))) (P (V 0) (V 3))) refl in
     omega (arith, ints, p, e, up, h)
 
 -- the piece that a point of the line is in
@@ -163,7 +163,7 @@ clear_line s t a b grid heights Left stock bounds clear whole m j some small q l
     let around = moved m j (radius t - margin s.grid) (kappa s.grid) (flat a) (flat b) (flat q) c h.around near_most in
     let r : (radius t - margin s.grid) + kappa s.grid ≡ radius t - reduction s.grid = omega (arith, h.fits) in
     let near : IsNear (piece a b i) (radius t - reduction s.grid) c =
-        (m, j, record { some = some; first = p.2; last = p.3 }, subst (λ (x : ℕ). IsAround m j (flat a) (flat b) x c) r around) in
+    (m, j, record { some = some; first = p.2; last = p.3 }, subst (λ (x : ℕ). IsAround m j (flat a) (flat b) x c) r around) in
     let raise = tolerance s.grid + 2 * rise a b in
     let cell : st.cell < length heights = omega (arith, st.within, bounds.count) in
     let most = clear.pieces (omega (arith, h.fits)) i p.1 st.cell cell near in
@@ -182,7 +182,7 @@ clear_end s t a b grid heights Left stock bounds clear q left h =
     let r : (radius t - margin s.grid) + kappa s.grid ≡ radius t - reduction s.grid = omega (arith, h.fits) in
     let at : IsAround 1 1 (flat a) (flat b) (radius t - reduction s.grid) c = subst (λ (x : ℕ). IsAround 1 1 (flat a) (flat b) x c) r around in
     let near : IsNear (point_at b) (radius t - reduction s.grid) c =
-        (1, 0, record { some = omega arith; first = omega arith; last = omega arith }, around_point (radius t - reduction s.grid) (flat a) (flat b) c at) in
+    (1, 0, record { some = omega arith; first = omega arith; last = omega arith }, around_point (radius t - reduction s.grid) (flat a) (flat b) c at) in
     let cell : st.cell < length heights = omega (arith, st.within, bounds.count) in
     let most = clear.end (omega (arith, h.fits)) st.cell cell near in
     let below = level_under s ((b.z +ℤ t.bottom) +ℤ pos (tolerance s.grid)) q.z (slice_index heights st.cell) st.bottom (bounds.each st.cell cell q left st.in_cell) most in

@@ -111,9 +111,9 @@ at_first : (s : Stock) → AreBounds s (uncut s) (IsInStock s)
 at_first s = record {
   count = length-replicate (s.grid.columns * s.grid.rows) s.height;
   each = λ k small q h i.
-    let less : k < s.grid.columns * s.grid.rows = subst (λ (n : ℕ). k < n) (length-replicate (s.grid.columns * s.grid.rows) s.height) small in
-    let e = get_or-replicate (s.grid.columns * s.grid.rows) k s.height 0 less in
-    subst (λ (z : ℕ). q.z <ℤ (s.bottom +ℤ pos z)) (sym e) h.top;
+      let less : k < s.grid.columns * s.grid.rows = subst (λ (n : ℕ). k < n) (length-replicate (s.grid.columns * s.grid.rows) s.height) small in
+      let e = get_or-replicate (s.grid.columns * s.grid.rows) k s.height 0 less in
+      subst (λ (z : ℕ). q.z <ℤ (s.bottom +ℤ pos z)) (sym e) h.top;
 }
 
 pub silence : Silence

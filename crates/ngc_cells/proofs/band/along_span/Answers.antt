@@ -21,14 +21,14 @@ overflow_sub-squared_length-2 c =
     let a = kept128 c.along_at_zero-along.result (omega (arith, c.along_at_zero-along.ensures.bound)) in
     let l = kept128 c.squared_length.result (omega (arith, c.squared_length.ensures.bound)) in
     let m : to_z w128 (of_z w128 (to_z w128 (of_z w128 c.squared_length.result) -ℤ pos 1)) ≡ c.squared_length.result -ℤ pos 1 =
-        rw l (kept128 (c.squared_length.result -ℤ pos 1) (omega (arith, ints, c.squared_length.ensures.bound))) in
+    rw l (kept128 (c.squared_length.result -ℤ pos 1) (omega (arith, ints, c.squared_length.ensures.bound))) in
     rw (m, a) (omega (arith, ints, c.squared_length.ensures.bound, c.along_at_zero-along.ensures.bound))
 
 pub quotients-requires-clause-low : goal.quotients-requires-clause-low
 quotients-requires-clause-low c =
     let a = kept128 c.along_at_zero-along.result (omega (arith, c.along_at_zero-along.ensures.bound)) in
     let low0 : to_z w128 (of_z w128 (pos 1 -ℤ to_z w128 (of_z w128 c.along_at_zero-along.result))) ≡ pos 1 -ℤ c.along_at_zero-along.result =
-        rw a (kept128 (pos 1 -ℤ c.along_at_zero-along.result) (omega (arith, ints, c.along_at_zero-along.ensures.bound))) in
+    rw a (kept128 (pos 1 -ℤ c.along_at_zero-along.result) (omega (arith, ints, c.along_at_zero-along.ensures.bound))) in
     rw low0 (omega (arith, ints, c.along_at_zero-along.ensures.bound))
 
 pub quotients-requires-clause-high : goal.quotients-requires-clause-high
@@ -36,9 +36,9 @@ quotients-requires-clause-high c =
     let a = kept128 c.along_at_zero-along.result (omega (arith, c.along_at_zero-along.ensures.bound)) in
     let l = kept128 c.squared_length.result (omega (arith, c.squared_length.ensures.bound)) in
     let m : to_z w128 (of_z w128 (to_z w128 (of_z w128 c.squared_length.result) -ℤ pos 1)) ≡ c.squared_length.result -ℤ pos 1 =
-        rw l (kept128 (c.squared_length.result -ℤ pos 1) (omega (arith, ints, c.squared_length.ensures.bound))) in
+    rw l (kept128 (c.squared_length.result -ℤ pos 1) (omega (arith, ints, c.squared_length.ensures.bound))) in
     let high0 : to_z w128 (of_z w128 (to_z w128 (of_z w128 (to_z w128 (of_z w128 c.squared_length.result) -ℤ pos 1)) -ℤ to_z w128 (of_z w128 c.along_at_zero-along.result))) ≡ (c.squared_length.result -ℤ pos 1) -ℤ c.along_at_zero-along.result =
-        rw (m, a) (kept128 ((c.squared_length.result -ℤ pos 1) -ℤ c.along_at_zero-along.result) (omega (arith, ints, c.squared_length.ensures.bound, c.along_at_zero-along.ensures.bound))) in
+    rw (m, a) (kept128 ((c.squared_length.result -ℤ pos 1) -ℤ c.along_at_zero-along.result) (omega (arith, ints, c.squared_length.ensures.bound, c.along_at_zero-along.ensures.bound))) in
     rw high0 (omega (arith, ints, c.squared_length.ensures.bound, c.along_at_zero-along.ensures.bound))
 
 pub quotients-requires-clause-by : goal.quotients-requires-clause-by
@@ -64,12 +64,12 @@ returns c =
     let times = rw dx at c.times.ensures.value in
     let a = kept128 c.along_at_zero-along.result (omega (arith, c.along_at_zero-along.ensures.bound)) in
     let low0 : to_z w128 (of_z w128 (pos 1 -ℤ to_z w128 (of_z w128 c.along_at_zero-along.result))) ≡ pos 1 -ℤ c.along_at_zero-along.result =
-        rw a (kept128 (pos 1 -ℤ c.along_at_zero-along.result) (omega (arith, ints, c.along_at_zero-along.ensures.bound))) in
+    rw a (kept128 (pos 1 -ℤ c.along_at_zero-along.result) (omega (arith, ints, c.along_at_zero-along.ensures.bound))) in
     let l = kept128 c.squared_length.result (omega (arith, c.squared_length.ensures.bound)) in
     let m : to_z w128 (of_z w128 (to_z w128 (of_z w128 c.squared_length.result) -ℤ pos 1)) ≡ c.squared_length.result -ℤ pos 1 =
-        rw l (kept128 (c.squared_length.result -ℤ pos 1) (omega (arith, ints, c.squared_length.ensures.bound))) in
+    rw l (kept128 (c.squared_length.result -ℤ pos 1) (omega (arith, ints, c.squared_length.ensures.bound))) in
     let high0 : to_z w128 (of_z w128 (to_z w128 (of_z w128 (to_z w128 (of_z w128 c.squared_length.result) -ℤ pos 1)) -ℤ to_z w128 (of_z w128 c.along_at_zero-along.result))) ≡ (c.squared_length.result -ℤ pos 1) -ℤ c.along_at_zero-along.result =
-        rw (m, a) (kept128 ((c.squared_length.result -ℤ pos 1) -ℤ c.along_at_zero-along.result) (omega (arith, ints, c.squared_length.ensures.bound, c.along_at_zero-along.ensures.bound))) in
+    rw (m, a) (kept128 ((c.squared_length.result -ℤ pos 1) -ℤ c.along_at_zero-along.result) (omega (arith, ints, c.squared_length.ensures.bound, c.along_at_zero-along.ensures.bound))) in
     let along = rw y at c.along_at_zero-along.ensures.value in
     let low = low0 ∙ ap (λ (z : ℤ). pos 1 -ℤ z) along in
     let high = high0 ∙ ap₂ (λ (l z : ℤ). (l -ℤ pos 1) -ℤ z) c.squared_length.ensures.value along in

@@ -32,5 +32,5 @@ returns c =
     let radius : to_z w64 (of_z w64 c.from.result) ≡ pos c.args.radius = rw c.from.ensures (kept64 (pos c.args.radius) (omega (arith, c.requires.radius))) in
     let width = kept64 c.times-width.result (omega (arith, c.times-width.ensures.bound)) ∙ rw radius at c.times-width.ensures.value in
     let room = less128 c.product.result c.product-2.result (omega (arith, c.product.ensures.bound)) (omega (arith, c.product-2.ensures.bound))
-        ∙ ap₂ (λ (x y : ℤ). x -ℤ y) (rw width at c.product.ensures.value) (rw rise at c.product-2.ensures.value) in
+    ∙ ap₂ (λ (x y : ℤ). x -ℤ y) (rw width at c.product.ensures.value) (rw rise at c.product-2.ensures.value) in
     λ x. around_row x s.parts c.args.part c.args.radius s.start.x s.end.x (ahead s.parts c.args.part s.start.y s.end.y c.args.y) c.rooted.result (rw (mid, room) at (c.rooted.ensures x))

@@ -20,8 +20,8 @@ returns-then-start-radius c =
     let b = plus64 c.args.end c.from-radius.result (omega (arith, c.requires.end)) (omega (arith, size)) in
     let p : (c.args.start +ℤ c.from-radius.result) <ℤ c.args.y = omega (arith, ints, rw (a, y) at c.if-start-radius.true) in
     λ t.
-      let q : (c.args.end +ℤ c.from-radius.result) <ℤ c.args.y = omega (arith, ints, rw (b, y) at t) in
-      inl (omega (arith, ints, p, radius), omega (arith, ints, q, radius))
+    let q : (c.args.end +ℤ c.from-radius.result) <ℤ c.args.y = omega (arith, ints, rw (b, y) at t) in
+    inl (omega (arith, ints, p, radius), omega (arith, ints, q, radius))
 
 pub returns-then-y-start : goal.returns-then-y-start
 returns-then-y-start c =
@@ -32,5 +32,5 @@ returns-then-y-start c =
     let b = less64 c.args.end c.from-radius.result (omega (arith, c.requires.end)) (omega (arith, size)) in
     let p : c.args.y <ℤ (c.args.start -ℤ c.from-radius.result) = omega (arith, ints, rw (a, y) at c.if-y-start.true) in
     λ t.
-      let q : c.args.y <ℤ (c.args.end -ℤ c.from-radius.result) = omega (arith, ints, rw (b, y) at t) in
-      inr (omega (arith, ints, p, radius), omega (arith, ints, q, radius))
+    let q : c.args.y <ℤ (c.args.end -ℤ c.from-radius.result) = omega (arith, ints, rw (b, y) at t) in
+    inr (omega (arith, ints, p, radius), omega (arith, ints, q, radius))

@@ -21,7 +21,7 @@ returns-then-aside-most c =
     let size : unsigned_abs c.from-most.result ≤ 2 ^ 64 = rw most (omega (arith, c.ranges.width)) in
     let past : c.aside_at_zero-aside.result <ℤ neg_ℤ c.from-most.result = omega (arith, ints, c.if-aside-most.true, near, size) in
     λ x. none_row c.none.result x (IsAlong s (spot x c.args.y) × IsBand s c.args.width (spot x c.args.y)) (c.none.ensures x)
-      (λ p. let e = level_row s x c.args.y c.requires.level in omega (arith, ints, p.1.low, e, at_zero, most, past))
+    (λ p. let e = level_row s x c.args.y c.requires.level in omega (arith, ints, p.1.low, e, at_zero, most, past))
 
 pub returns-then-most-aside : goal.returns-then-most-aside
 returns-then-most-aside c =
@@ -33,7 +33,7 @@ returns-then-most-aside c =
     let size : unsigned_abs c.from-most.result ≤ 2 ^ 64 = rw most (omega (arith, c.ranges.width)) in
     let past : c.from-most.result <ℤ c.aside_at_zero-aside.result = omega (arith, ints, c.if-most-aside.true, near, size) in
     λ x. none_row c.none-then-most-aside.result x (IsAlong s (spot x c.args.y) × IsBand s c.args.width (spot x c.args.y)) (c.none-then-most-aside.ensures x)
-      (λ p. let e = level_row s x c.args.y c.requires.level in omega (arith, ints, p.1.high, e, at_zero, most, past))
+    (λ p. let e = level_row s x c.args.y c.requires.level in omega (arith, ints, p.1.high, e, at_zero, most, past))
 
 pub returns : goal.returns
 returns c =

@@ -17,7 +17,7 @@ returns c =
     let half = c.from-half.ensures in
     let centre = c.from-middle.ensures ∙ middle in
     let root : IsRootFloor (unsigned_abs c.args.room) c.root_floor.result =
-        record { square = rw room at c.root_floor.ensures.square; greatest = rw room at c.root_floor.ensures.greatest } in
+    record { square = rw room at c.root_floor.ensures.square; greatest = rw room at c.root_floor.ensures.greatest } in
     let small : c.root_floor.result ≤ 2 ^ 100 = omega (arith, c.root_floor.type_inv) in
     let size : unsigned_abs c.from-half.result ≤ 2 ^ 120 = rw half (omega (arith, small)) in
     let near : unsigned_abs c.from-middle.result ≤ 2 ^ 120 = rw centre (omega (arith, c.requires.middle)) in
@@ -25,4 +25,4 @@ returns c =
     let low = less128 c.from-middle.result c.from-half.result near size ∙ ap₂ (λ (x y : ℤ). x -ℤ y) centre half in
     let high = plus128 c.from-middle.result c.from-half.result near size ∙ ap₂ (λ (x y : ℤ). x +ℤ y) centre half in
     λ x. root_row x c.args.parts c.args.middle c.args.room c.root_floor.result c.quotients.result (omega (arith, ints, c.if-room-lt0.false)) root
-      (rw (low, high, parts) at (c.quotients.ensures x))
+    (rw (low, high, parts) at (c.quotients.ensures x))

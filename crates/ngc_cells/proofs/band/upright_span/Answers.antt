@@ -16,7 +16,7 @@ returns-then-stretch c =
     let s = c.args.stretch.now in
     let level : s.end.y ≡ s.start.y = omega (arith, ints, c.if-stretch.true, c.requires.stretch.start.y, c.requires.stretch.end.y) in
     λ x. none_row c.none.result x (IsAlong s (spot x c.args.y) × IsBand s c.args.width (spot x c.args.y)) (c.none.ensures x)
-      (λ p. no_line s x c.args.y c.requires.upright level p.0)
+    (λ p. no_line s x c.args.y c.requires.upright level p.0)
 
 pub returns-then-along-le0 : goal.returns-then-along-le0
 returns-then-along-le0 c =
@@ -26,7 +26,7 @@ returns-then-along-le0 c =
     let near = c.along_at_zero-along.ensures.bound in
     let past : c.along_at_zero-along.result ≤ℤ pos 0 = omega (arith, ints, c.if-along-le0.true, near) in
     λ x. none_row c.none-then-along-le0.result x (IsAlong s (spot x c.args.y) × IsBand s c.args.width (spot x c.args.y)) (c.none-then-along-le0.ensures x)
-      (λ p. let e = upright_row s x c.args.y c.requires.upright in omega (arith, ints, p.0.after, e, at_zero, past))
+    (λ p. let e = upright_row s x c.args.y c.requires.upright in omega (arith, ints, p.0.after, e, at_zero, past))
 
 pub returns-then-squared_length-along : goal.returns-then-squared_length-along
 returns-then-squared_length-along c =
@@ -36,7 +36,7 @@ returns-then-squared_length-along c =
     let near = c.along_at_zero-along.ensures.bound in
     let past : c.squared_length.result ≤ℤ c.along_at_zero-along.result = omega (arith, ints, c.if-squared_length-along.true, near, c.squared_length.ensures.bound) in
     λ x. none_row c.none-then-squared_length-along.result x (IsAlong s (spot x c.args.y) × IsBand s c.args.width (spot x c.args.y)) (c.none-then-squared_length-along.ensures x)
-      (λ p. let e = upright_row s x c.args.y c.requires.upright in let l = c.squared_length.ensures.value in omega (arith, ints, p.0.before, e, at_zero, past, l))
+    (λ p. let e = upright_row s x c.args.y c.requires.upright in let l = c.squared_length.ensures.value in omega (arith, ints, p.0.before, e, at_zero, past, l))
 
 pub returns : goal.returns
 returns c =

@@ -24,9 +24,9 @@ returns-clause-are c =
     let l = kept128 c.limited.result (omega (arith, ls)) in
     let h = kept128 c.limited-2.result (omega (arith, hs)) in
     let low : to_z w128 (of_z w128 (to_z w128 (of_z w128 c.limited.result) -ℤ to_z w128 (of_z w128 (to_z w128 (of_z w128 c.from.result) +ℤ to_z w128 (of_z w128 c.from-2.result))))) ≡ c.limited.result -ℤ (c.from.result +ℤ c.from-2.result) =
-        rw (l, base) (kept128 (c.limited.result -ℤ (c.from.result +ℤ c.from-2.result)) (omega (arith, ints, ls, fs, gs))) in
+    rw (l, base) (kept128 (c.limited.result -ℤ (c.from.result +ℤ c.from-2.result)) (omega (arith, ints, ls, fs, gs))) in
     let high : to_z w128 (of_z w128 (to_z w128 (of_z w128 c.limited-2.result) -ℤ to_z w128 (of_z w128 (to_z w128 (of_z w128 c.from.result) +ℤ to_z w128 (of_z w128 c.from-2.result))))) ≡ c.limited-2.result -ℤ (c.from.result +ℤ c.from-2.result) =
-        rw (h, base) (kept128 (c.limited-2.result -ℤ (c.from.result +ℤ c.from-2.result)) (omega (arith, ints, hs, fs, gs))) in
+    rw (h, base) (kept128 (c.limited-2.result -ℤ (c.from.result +ℤ c.from-2.result)) (omega (arith, ints, hs, fs, gs))) in
     let half : to_z w128 (of_z w128 c.from-3.result) ≡ pos c.args.half = rw c.from-3.ensures (kept128 (pos c.args.half) (omega (arith, c.ranges.half))) in
     let by : to_z w128 (of_z w128 (pos 2 *ℤ to_z w128 (of_z w128 c.from-3.result))) ≡ pos (2 * c.args.half) = rw half (kept128 (pos (2 * c.args.half)) (omega (arith, c.ranges.half))) in
     let ql : to_z w128 (of_z w128 c.quotients-indices.result.low) ≡ c.quotients-indices.result.low = omega (arith, ints) in
@@ -34,9 +34,9 @@ returns-clause-are c =
     let pl : to_z w128 (of_z w128 c.args.span.now.low) ≡ c.args.span.now.low = omega (arith, ints) in
     let ph : to_z w128 (of_z w128 c.args.span.now.high) ≡ c.args.span.now.high = omega (arith, ints) in
     λ i less.
-      let m = middle_small c.args.corner c.args.half i c.args.count c.requires.corner c.requires.fits less in
-      let q = rw (low, high, by, f, g) at (c.quotients-indices.ensures (pos i)) in
-      let sl = c.limited.ensures.low (middle_of c.args.corner c.args.half i) m in
-      let sh = c.limited-2.ensures.high (middle_of c.args.corner c.args.half i) m in
-      indices_are c.args.corner c.limited.result c.limited-2.result c.args.half i c.first_from.result c.end_after.result c.args.span.now c.quotients-indices.result
-        (rw ql at (c.first_from.ensures i less)) (rw qh at (c.end_after.ensures.value i less)) q (rw pl at sl) (rw ph at sh)
+    let m = middle_small c.args.corner c.args.half i c.args.count c.requires.corner c.requires.fits less in
+    let q = rw (low, high, by, f, g) at (c.quotients-indices.ensures (pos i)) in
+    let sl = c.limited.ensures.low (middle_of c.args.corner c.args.half i) m in
+    let sh = c.limited-2.ensures.high (middle_of c.args.corner c.args.half i) m in
+    indices_are c.args.corner c.limited.result c.limited-2.result c.args.half i c.first_from.result c.end_after.result c.args.span.now c.quotients-indices.result
+    (rw ql at (c.first_from.ensures i less)) (rw qh at (c.end_after.ensures.value i less)) q (rw pl at sl) (rw ph at sh)
