@@ -1,19 +1,19 @@
 -- The points of a row that are near a stretch.
-use Rattle.std.proofs.Common.{◌≡◌, ℕ, zero, suc, ◌+◌, ◌*◌, ◌-◌, ◌<◌, ◌≤◌, ℤ, pos, negsuc, ◌+ℤ◌, ◌-ℤ◌, ◌*ℤ◌, neg_ℤ, ◌≤ℤ◌, ◌<ℤ◌, ◌⊎◌, ◌↔◌, unsigned_abs, inl, inr, refl, sym, ◌∙◌, ap, ap₂, subst, arith, [], ◌∷◌}
+use Rattle.std.proofs.Common.{◌≡◌, ℕ, ◌+◌, ◌*◌, ◌-◌, ◌<◌, ◌≤◌, ℤ, pos, ◌+ℤ◌, ◌-ℤ◌, ◌*ℤ◌, neg_ℤ, ◌≤ℤ◌, ◌<ℤ◌, ◌↔◌, unsigned_abs, inl, inr, refl, sym, ◌∙◌, ap, arith, [], ◌∷◌}
 use Rattle.std.proofs.Math.IntN.{*ℤ-zero}
 use Rattle.ngc_fixed_length.specs.Roots.{IsRootFloor}
 use Rattle.std.proofs.lemmas.Bool.{cases_lt}
 use Rattle.std.proofs.lemmas.Nat.{mul-le}
-use Rattle.std.proofs.lemmas.Int.{ints, by_lt_z}
-use Rattle.ngc_cells.proofs.Ring.{Term, V, S, P, M, ring}
-use Rattle.ngc_cells.proofs.Vectors.{Q, L, natural, square_least, times_most, times_out}
+use Rattle.std.proofs.lemmas.Int.{ints}
+use Rattle.ngc_cells.proofs.Ring.{V, S, P, M, ring}
+use Rattle.ngc_cells.proofs.Vectors.{L, natural, square_least, times_most, times_out}
 use Rattle.ngc_cells.proofs.Roots.{root_is}
 use Rattle.ngc_cells.proofs.Nearness.{cases_of, first_of, last_of, beside_of, between}
 use Rattle.ngc_cells.specs.declared.span.Span.{Span}
 use Rattle.ngc_cells.specs.declared.stretch.Spot.{Spot}
 use Rattle.ngc_cells.specs.declared.stretch.Stretch.{Stretch}
 use Rattle.ngc_cells.specs.Spans.{IsIn, IsInEither, IsBetween}
-use Rattle.ngc_cells.specs.Stretches.{square, ahead, middle, spot, IsAround, IsOn, IsNear, IsStretch, squared_length, along, aside, IsAlong, IsClose, IsBand, IsWidth, IsBeside, IsPast}
+use Rattle.ngc_cells.specs.Stretches.{ahead, spot, IsAround, IsOn, IsNear, squared_length, along, aside, IsAlong, IsClose, IsBand, IsWidth, IsPast}
 
 -- ---- how far a point is along and beside the line, by its x
 
