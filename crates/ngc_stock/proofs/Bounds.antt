@@ -1,17 +1,16 @@
 -- The heights of the cells bound what is left.
-use Rattle.std.proofs.Common.{◌≡◌, ℕ, zero, suc, ◌+◌, ◌*◌, ◌-◌, ◌/◌, ◌%◌, ◌<◌, ◌≤◌, ℤ, pos, negsuc, ◌+ℤ◌, ◌-ℤ◌, ◌*ℤ◌, ◌≤ℤ◌, ◌<ℤ◌, ◌⊎◌, unsigned_abs, inl, inr, refl, sym, ◌∙◌, ap, subst, arith, List, [], ◌∷◌, ◌++◌, length, min, Option, Some, None, get_or}
+use Rattle.std.proofs.Common.{◌≡◌, ℕ, zero, suc, ◌+◌, ◌*◌, ◌-◌, ◌/◌, ◌<◌, ◌≤◌, ℤ, pos, ◌+ℤ◌, ◌-ℤ◌, ◌*ℤ◌, ◌≤ℤ◌, ◌<ℤ◌, inl, inr, refl, sym, ◌∙◌, subst, arith, List, [], ◌∷◌, length, min}
 use Rattle.std.specs.Prelude.{slice_index}
 use Rattle.std.proofs.lemmas.Bool.{cases_lt}
 use Rattle.std.proofs.lemmas.Int.{ints, by_lt_z}
 use Rattle.ngc_fixed_length.specs.declared.points.Point3.{Point3}
 use Rattle.ngc_machine_files.specs.declared.tools.Tool.{Tool}
-use Rattle.ngc_cells.specs.declared.grid.Grid.{Grid}
 use Rattle.ngc_cells.specs.declared.stretch.Stretch.{Stretch}
-use Rattle.ngc_cells.specs.Stretches.{square, IsAround, IsOn, IsNear}
-use Rattle.ngc_cells.specs.Grids.{IsGrid, centre, IsLowered, AreLowered, AreBelow}
+use Rattle.ngc_cells.specs.Stretches.{IsAround, IsNear}
+use Rattle.ngc_cells.specs.Grids.{IsGrid, centre, AreLowered}
 use Rattle.std.proofs.lemmas.Nat.{mul-le}
-use Rattle.ngc_cells.proofs.Ring.{Term, V, S, P, M, ring}
-use Rattle.ngc_cells.proofs.Vectors.{L, times_most, times_out, product_above}
+use Rattle.ngc_cells.proofs.Ring.{V, S, P, ring}
+use Rattle.ngc_cells.proofs.Vectors.{L, times_most, product_above}
 use Rattle.ngc_stock.specs.declared.stock.Stock.{Stock}
 use Rattle.ngc_stock.specs.Stocks.{kappa, reduction, margin, tolerance, radius, rise, flat, tip, pieces, piece, point_at, highest_tip, lowest_tip, level_of, IsInCell, IsInStock, IsCutBy, IsInReduced}
 use Rattle.ngc_stock.specs.Walk.{ArePiecesCut, AreCut, IsClear}

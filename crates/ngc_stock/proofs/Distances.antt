@@ -1,24 +1,21 @@
 -- From a cell's centre to its points, and from the points of a line to those of its pieces.
-use Rattle.std.proofs.Common.{◌≡◌, ℕ, zero, suc, ◌+◌, ◌*◌, ◌-◌, ◌/◌, ◌%◌, ◌^◌, ◌<◌, ◌≤◌, ℤ, pos, negsuc, ◌+ℤ◌, ◌-ℤ◌, ◌*ℤ◌, neg_ℤ, ◌≤ℤ◌, ◌<ℤ◌, ◌⊎◌, ◌↔◌, unsigned_abs, inl, inr, refl, sym, ◌∙◌, ap, ap₂, subst, arith, [], ◌∷◌, min}
-use Rattle.std.proofs.Math.Nat.{mul-le-mul_left}
+use Rattle.std.proofs.Common.{◌≡◌, ℕ, ◌+◌, ◌*◌, ◌^◌, ◌<◌, ◌≤◌, ℤ, pos, negsuc, ◌+ℤ◌, ◌-ℤ◌, ◌*ℤ◌, ◌≤ℤ◌, ◌<ℤ◌, unsigned_abs, inl, inr, refl, sym, ◌∙◌, ap, subst, arith, [], ◌∷◌, min}
 use Rattle.std.proofs.lemmas.Bool.{cases_lt}
 use Rattle.std.proofs.lemmas.Nat.{mul-le}
 use Rattle.std.proofs.lemmas.Int.{ints, clamps, by_lt_z}
-use Rattle.std.specs.Int.{int_div_euclid, int_min, int_max}
-use Rattle.ngc_fixed_length.specs.Roots.{whole_root_above}
+use Rattle.std.specs.Int.{int_min, int_max}
 use Rattle.ngc_fixed_length.proofs.RootLaws.{whole_root_above-least}
 use Rattle.ngc_fixed_length.specs.declared.points.Point3.{Point3}
 use Rattle.ngc_machine_files.specs.declared.tools.Tool.{Tool}
 use Rattle.ngc_cells.specs.declared.grid.Grid.{Grid}
 use Rattle.ngc_cells.specs.declared.stretch.Spot.{Spot}
-use Rattle.ngc_cells.specs.declared.stretch.Stretch.{Stretch}
-use Rattle.ngc_cells.specs.Stretches.{square, ahead, IsAround, IsOn, IsNear, spot, REACH}
+use Rattle.ngc_cells.specs.Stretches.{square, ahead, IsAround, REACH}
 use Rattle.ngc_cells.specs.Grids.{IsGrid, centre}
-use Rattle.ngc_cells.proofs.Ring.{Term, V, S, P, M, ring}
-use Rattle.ngc_cells.proofs.Vectors.{Q, L, natural, square_least, times_most, times_out, sum_most, product_least, same_signs}
+use Rattle.ngc_cells.proofs.Ring.{V, S, P, ring}
+use Rattle.ngc_cells.proofs.Vectors.{Q, L, times_most, times_out, sum_most, product_least, same_signs}
 use Rattle.ngc_cells.proofs.Quotients.{floor_is, ceiling_is}
 use Rattle.ngc_stock.specs.declared.stock.Stock.{Stock}
-use Rattle.ngc_stock.specs.Stocks.{kappa, flat, tip, pieces, piece, point_at, highest_tip, lowest_tip, natural_of, level_of, IsInCell}
+use Rattle.ngc_stock.specs.Stocks.{kappa, tip, pieces, highest_tip, lowest_tip, natural_of, level_of, IsInCell}
 
 -- ---- within a cell
 

@@ -1,6 +1,5 @@
 -- The law of silence, by induction over the commands before a traverse.
-use Rattle.std.proofs.Common.{◌≡◌, ℕ, zero, suc, ◌+◌, ◌*◌, ◌<◌, ◌≤◌, ℤ, pos, ◌+ℤ◌, ◌<ℤ◌, ◌⊎◌, inl, inr, refl, sym, ◌∙◌, ap, subst, arith, List, [], ◌∷◌, ◌++◌, length, replicate, ◌/◌, min, Bool, true, false, cond, Option, Some, None}
-use Rattle.std.specs.Prelude.{slice_index}
+use Rattle.std.proofs.Common.{◌≡◌, ℕ, ◌+◌, ◌*◌, ◌<◌, pos, ◌+ℤ◌, ◌<ℤ◌, inl, inr, sym, subst, arith, List, [], ◌∷◌, ◌++◌, ◌/◌, min, Bool, true, false, cond, Option, Some, None}
 use Rattle.std.proofs.lemmas.List.{get_or-replicate, length-replicate}
 use Rattle.ngc_fixed_length.specs.declared.points.Point3.{Point3}
 use Rattle.ngc_machine_files.specs.declared.tools.Tool.{Tool}
@@ -15,8 +14,8 @@ use Rattle.ngc_commands.specs.declared.reached.Reached.{Reached}
 use Rattle.ngc_commands.specs.Reached.{after, after_all}
 use Rattle.ngc_cells.specs.Grids.{IsGrid}
 use Rattle.ngc_stock.specs.declared.stock.Stock.{Stock}
-use Rattle.ngc_stock.specs.Stocks.{IsInStock, IsInCell, is_slope, height_of}
-use Rattle.ngc_stock.specs.Walk.{IsMotion, IsStep, IsSilent, IsCutOn, IsCutIn, IsCutInAny, IsLeft, MeetsNone, IsSafeOn, IsSafe, uncut}
+use Rattle.ngc_stock.specs.Stocks.{IsInStock, is_slope, height_of}
+use Rattle.ngc_stock.specs.Walk.{IsMotion, IsStep, IsSilent, IsCutOn, IsCutIn, IsCutInAny, IsLeft, IsSafeOn, IsSafe, uncut}
 use Rattle.ngc_stock.proofs.Bounds.{AreBounds, fewer, feed_keeps, clear_line, clear_end}
 use Rattle.ngc_stock.specs.Silence.{Silence}
 
