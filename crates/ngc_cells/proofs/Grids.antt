@@ -1,6 +1,6 @@
 -- The cells of a row whose centres are in a span.
-use Rattle.std.proofs.Common.{◌≡◌, ℕ, zero, suc, ◌+◌, ◌*◌, ◌-◌, ◌/◌, ◌%◌, ◌<◌, ◌≤◌, ℤ, pos, ◌+ℤ◌, ◌-ℤ◌, ◌*ℤ◌, ◌≤ℤ◌, ◌↔◌, unsigned_abs, refl, sym, ap, ap₂, subst, arith}
-use Rattle.std.proofs.lemmas.Nat.{mul-le}
+use Rattle.std.proofs.Common.{◌≡◌, ℕ, zero, suc, ◌+◌, ◌*◌, ◌/◌, ◌%◌, ◌<◌, ◌≤◌, ℤ, pos, ◌+ℤ◌, ◌-ℤ◌, ◌*ℤ◌, ◌≤ℤ◌, ◌↔◌, unsigned_abs, arith}
+use Rattle.std.proofs.lemmas.Nat.{mul-le, mod_below, div_below}
 use Rattle.std.proofs.lemmas.Int.{ints}
 use Rattle.ngc_cells.specs.declared.span.Span.{Span}
 use Rattle.ngc_cells.specs.Spans.{IsIn}
@@ -24,3 +24,18 @@ pub middle_small : (corner : ℤ) (half i count : ℕ) → unsigned_abs corner �
 middle_small corner half i count h small less =
     let p = mul-le (2 * i + 1) half (2 * count) half (omega arith) (omega arith) in
     omega (arith, ints, h, small, p)
+
+index_fits : (corner : ℤ) (half i count : ℕ) → unsigned_abs corner ≤ 2000000000 → (corner +ℤ pos (2 * count * half)) ≤ℤ pos 2000000000 → i < count → (2 * i + 1) * half ≤ 4000000000
+index_fits corner half i count h small less =
+    let p = mul-le (2 * i + 1) half (2 * count) half (omega arith) (omega arith) in
+    omega (arith, ints, h, small, p)
+
+pub column_fits : (corner : ℤ) (half columns rows k : ℕ) → unsigned_abs corner ≤ 2000000000 → (corner +ℤ pos (2 * columns * half)) ≤ℤ pos 2000000000 → k < columns * rows → (2 * (k % columns) + 1) * half ≤ 4000000000
+column_fits corner half zero rows k h small less = absurd (omega arith)
+column_fits corner half (suc w) rows k h small less = index_fits corner half (k % suc w) (suc w) h small (mod_below k (suc w) (omega arith))
+
+pub row_fits : (corner : ℤ) (half columns rows k : ℕ) → unsigned_abs corner ≤ 2000000000 → (corner +ℤ pos (2 * rows * half)) ≤ℤ pos 2000000000 → k < columns * rows → (2 * (k / columns) + 1) * half ≤ 4000000000
+row_fits corner half zero rows k h small less = absurd (omega arith)
+row_fits corner half (suc w) rows k h small less =
+    let e : k < rows * suc w = omega arith in
+    index_fits corner half (k / suc w) rows h small (div_below k (suc w) rows (omega arith) e)

@@ -1,11 +1,10 @@
 -- One row more of a map's cells.
-use Rattle.std.proofs.Common.{◌≡◌, ℕ, zero, suc, ◌+◌, ◌*◌, ◌-◌, ◌/◌, ◌%◌, ◌<◌, ◌≤◌, ℤ, pos, ◌+ℤ◌, ◌≤ℤ◌, ◌↔◌, ◌⊎◌, inl, inr, refl, sym, ◌∙◌, ap, ap₂, subst, arith, List, get_or, min}
+use Rattle.std.proofs.Common.{◌≡◌, ℕ, ◌+◌, ◌*◌, ◌-◌, ◌<◌, ◌≤◌, ℤ, ◌↔◌, inl, inr, sym, ◌∙◌, ap, ap₂, subst, arith, List, get_or, min}
 use Rattle.std.proofs.lemmas.Bool.{cases_lt}
 use Rattle.std.proofs.lemmas.Nat.{div-mul-add, mod-mul-add}
 use Rattle.ngc_cells.specs.declared.cells.Peak.{Peak}
 use Rattle.ngc_cells.specs.declared.grid.Grid.{Grid}
 use Rattle.ngc_cells.specs.declared.span.Span.{Span}
-use Rattle.ngc_cells.specs.declared.stretch.Spot.{Spot}
 use Rattle.ngc_cells.specs.declared.stretch.Stretch.{Stretch}
 use Rattle.ngc_cells.specs.Spans.{IsIn}
 use Rattle.ngc_cells.specs.Stretches.{IsNear, spot}

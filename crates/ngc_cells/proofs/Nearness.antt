@@ -1,13 +1,13 @@
 -- The points near a stretch: by cases, and that they are convex.
-use Rattle.std.proofs.Common.{◌≡◌, ℕ, zero, suc, ◌+◌, ◌*◌, ◌<◌, ◌≤◌, ℤ, pos, negsuc, ◌+ℤ◌, ◌-ℤ◌, ◌*ℤ◌, neg_ℤ, ◌≤ℤ◌, ◌<ℤ◌, ◌⊎◌, unsigned_abs, inl, inr, refl, sym, ◌∙◌, ap, ap₂, subst, arith, [], ◌∷◌}
+use Rattle.std.proofs.Common.{◌≡◌, ℕ, zero, suc, ◌+◌, ◌*◌, ◌<◌, ◌≤◌, ℤ, pos, ◌+ℤ◌, ◌-ℤ◌, ◌*ℤ◌, ◌≤ℤ◌, ◌<ℤ◌, ◌⊎◌, unsigned_abs, inl, inr, refl, sym, ◌∙◌, ap, ap₂, subst, arith, [], ◌∷◌}
 use Rattle.std.proofs.Math.Nat.{mul-le-mul_left}
 use Rattle.std.proofs.lemmas.Bool.{cases_lt}
 use Rattle.std.proofs.lemmas.Int.{ints, by_lt_z}
-use Rattle.ngc_cells.proofs.Ring.{Term, V, S, P, M, ring}
+use Rattle.ngc_cells.proofs.Ring.{Term, V, S, P, ring}
 use Rattle.ngc_cells.proofs.Vectors.{Q, L, natural, product_least, square_least, times_most, times_out, sum_most, same_signs}
 use Rattle.ngc_cells.specs.declared.stretch.Spot.{Spot}
 use Rattle.ngc_cells.specs.declared.stretch.Stretch.{Stretch}
-use Rattle.ngc_cells.specs.Stretches.{square, ahead, IsAround, IsOn, IsNear, squared_length, along, aside, IsAlong, IsBeside, spot}
+use Rattle.ngc_cells.specs.Stretches.{square, IsAround, IsNear, IsBeside, spot}
 
 -- d is the line's vector, w that from its start to a point
 abbrev short : ℤ → ℤ → ℤ → ℤ → ℤ

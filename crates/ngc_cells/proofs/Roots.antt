@@ -1,11 +1,11 @@
 -- Numbers whose squares are at most a bound.
-use Rattle.std.proofs.Common.{◌≡◌, ℕ, zero, suc, ◌+◌, ◌*◌, ◌<◌, ◌≤◌, ℤ, pos, negsuc, ◌+ℤ◌, ◌-ℤ◌, ◌*ℤ◌, neg_ℤ, ◌≤ℤ◌, ◌<ℤ◌, ◌⊎◌, ◌↔◌, unsigned_abs, inl, inr, refl, sym, ◌∙◌, ap, subst, arith, [], ◌∷◌}
+use Rattle.std.proofs.Common.{◌≡◌, ℕ, ◌+◌, ◌*◌, ◌<◌, ◌≤◌, ℤ, pos, negsuc, ◌+ℤ◌, ◌-ℤ◌, ◌*ℤ◌, neg_ℤ, ◌≤ℤ◌, ◌↔◌, unsigned_abs, inl, inr, refl, subst, arith, [], ◌∷◌}
 use Rattle.std.proofs.lemmas.Bool.{cases_lt}
 use Rattle.std.proofs.lemmas.Nat.{mul-le}
-use Rattle.std.proofs.lemmas.Int.{ints, by_lt_z}
+use Rattle.std.proofs.lemmas.Int.{ints}
 use Rattle.ngc_fixed_length.specs.Roots.{IsRootFloor}
-use Rattle.ngc_cells.proofs.Ring.{Term, V, S, P, M, ring}
-use Rattle.ngc_cells.proofs.Vectors.{Q, L, from_squares, natural}
+use Rattle.ngc_cells.proofs.Ring.{V, S, P, ring}
+use Rattle.ngc_cells.proofs.Vectors.{L, natural}
 use Rattle.ngc_cells.specs.declared.span.Span.{Span}
 use Rattle.ngc_cells.specs.Spans.{IsIn}
 use Rattle.ngc_cells.specs.Stretches.{square, ahead, middle}

@@ -1,16 +1,19 @@
 -- The points of a row that are near a stretch.
-use Rattle.std.proofs.Common.{◌≡◌, ℕ, zero, suc, ◌+◌, ◌*◌, ◌<◌, ◌≤◌, ℤ, pos, negsuc, ◌+ℤ◌, ◌-ℤ◌, ◌*ℤ◌, neg_ℤ, ◌≤ℤ◌, ◌<ℤ◌, ◌⊎◌, ◌↔◌, unsigned_abs, inl, inr, refl, sym, ◌∙◌, ap, ap₂, subst, arith, [], ◌∷◌}
+use Rattle.std.proofs.Common.{◌≡◌, ℕ, ◌+◌, ◌*◌, ◌-◌, ◌<◌, ◌≤◌, ℤ, pos, ◌+ℤ◌, ◌-ℤ◌, ◌*ℤ◌, neg_ℤ, ◌≤ℤ◌, ◌<ℤ◌, ◌↔◌, unsigned_abs, inl, inr, refl, sym, ◌∙◌, ap, arith, [], ◌∷◌}
 use Rattle.std.proofs.Math.IntN.{*ℤ-zero}
-use Rattle.std.proofs.lemmas.Int.{ints, by_lt_z}
-use Rattle.ngc_cells.proofs.Ring.{Term, V, S, P, M, ring}
-use Rattle.ngc_cells.proofs.Vectors.{Q, L, natural, square_least, times_out}
+use Rattle.ngc_fixed_length.specs.Roots.{IsRootFloor}
+use Rattle.std.proofs.lemmas.Bool.{cases_lt}
+use Rattle.std.proofs.lemmas.Nat.{mul-le}
+use Rattle.std.proofs.lemmas.Int.{ints}
+use Rattle.ngc_cells.proofs.Ring.{V, S, P, M, ring}
+use Rattle.ngc_cells.proofs.Vectors.{L, natural, square_least, times_most, times_out}
 use Rattle.ngc_cells.proofs.Roots.{root_is}
 use Rattle.ngc_cells.proofs.Nearness.{cases_of, first_of, last_of, beside_of, between}
 use Rattle.ngc_cells.specs.declared.span.Span.{Span}
 use Rattle.ngc_cells.specs.declared.stretch.Spot.{Spot}
 use Rattle.ngc_cells.specs.declared.stretch.Stretch.{Stretch}
 use Rattle.ngc_cells.specs.Spans.{IsIn, IsInEither, IsBetween}
-use Rattle.ngc_cells.specs.Stretches.{square, ahead, middle, spot, IsAround, IsOn, IsNear, IsStretch, squared_length, along, aside, IsAlong, IsClose, IsBand, IsWidth, IsBeside}
+use Rattle.ngc_cells.specs.Stretches.{ahead, spot, IsAround, IsOn, IsNear, squared_length, along, aside, IsAlong, IsClose, IsBand, IsWidth, IsPast}
 
 -- ---- how far a point is along and beside the line, by its x
 
@@ -110,6 +113,51 @@ no_product n d some e =
     let a = times_out (pos n) d (pos 0) (omega (arith, ints, some)) (omega (arith, ints, e, z)) in
     let b = times_out (pos n) (pos 0) d (omega (arith, ints, some)) (omega (arith, ints, e, z)) in
     omega (arith, ints, a, b)
+
+-- ---- rows out of reach
+
+above_ends : (n k r : ℕ) (a b y : ℤ) → 0 < n → k ≤ n → (a +ℤ pos r) <ℤ y → (b +ℤ pos r) <ℤ y → pos (n * r) <ℤ ahead n k a b y
+above_ends n k r a b y some small p q =
+    let m = n - k in
+    let e : n ≡ m + k = omega arith in
+    let f = ring (pos m ∷ pos k ∷ a ∷ b ∷ y ∷ pos r ∷ [])
+    (L (L (P (S (V 0) (V 1)) (L (V 4) (V 2))) (P (V 1) (L (V 3) (V 2)))) (P (S (V 0) (V 1)) (V 5)))
+    (S (P (V 0) (L (V 4) (S (V 2) (V 5)))) (P (V 1) (L (V 4) (S (V 3) (V 5))))) refl in
+    let g = times_most (pos m) (pos 1) (y -ℤ (a +ℤ pos r)) (omega (arith, ints)) (omega (arith, ints, p)) in
+    let h = times_most (pos k) (pos 1) (y -ℤ (b +ℤ pos r)) (omega (arith, ints)) (omega (arith, ints, q)) in
+    rw e (omega (arith, ints, f, g, h, some, e))
+
+below_ends : (n k r : ℕ) (a b y : ℤ) → 0 < n → k ≤ n → y <ℤ (a -ℤ pos r) → y <ℤ (b -ℤ pos r) → ahead n k a b y <ℤ neg_ℤ (pos (n * r))
+below_ends n k r a b y some small p q =
+    let m = n - k in
+    let e : n ≡ m + k = omega arith in
+    let f = ring (pos m ∷ pos k ∷ a ∷ b ∷ y ∷ pos r ∷ [])
+    (S (L (P (S (V 0) (V 1)) (L (V 4) (V 2))) (P (V 1) (L (V 3) (V 2)))) (P (S (V 0) (V 1)) (V 5)))
+    (M (S (P (V 0) (L (L (V 2) (V 5)) (V 4))) (P (V 1) (L (L (V 3) (V 5)) (V 4))))) refl in
+    let g = times_most (pos m) (pos 1) ((a -ℤ pos r) -ℤ y) (omega (arith, ints)) (omega (arith, ints, p)) in
+    let h = times_most (pos k) (pos 1) ((b -ℤ pos r) -ℤ y) (omega (arith, ints)) (omega (arith, ints, q)) in
+    rw e (omega (arith, ints, f, g, h, some, e))
+
+own_root : (m : ℕ) → IsRootFloor (m * m) m
+own_root m = record { square = omega arith; greatest = omega arith }
+
+on_line : (s : Stretch) (n k : ℕ) → s.part < s.parts → IsOn s n k → k ≤ n
+on_line s n k less h =
+    elim (cases_lt n k) [
+      | inl more ↦ (let a = mul-le (n + 1) s.parts k s.parts (omega arith) (omega arith) in let b = mul-le (s.part + 1) n s.parts n (omega arith) (omega arith) in absurd (omega (arith, a, b, h.last)))
+      | inr less ↦ less
+    ]
+
+pub far_row : (s : Stretch) (r : ℕ) (x y : ℤ) → s.part < s.parts → IsPast s.start.y s.end.y r y → ¬ (IsNear s r (spot x y))
+far_row s r x y less past h =
+    let n = h.0 in let k = h.1 in
+    let small = on_line s n k less h.2 in
+    let a = square_least (ahead n k s.start.x s.end.x x) in
+    let m = (root_is (ahead n k s.start.y s.end.y y) ((n * r) * (n * r)) (n * r) (own_root (n * r))).0 (omega (arith, ints, a, h.3)) in
+    elim past [
+      | inl p ↦ (let q = above_ends n k r s.start.y s.end.y y h.2.some small p.0 p.1 in omega (arith, ints, m.1, q))
+      | inr p ↦ (let q = below_ends n k r s.start.y s.end.y y h.2.some small p.0 p.1 in omega (arith, ints, m.0, q))
+    ]
 
 -- ---- all that is near
 

@@ -1,5 +1,5 @@
 -- Stretches of a line in the plane, and which points are near them. Our own.
-use Rattle.std.specs.Prelude.{◌≡◌, ℕ, ◌+◌, ◌*◌, ◌≤◌, ◌<◌, ℤ, pos, ◌+ℤ◌, ◌-ℤ◌, ◌*ℤ◌, neg_ℤ, ◌≤ℤ◌, ◌<ℤ◌, unsigned_abs}
+use Rattle.std.specs.Prelude.{ℕ, ◌+◌, ◌*◌, ◌≤◌, ◌<◌, ◌⊎◌, ℤ, pos, ◌+ℤ◌, ◌-ℤ◌, ◌*ℤ◌, neg_ℤ, ◌≤ℤ◌, ◌<ℤ◌, unsigned_abs}
 use Rattle.ngc_fixed_length.specs.Roots.{IsRootFloor}
 use Rattle.ngc_cells.specs.declared.stretch.Spot.{Spot}
 use Rattle.ngc_cells.specs.declared.stretch.Stretch.{Stretch}
@@ -91,3 +91,8 @@ pub record IsBand (s : Stretch) (w : ℕ) (q : Spot) : Type 0 where
 pub record IsBeside (s : Stretch) (r : ℕ) (q : Spot) : Type 0 where
   pub along : IsAlong s q
   pub close : IsClose s r q
+
+-- y is more than r beyond both ends of a line, along the axis of y
+abbrev pub IsPast : ℤ → ℤ → ℕ → ℤ → Type 0
+IsPast a b r y =
+    (((a +ℤ pos r) <ℤ y) × ((b +ℤ pos r) <ℤ y)) ⊎ ((y <ℤ (a -ℤ pos r)) × (y <ℤ (b -ℤ pos r)))

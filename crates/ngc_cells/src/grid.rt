@@ -16,6 +16,24 @@ pub struct Grid {
     pub rows: u32,
 }
 
+impl Grid {
+    ghost use Rattle.std.specs.Prelude.{◌≡◌, ◌*◌, ◌<◌};
+    ghost use Rattle.ngc_cells.specs.Grids.{IsGrid, centre};
+
+    /// Returns the centre of a cell. The cells of a row follow each other.
+    pub fn centre(&self, cell: usize) -> Spot
+        requires grid { IsGrid self.now }
+        requires cell { cell < self.now.columns * self.now.rows }
+        ensures { result ≡ centre self.now cell }
+    {
+        let columns = self.columns as usize;
+        Spot {
+            x: middle_of(self.corner.x, self.half, (cell % columns) as u32),
+            y: middle_of(self.corner.y, self.half, (cell / columns) as u32),
+        }
+    }
+}
+
 /// The indices from `first` to the one before `end`.
 #[derive(Clone, Copy)]
 pub(crate) struct Indices {

@@ -1,17 +1,16 @@
 -- The heights of the cells bound what is left.
-use Rattle.std.proofs.Common.{◌≡◌, ℕ, zero, suc, ◌+◌, ◌*◌, ◌-◌, ◌/◌, ◌%◌, ◌<◌, ◌≤◌, ℤ, pos, negsuc, ◌+ℤ◌, ◌-ℤ◌, ◌*ℤ◌, ◌≤ℤ◌, ◌<ℤ◌, ◌⊎◌, unsigned_abs, inl, inr, refl, sym, ◌∙◌, ap, subst, arith, List, [], ◌∷◌, ◌++◌, length, min, Option, Some, None, get_or}
+use Rattle.std.proofs.Common.{◌≡◌, ℕ, zero, suc, ◌+◌, ◌*◌, ◌-◌, ◌/◌, ◌<◌, ◌≤◌, ℤ, pos, ◌+ℤ◌, ◌-ℤ◌, ◌*ℤ◌, ◌≤ℤ◌, ◌<ℤ◌, inl, inr, refl, sym, ◌∙◌, subst, arith, List, [], ◌∷◌, length, min}
 use Rattle.std.specs.Prelude.{slice_index}
 use Rattle.std.proofs.lemmas.Bool.{cases_lt}
 use Rattle.std.proofs.lemmas.Int.{ints, by_lt_z}
 use Rattle.ngc_fixed_length.specs.declared.points.Point3.{Point3}
 use Rattle.ngc_machine_files.specs.declared.tools.Tool.{Tool}
-use Rattle.ngc_cells.specs.declared.grid.Grid.{Grid}
 use Rattle.ngc_cells.specs.declared.stretch.Stretch.{Stretch}
-use Rattle.ngc_cells.specs.Stretches.{square, IsAround, IsOn, IsNear}
-use Rattle.ngc_cells.specs.Grids.{IsGrid, centre, IsLowered, AreLowered, AreBelow}
+use Rattle.ngc_cells.specs.Stretches.{IsAround, IsNear}
+use Rattle.ngc_cells.specs.Grids.{IsGrid, centre, AreLowered}
 use Rattle.std.proofs.lemmas.Nat.{mul-le}
-use Rattle.ngc_cells.proofs.Ring.{Term, V, S, P, M, ring}
-use Rattle.ngc_cells.proofs.Vectors.{L, times_most, times_out, product_above}
+use Rattle.ngc_cells.proofs.Ring.{V, S, P, ring}
+use Rattle.ngc_cells.proofs.Vectors.{L, times_most, product_above}
 use Rattle.ngc_stock.specs.declared.stock.Stock.{Stock}
 use Rattle.ngc_stock.specs.Stocks.{kappa, reduction, margin, tolerance, radius, rise, flat, tip, pieces, piece, point_at, highest_tip, lowest_tip, level_of, IsInCell, IsInStock, IsCutBy, IsInReduced}
 use Rattle.ngc_stock.specs.Walk.{ArePiecesCut, AreCut, IsClear}
@@ -41,17 +40,17 @@ lowered : (s : Stock) (t : Stretch) (r : ℕ) (z : ℤ) (old new : List ℕ) (Le
 lowered s t r z old new Left stock near low b = record {
   count = low.count ∙ b.count;
   each = λ k small q h i.
-    let less : k < length old = omega (arith, low.count, small) in
-    let one = low.each k less in
-    let was = b.each k less q h i in
-    by_lt_z q.z (s.bottom +ℤ pos (slice_index new k))
-    (λ yes. yes)
-    (λ no.
+      let less : k < length old = omega (arith, low.count, small) in
+      let one = low.each k less in
+      let was = b.each k less q h i in
+      by_lt_z q.z (s.bottom +ℤ pos (slice_index new k))
+      (λ yes. yes)
+      (λ no.
       let far : ¬ (IsNear t r (centre s.grid k)) = λ n.
-          let st = stock q h in
-          let lev = level_over s z q.z st.bottom st.top (near k q n h i) in
-          let e = one.near n in
-          lower_of s.bottom q.z (slice_index old k) (level_of s z) (slice_index new k) e was lev no in
+      let st = stock q h in
+      let lev = level_over s z q.z st.bottom st.top (near k q n h i) in
+      let e = one.near n in
+      lower_of s.bottom q.z (slice_index old k) (level_of s z) (slice_index new k) e was lev no in
       let e = one.other far in
       absurd (omega (arith, ints, e, was, no)));
 }
@@ -61,8 +60,8 @@ lowered s t r z old new Left stock near low b = record {
 step_within : (k m j n : ℕ) → 0 < n → j * n ≤ (k + 1) * m → k < n → j ≤ m
 step_within k m j n some h small =
     elim (cases_lt m j) [
-      | inl more ↦ (let a : (m + 1) * n ≤ j * n = mul-le (m + 1) n j n more (omega arith) in
-          let b : (k + 1) * m ≤ n * m = mul-le (k + 1) m n m small (omega arith) in
+      | inl more ↦ (let a : (m + 1) * n ≤ j * n = mul-le (m + 1) n j n (omega arith) (omega arith) in
+          let b : (k + 1) * m ≤ n * m = mul-le (k + 1) m n m (omega arith) (omega arith) in
           absurd (omega (arith, a, b, h, some)))
       | inr less ↦ less
     ]
@@ -81,8 +80,8 @@ piece_below s t a b i grid thick small k q near uncut cell =
     by_lt_z q.z (highest_tip t a b i)
     (λ yes. yes)
     (λ no.
-      let p = times_most (pos m) (highest_tip t a b i) q.z (omega (arith, ints)) no in
-      absurd (uncut (record { n = m; k = j; some = on.some; within = step_within i m j (pieces a b) some on.last small; around = whole; low = omega (arith, ints, up, p) })))
+    let p = times_most (pos m) (highest_tip t a b i) q.z (omega (arith, ints)) no in
+    absurd (uncut (record { n = m; k = j; some = on.some; within = step_within i m j (pieces a b) some on.last small; around = whole; low = omega (arith, ints, up, p) })))
 
 end_below : (s : Stock) (t : Tool) (a b : Point3) (grid : IsGrid s.grid) → kappa s.grid ≤ radius t →
     (k : ℕ) (q : Point3) → IsNear (point_at b) (radius t - kappa s.grid) (centre s.grid k) → ¬ (IsCutBy t a b q) → IsInCell s.grid k q →
@@ -130,7 +129,7 @@ raised_apart : (m raise : ℕ) (low q at : ℤ) → 0 < m → q <ℤ (low +ℤ p
 raised_apart m raise low q at some below up h =
     let p = product_above (pos m) ((low +ℤ pos raise) -ℤ q) (omega (arith, ints, some)) (omega (arith, ints, below)) in
     let e : pos m *ℤ ((low +ℤ pos raise) -ℤ q) ≡ ((pos m *ℤ low) +ℤ (pos m *ℤ pos raise)) -ℤ (pos m *ℤ q) =
-        ring (pos m ∷ low ∷ pos raise ∷ q ∷ []) (P (V 0) (L (S (V 1) (V 2)) (V 3))) (L (S (P (V 0) (V 1)) (P (V 0) (V 2))) (P (V 0) (V 3))) refl in
+    ring (pos m ∷ low ∷ pos raise ∷ q ∷ []) (P (V 0) (L (S (V 1) (V 2)) (V 3))) (L (S (P (V 0) (V 1)) (P (V 0) (V 2))) (P (V 0) (V 3))) refl in
     omega (arith, ints, p, e, up, h)
 
 -- the piece that a point of the line is in
@@ -142,8 +141,8 @@ part_of n m j some more small =
           let below : i * m ≤ j * n = omega arith in
           let past : j * n < (i + 1) * m = omega arith in
           let lt : i < n = elim (cases_lt i n) [
-            | inl yes ↦ yes
-            | inr no ↦ (let a : n * m ≤ i * m = mul-le n m i m no (omega arith) in let b : n * (j + 1) ≤ n * m = mul-le n (j + 1) n m (omega arith) less in absurd (omega (arith, a, b, below, some)))
+            | inl good ↦ good
+            | inr bad ↦ (let a : n * m ≤ i * m = mul-le n m i m bad (omega arith) in let b : n * (j + 1) ≤ n * m = mul-le n (j + 1) n m (omega arith) (omega arith) in absurd (omega (arith, a, b, below, some)))
           ] in
           (i, lt, below, omega arith))
       | inr all ↦ (
@@ -163,7 +162,7 @@ clear_line s t a b grid heights Left stock bounds clear whole m j some small q l
     let around = moved m j (radius t - margin s.grid) (kappa s.grid) (flat a) (flat b) (flat q) c h.around near_most in
     let r : (radius t - margin s.grid) + kappa s.grid ≡ radius t - reduction s.grid = omega (arith, h.fits) in
     let near : IsNear (piece a b i) (radius t - reduction s.grid) c =
-        (m, j, record { some = some; first = p.2; last = p.3 }, subst (λ (x : ℕ). IsAround m j (flat a) (flat b) x c) r around) in
+    (m, j, record { some = some; first = p.2; last = p.3 }, subst (λ (x : ℕ). IsAround m j (flat a) (flat b) x c) r around) in
     let raise = tolerance s.grid + 2 * rise a b in
     let cell : st.cell < length heights = omega (arith, st.within, bounds.count) in
     let most = clear.pieces (omega (arith, h.fits)) i p.1 st.cell cell near in
@@ -182,7 +181,7 @@ clear_end s t a b grid heights Left stock bounds clear q left h =
     let r : (radius t - margin s.grid) + kappa s.grid ≡ radius t - reduction s.grid = omega (arith, h.fits) in
     let at : IsAround 1 1 (flat a) (flat b) (radius t - reduction s.grid) c = subst (λ (x : ℕ). IsAround 1 1 (flat a) (flat b) x c) r around in
     let near : IsNear (point_at b) (radius t - reduction s.grid) c =
-        (1, 0, record { some = omega arith; first = omega arith; last = omega arith }, around_point (radius t - reduction s.grid) (flat a) (flat b) c at) in
+    (1, 0, record { some = omega arith; first = omega arith; last = omega arith }, around_point (radius t - reduction s.grid) (flat a) (flat b) c at) in
     let cell : st.cell < length heights = omega (arith, st.within, bounds.count) in
     let most = clear.end (omega (arith, h.fits)) st.cell cell near in
     let below = level_under s ((b.z +ℤ t.bottom) +ℤ pos (tolerance s.grid)) q.z (slice_index heights st.cell) st.bottom (bounds.each st.cell cell q left st.in_cell) most in

@@ -1,24 +1,21 @@
 -- From a cell's centre to its points, and from the points of a line to those of its pieces.
-use Rattle.std.proofs.Common.{◌≡◌, ℕ, zero, suc, ◌+◌, ◌*◌, ◌-◌, ◌/◌, ◌%◌, ◌^◌, ◌<◌, ◌≤◌, ℤ, pos, negsuc, ◌+ℤ◌, ◌-ℤ◌, ◌*ℤ◌, neg_ℤ, ◌≤ℤ◌, ◌<ℤ◌, ◌⊎◌, ◌↔◌, unsigned_abs, inl, inr, refl, sym, ◌∙◌, ap, ap₂, subst, arith, [], ◌∷◌, min}
-use Rattle.std.proofs.Math.Nat.{mul-le-mul_left}
+use Rattle.std.proofs.Common.{◌≡◌, ℕ, ◌+◌, ◌*◌, ◌^◌, ◌<◌, ◌≤◌, ℤ, pos, negsuc, ◌+ℤ◌, ◌-ℤ◌, ◌*ℤ◌, ◌≤ℤ◌, ◌<ℤ◌, unsigned_abs, inl, inr, refl, sym, ◌∙◌, ap, subst, arith, [], ◌∷◌, min}
 use Rattle.std.proofs.lemmas.Bool.{cases_lt}
 use Rattle.std.proofs.lemmas.Nat.{mul-le}
 use Rattle.std.proofs.lemmas.Int.{ints, clamps, by_lt_z}
-use Rattle.std.specs.Int.{int_div_euclid, int_min, int_max}
-use Rattle.ngc_fixed_length.specs.Roots.{whole_root_above}
+use Rattle.std.specs.Int.{int_min, int_max}
 use Rattle.ngc_fixed_length.proofs.RootLaws.{whole_root_above-least}
 use Rattle.ngc_fixed_length.specs.declared.points.Point3.{Point3}
 use Rattle.ngc_machine_files.specs.declared.tools.Tool.{Tool}
 use Rattle.ngc_cells.specs.declared.grid.Grid.{Grid}
 use Rattle.ngc_cells.specs.declared.stretch.Spot.{Spot}
-use Rattle.ngc_cells.specs.declared.stretch.Stretch.{Stretch}
-use Rattle.ngc_cells.specs.Stretches.{square, ahead, IsAround, IsOn, IsNear, spot, REACH}
+use Rattle.ngc_cells.specs.Stretches.{square, ahead, IsAround, REACH}
 use Rattle.ngc_cells.specs.Grids.{IsGrid, centre}
-use Rattle.ngc_cells.proofs.Ring.{Term, V, S, P, M, ring}
-use Rattle.ngc_cells.proofs.Vectors.{Q, L, natural, square_least, times_most, times_out, sum_most, product_least, same_signs}
+use Rattle.ngc_cells.proofs.Ring.{V, S, P, ring}
+use Rattle.ngc_cells.proofs.Vectors.{Q, L, times_most, times_out, sum_most, product_least, same_signs}
 use Rattle.ngc_cells.proofs.Quotients.{floor_is, ceiling_is}
 use Rattle.ngc_stock.specs.declared.stock.Stock.{Stock}
-use Rattle.ngc_stock.specs.Stocks.{kappa, flat, tip, pieces, piece, point_at, highest_tip, lowest_tip, natural_of, level_of, IsInCell}
+use Rattle.ngc_stock.specs.Stocks.{kappa, tip, pieces, highest_tip, lowest_tip, natural_of, level_of, IsInCell}
 
 -- ---- within a cell
 
@@ -86,8 +83,8 @@ point_around n j r a b c some h =
     let ey = at_point (pos n) (pos j) b.y c.y in
     let e = scaled_squares (pos n) (c.x -ℤ b.x) (c.y -ℤ b.y) in
     let g : (square (pos n *ℤ (c.x -ℤ b.x)) +ℤ square (pos n *ℤ (c.y -ℤ b.y))) ≤ℤ pos ((n * r) * (n * r)) =
-        subst (λ (x : ℤ). (square x +ℤ square (pos n *ℤ (c.y -ℤ b.y))) ≤ℤ pos ((n * r) * (n * r))) ex
-        (subst (λ (y : ℤ). (square (ahead n j b.x b.x c.x) +ℤ square y) ≤ℤ pos ((n * r) * (n * r))) ey h) in
+    subst (λ (x : ℤ). (square x +ℤ square (pos n *ℤ (c.y -ℤ b.y))) ≤ℤ pos ((n * r) * (n * r))) ex
+    (subst (λ (y : ℤ). (square (ahead n j b.x b.x c.x) +ℤ square y) ≤ℤ pos ((n * r) * (n * r))) ey h) in
     let f : pos ((n * r) * (n * r)) ≡ pos (n * n) *ℤ pos (r * r) = ap pos (let i : (n * r) * (n * r) ≡ (n * n) * (r * r) = omega arith in i) in
     let d = times_out (pos (n * n)) (square (c.x -ℤ b.x) +ℤ square (c.y -ℤ b.y)) (pos (r * r)) (let p = mul-le 1 1 n n some some in omega (arith, ints, p)) (omega (arith, ints, e, g, f)) in
     let fx = at_end a.x b.x c.x in
@@ -131,11 +128,11 @@ tip_high z d n k m j h i =
     let b = times_most (pos m) last (int_max first last) (omega (arith, ints)) (omega (arith, ints, clamps)) in
     by_lt_z (pos 0) d
     (λ up. let e = tip_apart z d (pos n) (pos (k + 1)) (pos m) (pos j) in
-      let s = signed_least ((pos j *ℤ pos n) -ℤ (pos (k + 1) *ℤ pos m)) d (omega (arith, ints, i)) (omega (arith, ints, up)) in
-      omega (arith, ints, e, s, b))
+    let s = signed_least ((pos j *ℤ pos n) -ℤ (pos (k + 1) *ℤ pos m)) d (omega (arith, ints, i)) (omega (arith, ints, up)) in
+    omega (arith, ints, e, s, b))
     (λ down. let e = tip_apart z d (pos n) (pos k) (pos m) (pos j) in
-      let s = signed_most ((pos j *ℤ pos n) -ℤ (pos k *ℤ pos m)) d (omega (arith, ints, h)) down in
-      omega (arith, ints, e, s, a))
+    let s = signed_most ((pos j *ℤ pos n) -ℤ (pos k *ℤ pos m)) d (omega (arith, ints, h)) down in
+    omega (arith, ints, e, s, a))
 
 tip_low : (z d : ℤ) (n k m j : ℕ) → k * m ≤ j * n → j * n ≤ (k + 1) * m →
     (pos m *ℤ int_min ((pos n *ℤ z) +ℤ (pos k *ℤ d)) ((pos n *ℤ z) +ℤ (pos (k + 1) *ℤ d))) ≤ℤ (pos n *ℤ ((pos m *ℤ z) +ℤ (pos j *ℤ d)))
@@ -146,11 +143,11 @@ tip_low z d n k m j h i =
     let b = times_most (pos m) (int_min first last) last (omega (arith, ints)) (omega (arith, ints, clamps)) in
     by_lt_z (pos 0) d
     (λ up. let e = tip_apart z d (pos n) (pos k) (pos m) (pos j) in
-      let p : pos 0 ≤ℤ (((pos j *ℤ pos n) -ℤ (pos k *ℤ pos m)) *ℤ d) = product_least ((pos j *ℤ pos n) -ℤ (pos k *ℤ pos m)) d (omega (arith, ints, h)) (omega (arith, ints, up)) in
-      omega (arith, ints, e, p, a))
+    let p : pos 0 ≤ℤ (((pos j *ℤ pos n) -ℤ (pos k *ℤ pos m)) *ℤ d) = product_least ((pos j *ℤ pos n) -ℤ (pos k *ℤ pos m)) d (omega (arith, ints, h)) (omega (arith, ints, up)) in
+    omega (arith, ints, e, p, a))
     (λ down. let e = tip_apart z d (pos n) (pos (k + 1)) (pos m) (pos j) in
-      let p = same_signs ((pos j *ℤ pos n) -ℤ (pos (k + 1) *ℤ pos m)) d (omega (arith, ints, i)) down in
-      omega (arith, ints, e, p, b))
+    let p = same_signs ((pos j *ℤ pos n) -ℤ (pos (k + 1) *ℤ pos m)) d (omega (arith, ints, i)) down in
+    omega (arith, ints, e, p, b))
 
 -- a multiple of a number is at most that of another; so is the number
 swap_times : (n m : ℕ) (x : ℤ) → pos n *ℤ (pos m *ℤ x) ≡ pos m *ℤ (pos n *ℤ x)
@@ -165,7 +162,7 @@ tip_below t a b k m j some h i =
     let c = (ceiling_is (pos n) (highest_tip t a b k) top (omega (arith, ints, some))).0 (omega (arith, ints)) in
     let q = times_most (pos m) top (highest_tip t a b k *ℤ pos n) (omega (arith, ints)) c in
     let e : pos m *ℤ (highest_tip t a b k *ℤ pos n) ≡ pos n *ℤ (pos m *ℤ highest_tip t a b k) =
-        ring (pos m ∷ highest_tip t a b k ∷ pos n ∷ []) (P (V 0) (P (V 1) (V 2))) (P (V 2) (P (V 0) (V 1))) refl in
+    ring (pos m ∷ highest_tip t a b k ∷ pos n ∷ []) (P (V 0) (P (V 1) (V 2))) (P (V 2) (P (V 0) (V 1))) refl in
     times_out (pos n) (tip t m j a b) (pos m *ℤ highest_tip t a b k) (omega (arith, ints, some)) (omega (arith, ints, p, q, e))
 
 pub tip_above : (t : Tool) (a b : Point3) (k m j : ℕ) → 0 < pieces a b → k * m ≤ j * pieces a b → j * pieces a b ≤ (k + 1) * m →
@@ -177,7 +174,7 @@ tip_above t a b k m j some h i =
     let c = (floor_is (pos n) (lowest_tip t a b k) low (omega (arith, ints, some))).0 (omega (arith, ints)) in
     let q = times_most (pos m) (lowest_tip t a b k *ℤ pos n) low (omega (arith, ints)) c in
     let e : pos m *ℤ (lowest_tip t a b k *ℤ pos n) ≡ pos n *ℤ (pos m *ℤ lowest_tip t a b k) =
-        ring (pos m ∷ lowest_tip t a b k ∷ pos n ∷ []) (P (V 0) (P (V 1) (V 2))) (P (V 2) (P (V 0) (V 1))) refl in
+    ring (pos m ∷ lowest_tip t a b k ∷ pos n ∷ []) (P (V 0) (P (V 1) (V 2))) (P (V 2) (P (V 0) (V 1))) refl in
     times_out (pos n) (pos m *ℤ lowest_tip t a b k) (tip t m j a b) (omega (arith, ints, some)) (omega (arith, ints, p, q, e))
 
 -- ---- levels

@@ -1,6 +1,5 @@
 -- The law of silence, by induction over the commands before a traverse.
-use Rattle.std.proofs.Common.{◌≡◌, ℕ, zero, suc, ◌+◌, ◌*◌, ◌<◌, ◌≤◌, ℤ, pos, ◌+ℤ◌, ◌<ℤ◌, ◌⊎◌, inl, inr, refl, sym, ◌∙◌, ap, subst, arith, List, [], ◌∷◌, ◌++◌, length, replicate, ◌/◌, min, Bool, true, false, cond, Option, Some, None}
-use Rattle.std.specs.Prelude.{slice_index}
+use Rattle.std.proofs.Common.{◌≡◌, ℕ, ◌+◌, ◌*◌, ◌<◌, pos, ◌+ℤ◌, ◌<ℤ◌, inl, inr, sym, subst, arith, List, [], ◌∷◌, ◌++◌, ◌/◌, min, Bool, true, false, cond, Option, Some, None}
 use Rattle.std.proofs.lemmas.List.{get_or-replicate, length-replicate}
 use Rattle.ngc_fixed_length.specs.declared.points.Point3.{Point3}
 use Rattle.ngc_machine_files.specs.declared.tools.Tool.{Tool}
@@ -15,8 +14,8 @@ use Rattle.ngc_commands.specs.declared.reached.Reached.{Reached}
 use Rattle.ngc_commands.specs.Reached.{after, after_all}
 use Rattle.ngc_cells.specs.Grids.{IsGrid}
 use Rattle.ngc_stock.specs.declared.stock.Stock.{Stock}
-use Rattle.ngc_stock.specs.Stocks.{IsInStock, IsInCell, is_slope, height_of}
-use Rattle.ngc_stock.specs.Walk.{IsMotion, IsStep, IsSilent, IsCutOn, IsCutIn, IsCutInAny, IsLeft, MeetsNone, IsSafeOn, IsSafe, uncut}
+use Rattle.ngc_stock.specs.Stocks.{IsInStock, is_slope, height_of}
+use Rattle.ngc_stock.specs.Walk.{IsMotion, IsStep, IsSilent, IsCutOn, IsCutIn, IsCutInAny, IsLeft, IsSafeOn, IsSafe, uncut}
 use Rattle.ngc_stock.proofs.Bounds.{AreBounds, fewer, feed_keeps, clear_line, clear_end}
 use Rattle.ngc_stock.specs.Silence.{Silence}
 
@@ -111,9 +110,9 @@ at_first : (s : Stock) → AreBounds s (uncut s) (IsInStock s)
 at_first s = record {
   count = length-replicate (s.grid.columns * s.grid.rows) s.height;
   each = λ k small q h i.
-    let less : k < s.grid.columns * s.grid.rows = subst (λ (n : ℕ). k < n) (length-replicate (s.grid.columns * s.grid.rows) s.height) small in
-    let e = get_or-replicate (s.grid.columns * s.grid.rows) k s.height 0 less in
-    subst (λ (z : ℕ). q.z <ℤ (s.bottom +ℤ pos z)) (sym e) h.top;
+      let less : k < s.grid.columns * s.grid.rows = subst (λ (n : ℕ). k < n) (length-replicate (s.grid.columns * s.grid.rows) s.height) small in
+      let e = get_or-replicate (s.grid.columns * s.grid.rows) k s.height 0 less in
+      subst (λ (z : ℕ). q.z <ℤ (s.bottom +ℤ pos z)) (sym e) h.top;
 }
 
 pub silence : Silence

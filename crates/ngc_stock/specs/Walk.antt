@@ -1,6 +1,6 @@
 -- Which heights of the cells a program's motions leave, and when a traverse may touch material. Our
 -- own.
-use Rattle.std.specs.Prelude.{◌≡◌, ℕ, zero, suc, ◌+◌, ◌*◌, ◌-◌, ◌≤◌, ◌<◌, ◌⊎◌, ℤ, pos, ◌+ℤ◌, List, [], ◌∷◌, ◌++◌, replicate, Option, Some, None}
+use Rattle.std.specs.Prelude.{◌≡◌, ℕ, zero, suc, ◌+◌, ◌*◌, ◌-◌, ◌≤◌, ◌<◌, ◌⊎◌, pos, ◌+ℤ◌, List, [], ◌∷◌, replicate, Option, Some, None}
 use Rattle.ngc_fixed_length.specs.declared.points.Point3.{Point3}
 use Rattle.ngc_machine_files.specs.declared.tools.Tool.{Tool}
 use Rattle.ngc_commands.specs.declared.command.Action.{Action}
@@ -11,7 +11,7 @@ use Rattle.ngc_commands.specs.declared.movement.Way.TheVariants.{Line, Arc}
 use Rattle.ngc_commands.specs.declared.movement.Pace.{Pace}
 use Rattle.ngc_commands.specs.declared.movement.Pace.TheVariants.{Rapid, Feed}
 use Rattle.ngc_commands.specs.declared.reached.Reached.{Reached}
-use Rattle.ngc_commands.specs.Reached.{after, after_all}
+use Rattle.ngc_commands.specs.Reached.{after}
 use Rattle.ngc_cells.specs.Grids.{AreLowered, AreBelow}
 use Rattle.ngc_stock.specs.declared.stock.Stock.{Stock}
 use Rattle.ngc_stock.specs.Stocks.{kappa, reduction, margin, tolerance, radius, rise, pieces, piece, point_at, highest_tip, lowest_tip, level_of, IsInStock, IsCutBy, IsInReduced}

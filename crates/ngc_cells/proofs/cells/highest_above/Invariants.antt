@@ -1,4 +1,4 @@
-use Rattle.std.proofs.Common.{◌≡◌, ℕ, ◌*◌, ◌<◌, ◌≤◌, get_or}
+use Rattle.std.proofs.Common.{ℕ, ◌*◌, ◌<◌, ◌≤◌, get_or}
 use Rattle.ngc_cells.specs.Stretches.{IsNear}
 use Rattle.ngc_cells.specs.Grids.{centre, IsNearPeak}
 use Rattle.ngc_cells.proofs.cells.highest_above.Given as goal

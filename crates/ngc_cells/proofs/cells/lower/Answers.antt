@@ -1,18 +1,8 @@
-use Rattle.std.proofs.Common.{◌≡◌, ℕ, ℤ, pos, negsuc, ◌+◌, ◌*◌, ◌+ℤ◌, ◌*ℤ◌, ◌≤ℤ◌, ◌<ℤ◌, ◌≤◌, ◌<◌, ◌^◌, ◌↔◌, ◌≢◌, FitsSigned, unsigned_abs, to_z, of_z, neg_ℤ, ◌-ℤ◌, arith, sym, ◌∙◌, ap, ap₂, subst, refl, lit<}
-use Rattle.std.specs.Int.{w64, w128}
-use Rattle.std.proofs.lemmas.Int.{ints, to_z-of_z, by_lt_z}
-use Rattle.ngc_fixed_length.specs.Roots.{IsRootFloor}
-use Rattle.ngc_cells.specs.declared.span.Span.{Span}
-use Rattle.ngc_cells.specs.declared.stretch.Stretch.{Stretch}
-use Rattle.ngc_cells.specs.Spans.{IsIn, IsInEither, IsBetween}
-use Rattle.ngc_cells.specs.Stretches.{REACH, RADIUS_LIMIT, PARTS_LIMIT, IsSpot, IsStretch, ahead, middle, square, IsAround, squared_length, along, aside, IsAlong, IsClose, IsBand, IsBeside, IsWidth, IsNear, spot}
-use Rattle.ngc_cells.proofs.Kept.{kept64, kept128, less64, plus64, less128, plus128}
-use Rattle.std.proofs.Common.{inl, inr}
-use Rattle.std.proofs.lemmas.Bool.{cases_lt}
-use Rattle.ngc_cells.specs.declared.cells.Peak.{Peak}
-use Rattle.ngc_cells.specs.Grids.{middle_of, IsLowered, AreLowered, AreBelow, IsPeak, IsFoundIn, IsNearPeak}
-use Rattle.ngc_cells.proofs.Lowering.{IsRow, row_lowered, row_rest, row_most, row_found, later_peak}
-use Rattle.ngc_cells.proofs.Grids.{indices_are, middle_small}
+use Rattle.std.proofs.Common.{◌≡◌, to_z, of_z, arith, ◌∙◌}
+use Rattle.std.specs.Int.{w64}
+use Rattle.std.proofs.lemmas.Int.{ints}
+use Rattle.ngc_cells.proofs.Kept.{kept64}
+use Rattle.ngc_cells.proofs.Lowering.{IsRow, row_lowered, row_rest}
 use Rattle.ngc_cells.proofs.cells.lower.Goals as goal
 
 pub loop-row-preserved : goal.loop-row-preserved

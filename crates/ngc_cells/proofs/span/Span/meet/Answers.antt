@@ -1,8 +1,7 @@
-use Rattle.std.proofs.Common.{◌≡◌, ℤ, pos, ◌*ℤ◌, ◌≤ℤ◌, ◌<ℤ◌, ◌≤◌, ◌^◌, ◌↔◌, ◌≢◌, unsigned_abs, to_z, of_z, neg_ℤ, ◌-ℤ◌, arith, sym, ◌∙◌, ap, ap₂}
-use Rattle.std.specs.Int.{w128, int_div_euclid, int_max, int_min}
-use Rattle.std.proofs.lemmas.Int.{ints, to_z-of_z}
-use Rattle.ngc_cells.specs.Spans.{IsIn, IsInEither, IsBetween}
-use Rattle.ngc_cells.proofs.Quotients.{floor_is, ceiling_is, meet_is, hull_between, quotients_up, quotients_down}
+use Rattle.std.proofs.Common.{◌≡◌, to_z, of_z, arith}
+use Rattle.std.specs.Int.{w128}
+use Rattle.std.proofs.lemmas.Int.{ints}
+use Rattle.ngc_cells.proofs.Quotients.{meet_is}
 use Rattle.ngc_cells.proofs.span.Span.meet.Goals as goal
 
 pub returns : goal.returns
