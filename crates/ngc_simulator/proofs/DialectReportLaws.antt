@@ -1,19 +1,12 @@
 -- The report of a program for another control, from the results of its parts.
-use Rattle.std.proofs.Common.{◌≡◌, ℕ, List, [], ◌∷◌, Option, Some, None, Bool, true, false, Result, Ok, Err, IfErr, IfOk, ap, inr, refl, subst, sym, ◌∙◌}
-use Rattle.std.specs.Prelude.{◌||◌, is_some, option_map, MatchResult}
-use Rattle.std.specs.List.{list_any}
-use Rattle.std.specs.Io.KnownBytes.{Keeps}
+use Rattle.std.proofs.Common.{◌≡◌, ℕ, List, Option, Some, None, Result, Ok, Err, IfErr, inr, refl, subst}
+use Rattle.std.specs.Prelude.{MatchResult}
 use Rattle.ngc_canonical.specs.State.{Setup}
-use Rattle.ngc_commands.specs.declared.command.Command.{Command}
-use Rattle.ngc_dialect_execution.specs.Program.{meaning_in}
 use Rattle.ngc_dialect_reader.specs.declared.dialect.Dialect.{Dialect}
-use Rattle.ngc_frames.specs.declared.history.FrameHistory.{FrameHistory}
 use Rattle.ngc_inputs.specs.Unread.{unread_by}
 use Rattle.ngc_inputs.specs.declared.fault.AnswerFault.{AnswerFault}
 use Rattle.ngc_inputs.specs.declared.fault.AnswerFault.TheVariants as answers
-use Rattle.ngc_certificate.specs.declared.fault.MakeFault.TheVariants.{Memory, NotCleared}
-use Rattle.ngc_job.specs.Job.{JobData, commands_in}
-use Rattle.ngc_line_reader.specs.Program.{split_lines}
+use Rattle.ngc_certificate.specs.declared.fault.MakeFault.TheVariants.{Memory}
 use Rattle.ngc_program_report.specs.Framed.{FramedData, framed_in}
 use Rattle.ngc_program_report.specs.declared.framed.FramedJob.{FramedJob}
 use Rattle.ngc_program_report.specs.Reported.{other_lines}
@@ -22,13 +15,10 @@ use Rattle.ngc_command_line.specs.declared.options.ReportOptions.{ReportOptions}
 use Rattle.ngc_inputs.specs.Setups.{FileBytes}
 use Rattle.ngc_simulator.specs.Answers.{DialectReportResult, DialectReportsOn, StopsReport, requested_form}
 use Rattle.ngc_simulator.specs.Mistaken.{ReportsPlacedRefusal}
-use Rattle.ngc_simulator.specs.DialectReports.{IsFramedDialect, ReportsDialect, begins_with_slash, dialect_frames, has_deleted}
-use Rattle.ngc_simulator.specs.Dialects.{NotesFault, NotesRefusal}
+use Rattle.ngc_simulator.specs.DialectReports.{IsFramedDialect, ReportsDialect}
 use Rattle.ngc_simulator.specs.Reporting.{ReportsJob}
 use Rattle.ngc_simulator.specs.declared.done.Done.{Done}
-use Rattle.ngc_simulator.specs.declared.done.Done.TheVariants.{Quietly, WithNotes}
 use Rattle.ngc_simulator.specs.declared.done.Notes.{Notes}
-use Rattle.ngc_certificate_text.specs.declared.piece.Setting.TheVariants.{Off, On}
 
 -- ---- the report
 

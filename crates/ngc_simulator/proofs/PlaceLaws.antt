@@ -1,5 +1,5 @@
 -- The result of finding at which shifts of an origin a program fits, from the results of its parts.
-use Rattle.std.proofs.Common.{◌≡◌, ℕ, List, Option, Some, None, Result, Ok, Err, IfSome, refl, subst, sym, ◌∙◌}
+use Rattle.std.proofs.Common.{◌≡◌, ℕ, List, Option, Some, Result, Ok, Err, IfSome, refl, subst, sym, ◌∙◌}
 use Rattle.std.specs.Prelude.{IfErr, option_map}
 use Rattle.ngc_fixed_length.specs.declared.modes.System.{System}
 use Rattle.ngc_line_reader.specs.declared.program.fault.ReadFault.{ReadFault}
@@ -63,6 +63,11 @@ certifying (Err _) of = absurd of
 
 pub not_read : (A : Type 0) (result : Result (Unit {0}) AnswerFault) (e : ReadFault) → IfErr result OfPlacing → result ≡ Err (answers.Read e) → A
 not_read A result e of is = absurd (subst (λ (r : Result (Unit {0}) AnswerFault). IfErr r OfPlacing) is of)
+
+-- finding where a job fits never lacks memory in any other place
+pub placing_not_memory : (does : Execution) (j : JobData) (request : PlaceRequest) (old new : Option (List ℕ)) (fault : AnswerFault)
+    → PlacesJob does j request old new (Err fault) → fault ≡ answers.Memory → ⊥
+placing_not_memory does j request old new fault places is = subst (λ (e : AnswerFault). PlacesJob does j request old new (Err e)) is places
 
 -- a program that has no job
 no_job : (setup : Setup) (bytes : List ℕ) (request : PlaceRequest) (text : ProgramText) (s : Setting) (fault : ProgramFault) (known : Option (List ℕ))

@@ -12,7 +12,7 @@ use Rattle.ngc_simulator.specs.Dialects.{OnDialect, StopsDialect}
 use Rattle.ngc_simulator.specs.DialectPlaces.{PlacesDialect}
 use Rattle.ngc_simulator.specs.declared.done.Done.{Done}
 use Rattle.ngc_simulator.specs.declared.place_request.PlaceRequest.{PlaceRequest}
-use Rattle.ngc_simulator.proofs.DialectLaws.{all_were_read, dialect_comes, place_read, on_dialect}
+use Rattle.ngc_simulator.proofs.DialectLaws.{all_were_read, dialect_comes, on_read, place_read}
 use Rattle.ngc_simulator.proofs.dialect_places.place_dialect.Goals as goal
 
 pub returns-in_err-sent-clause-comes : goal.returns-in_err-sent-clause-comes
@@ -34,11 +34,13 @@ returns-clause-comes g c =
     let tools : Option (List ℕ) = Some c.args.options.now.tools.now in
     let bytes : FileBytes = g.F.Files.bytes c.args.files.now in
     let sent = c.in_ok-sent.sent in
+    let program : Option (List ℕ) = option_map (λ n. n.now) c.args.options.now.program in
+    let request = place_request c.args.options.now c.args.system in
     dialect_comes (StopsDialect c.args.control.now bytes machine tools c.args.options.now.changes)
-    (λ (o : Result Done AnswerFault). OnDialect c.args.control.now bytes machine tools c.args.options.now.changes
-    (option_map (λ n. n.now) c.args.options.now.program) (λ d setup source. PlacesDialect d setup source (place_request c.args.options.now c.args.system) old new o)) old new c.place_sent.result
-    (on_dialect _ (g.F.Files.bytes c.args.files.now) c.in_ok-sent.sent
-    (λ d setup source. PlacesDialect d setup source (place_request c.args.options.now c.args.system) old new c.place_sent.result) c.in_ok-sent.ensures.sent
+    (λ (o : Result Done AnswerFault). OnDialect c.args.control.now bytes machine tools c.args.options.now.changes program
+    (λ d setup source. PlacesDialect d setup source request old new o)) old new c.place_sent.result
+    (on_read c.args.control.now machine tools c.args.options.now.changes program bytes sent
+    (λ d setup source. PlacesDialect d setup source request old new c.place_sent.result) c.in_ok-sent.ensures.sent
     (subst (λ (r : PlaceRequest). PlacesDialect sent.dialect (setup_of sent.shop.machine sent.shop.tools) sent.text.items r old new c.place_sent.result)
     c.request_of.ensures c.place_sent.ensures.places))
 

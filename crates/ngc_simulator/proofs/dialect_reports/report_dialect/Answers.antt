@@ -1,4 +1,4 @@
-use Rattle.std.proofs.Common.{ℕ, List, Option, Some, inl, ap, subst, sym, ◌∙◌}
+use Rattle.std.proofs.Common.{ℕ, List, Option, Some, inl, subst}
 use Rattle.std.specs.Prelude.{option_map}
 use Rattle.ngc_canonical.specs.Interpreter.{setup_of}
 use Rattle.ngc_inputs.specs.Setups.{FileBytes}
