@@ -59,7 +59,7 @@ pub on_dialect : (names : DialectFiles) (bytes : FileBytes) (sent : Sent) (P : D
     (option_map (λ n. n.now) names.program) P
 on_dialect names bytes sent P is p =
     on_read names.control.now (option_map (λ n. n.now) names.machine) (option_map (λ n. n.now) names.tools) names.changes
-    (option_map (λ n. n.now) names.program) bytes sent P is p
+    (option_map (λ n. n.now) names.program) bytes sent P is.read p
 
 -- a command that does its work
 pub dialect_comes : (Stops : AnswerFault → Type 0) (Does : Result Done AnswerFault → Type 0) (old new : Option (List ℕ)) (outcome : Result Done AnswerFault) →
@@ -79,7 +79,7 @@ pub sent_read : (names : DialectFiles) (bytes : FileBytes) (sent : Sent) → IsS
 sent_read names bytes sent is =
     all_read bytes (shop_inputs (option_map (λ n. n.now) names.machine) (option_map (λ n. n.now) names.tools))
     (source_input (option_map (λ n. n.now) names.program) ∷ [])
-    (placed_read bytes (option_map (λ n. n.now) names.machine) (option_map (λ n. n.now) names.tools) names.changes sent.shop is.placed)
+    (placed_read bytes (option_map (λ n. n.now) names.machine) (option_map (λ n. n.now) names.tools) names.changes sent.shop is.read.placed)
     (any_bytes (bytes (option_map (λ n. n.now) names.program)), tt)
   where
     any_bytes : (known : Option (List ℕ)) → IfSome known (IsReadAs OfSource)

@@ -67,10 +67,11 @@ pub record IsRead (control : List ℕ) (machine tools : Option (List ℕ)) (chan
   pub placed : PlacedResultIs bytes machine tools changes (Ok sent.shop)
   pub text : IfSome (bytes program) (λ b. sent.text.items ≡ b)
 
-abbrev pub IsSent : DialectFiles → FileBytes → Sent → Type 0
-IsSent names bytes sent = IsRead names.control.now (option_map (λ n. n.now) names.machine)
-    (option_map (λ n. n.now) names.tools) names.changes (option_map (λ n. n.now) names.program) bytes
-    sent
+-- what was read is what the names are of
+pub record IsSent (names : DialectFiles) (bytes : FileBytes) (sent : Sent) : Type 0 where
+  pub read : IsRead names.control.now (option_map (λ n. n.now) names.machine)
+      (option_map (λ n. n.now) names.tools) names.changes (option_map (λ n. n.now) names.program)
+      bytes sent
 
 -- why nothing was read by the names
 abbrev pub StopsSending : DialectFiles → FileBytes → AnswerFault → Type 0

@@ -40,7 +40,7 @@ returns-clause-comes g c =
     (λ (o : Result Done AnswerFault). OnDialect c.args.control.now bytes machine tools c.args.options.now.changes program
     (λ d setup source. PlacesDialect d setup source request old new o)) old new c.place_sent.result
     (on_read c.args.control.now machine tools c.args.options.now.changes program bytes sent
-    (λ d setup source. PlacesDialect d setup source request old new c.place_sent.result) c.in_ok-sent.ensures.sent
+    (λ d setup source. PlacesDialect d setup source request old new c.place_sent.result) c.in_ok-sent.ensures.sent.read
     (subst (λ (r : PlaceRequest). PlacesDialect sent.dialect (setup_of sent.shop.machine sent.shop.tools) sent.text.items r old new c.place_sent.result)
     c.request_of.ensures c.place_sent.ensures.places))
 

@@ -50,7 +50,7 @@ returns-in_err-write_svg-clause-draws g c = λ bytes text is_text have said.
     c.in_ok-framed.ensures.commands
     (sym {b = refusal_answer (fault_at setup.machine (setting_of c.args.block_delete) c.as_slice-commands.result.now (certificate_data c.args.certificate.now))}
     c.in_ok-refusal.ensures) (in_force setup (text_in c.args.program.now) c.args.block_delete c.in_ok-framed.framed.frames.start c.in_ok-framed.framed.frames.changes.items
-    c.as_slice-commands.result.now _ _ c.in_ok-framed.ensures.start c.in_ok-framed.ensures.changes c.work_origin-work.ensures) c.in_err-write_svg.ensures.fault (λ is. c.in_err-write_svg.ensures.memory (ap Err is))))
+    c.as_slice-commands.result.now c.in_ok-refusal.refusal c.work_origin-work.result c.in_ok-framed.ensures.start c.in_ok-framed.ensures.changes c.work_origin-work.ensures) c.in_err-write_svg.ensures.fault (λ is. c.in_err-write_svg.ensures.memory (ap Err is))))
 
 pub returns-clause-draws : goal.returns-clause-draws
 returns-clause-draws g c = λ bytes text is_text have said.
@@ -65,5 +65,5 @@ returns-clause-draws g c = λ bytes text is_text have said.
           c.in_ok-framed.ensures.commands
           (sym {b = refusal_answer (fault_at setup.machine (setting_of c.args.block_delete) c.as_slice-commands.result.now (certificate_data c.args.certificate.now))}
           c.in_ok-refusal.ensures) (in_force setup (text_in c.args.program.now) c.args.block_delete c.in_ok-framed.framed.frames.start c.in_ok-framed.framed.frames.changes.items
-          c.as_slice-commands.result.now _ _ c.in_ok-framed.ensures.start c.in_ok-framed.ensures.changes c.work_origin-work.ensures) c.in_ok-write_svg.ensures.ok,
+          c.as_slice-commands.result.now c.in_ok-refusal.refusal c.work_origin-work.result c.in_ok-framed.ensures.start c.in_ok-framed.ensures.changes c.work_origin-work.ensures) c.in_ok-write_svg.ensures.ok,
     )

@@ -36,7 +36,7 @@ returns-in_err-write_svg-clause-draws g c = λ bytes is_text have.
     (text_in c.args.program.now) c.in_ok-framed.framed.commands.items c.as_slice-commands.result.now c.new-none.result _ _
     c.in_err-write_svg.field-0.0
     c.as_slice-commands.ensures.value c.new-none.ensures is_text have c.in_ok-framed.ensures.commands c.in_ok-refusal.ensures (in_force setup (text_in c.args.program.now) c.args.block_delete c.in_ok-framed.framed.frames.start c.in_ok-framed.framed.frames.changes.items
-    c.as_slice-commands.result.now _ _ c.in_ok-framed.ensures.start c.in_ok-framed.ensures.changes c.work_origin-work.ensures)
+    c.as_slice-commands.result.now c.in_ok-refusal.refusal c.work_origin-work.result c.in_ok-framed.ensures.start c.in_ok-framed.ensures.changes c.work_origin-work.ensures)
     c.in_err-write_svg.ensures.fault (λ is. c.in_err-write_svg.ensures.memory (ap Err is)))
 
 pub returns-clause-draws : goal.returns-clause-draws
@@ -45,5 +45,5 @@ returns-clause-draws g c = λ bytes is_text have.
     drawn setup bytes c.args.block_delete c.args.look [] (IsMadeRefusal setup.machine) _ _
     (text_in c.args.program.now) c.in_ok-framed.framed.commands.items c.as_slice-commands.result.now c.new-none.result _ _
     c.as_slice-commands.ensures.value c.new-none.ensures is_text have c.in_ok-framed.ensures.commands c.in_ok-refusal.ensures (in_force setup (text_in c.args.program.now) c.args.block_delete c.in_ok-framed.framed.frames.start c.in_ok-framed.framed.frames.changes.items
-    c.as_slice-commands.result.now _ _ c.in_ok-framed.ensures.start c.in_ok-framed.ensures.changes c.work_origin-work.ensures)
+    c.as_slice-commands.result.now c.in_ok-refusal.refusal c.work_origin-work.result c.in_ok-framed.ensures.start c.in_ok-framed.ensures.changes c.work_origin-work.ensures)
     c.in_ok-write_svg.ensures.ok
