@@ -42,8 +42,8 @@ pub(crate) fn dialects() -> &'static [Row]
         },
         Row {
             number: 136,
-            rule: "A subprogram, a line or the end of a block isn't there, or is there twice: correct the label or the\n\
-             number. The message says which (our own).",
+            rule: "A subprogram, a line or the end of a block isn't there, or is there twice: correct the label or\n\
+             the number. The message says which (our own).",
             example: "command with `--dialect linuxcnc`: `o1 call`",
             answer: "`ngc: fault 136 line 1: no subprogram or line has this label`",
             place: None,
