@@ -130,7 +130,8 @@ impl Compensation {
 
     /// Returns the compensation from a place on, at a height above the plane: G41, G42, G41.1 or
     /// G42.1. `is_on` says whether compensation is on already. A radius below 0 changes the side.
-    /// Returns `None` for a radius of 0.
+    /// Returns `None` for a radius of 0. Refuses compensation that is on already (223) and the plane
+    /// YZ (211).
     pub fn start(
         is_on: bool,
         plane: Plane,
@@ -158,6 +159,10 @@ impl Compensation {
     ///
     /// The held move is made before the corner's. A move along the third axis alone makes nothing
     /// certain: the tool makes it at the end of the held move, wherever that will be.
+    ///
+    /// Refuses a place over 4 m from zero along an axis and a radius over 0.1 m (101), and a move
+    /// beside which the tool doesn't fit (247). These rules are LinuxCNC's, but for four arcs that
+    /// are refused besides: an arc beside the path that would run backwards, or not close.
     #[tactic(auto, unfolding(crate::specs::Steps::step))]
     pub fn step(&self, next: &Move) -> Result<Outcome, Refusal>
         ensures { result ≡ spec.step self.now next.now }
@@ -171,7 +176,8 @@ impl Compensation {
         self.taken(next)
     }
 
-    /// Returns the held move at its own end, or `None` before the entry move: G40.
+    /// Returns the held move at its own end, or `None` before the entry move: G40. Refuses a move that
+    /// would run backwards (247), and places and a radius as `step` does (101).
     pub fn finish(&self) -> Result<Option<Move>, Refusal>
         ensures { result ≡ spec.finished self.now }
     {
