@@ -20,6 +20,7 @@ use Rattle.ngc_frames.specs.declared.change.FrameChange.{FrameChange}
 use Rattle.ngc_frames.specs.declared.frame.Frame.{Frame}
 use Rattle.ngc_certificate_text.specs.Certificate.{CertificateData, Entry, entries_at}
 use Rattle.ngc_certificate_text.specs.ParsedPart.{parsed_certificate}
+use Rattle.ngc_certificate_text.specs.declared.piece.Setting.{Setting}
 use Rattle.ngc_certificate_text.specs.declared.piece.Setting.TheVariants.{Off}
 use Rattle.ngc_certificate.specs.Made.{from_start, join_settings}
 use Rattle.ngc_certificate.specs.PieceFault.{place_fault}
@@ -123,6 +124,15 @@ pub certificate_refused : (machine : MachineFile) (block_delete : Bool) (look : 
     → DrawsCertified machine block_delete look c frames commands known known (Err (answers.Check fault))
 certificate_refused machine block_delete look c frames commands given known fault same is =
     (sym (is ∙ ap (λ cs. refusal_answer (fault_at machine (setting_of block_delete) cs c)) same), keeps_same known)
+
+-- the motions of a certificate at a setting
+pub same_entries : (c : CertificateData) (s t : Setting) (entries : List Entry) → entries ≡ entries_at s c → s ≡ t → entries ≡ entries_at t c
+same_entries c s t entries are same = are ∙ ap (λ x. entries_at x c) same
+
+-- the refusal that is drawn
+pub named_refusal : (machine : MachineFile) (s : Setting) (c : CertificateData) (commands : List Command) (refusal : Option RefusedMotion)
+    → Ok refusal ≡ refusal_answer (fault_at machine s commands c) → IsNamedRefusal machine s c commands refusal
+named_refusal machine s c commands refusal is = sym is
 
 -- a picture by a certificate that isn't written
 pub certified_stopped : (machine : MachineFile) (block_delete : Bool) (look : Look) (c : CertificateData) (frames : History) (commands : List Command)

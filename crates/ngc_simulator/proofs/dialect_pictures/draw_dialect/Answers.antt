@@ -59,8 +59,8 @@ returns-in-None-clause-unread g c =
     (draw_read sent.dialect (setup_of sent.shop.machine sent.shop.tools) c.args.options.now.delete sent.text.items c.look_of-look.result _ _ c.draw_sent.result
     c.draw_sent.ensures.draws)
 
-pub returns-in-Some-clause-comes : goal.returns-in-Some-clause-comes
-returns-in-Some-clause-comes g c =
+pub returns-clause-comes : goal.returns-clause-comes
+returns-clause-comes g c =
     let old : Option (List ℕ) = g.W.Sink.written c.args.output.now in
     let new : Option (List ℕ) = g.W.Sink.written c.draw_sent_by.new.output in
     let options = c.args.options.now in
@@ -82,8 +82,8 @@ returns-in-Some-clause-comes g c =
     (subst (λ (look : Look). DrawsDialectBy sent.dialect setup options.delete sent.text.items look (after (Some name)) old new outcome) c.look_of-look.ensures
     c.draw_sent_by.ensures.draws))))
 
-pub returns-in-Some-clause-unread : goal.returns-in-Some-clause-unread
-returns-in-Some-clause-unread g c =
+pub returns-clause-unread : goal.returns-clause-unread
+returns-clause-unread g c =
     let name : List ℕ = c.in-Some.certificate.now in
     certificate_last (SourceFails g.F.R.Source.remaining g.F.R.Source.failures) (g.F.Files.bytes c.args.files.now) (g.F.Files.bytes c.read_sent.new.files)
     c.args.options.now c.args.control.now name _ _ _ c.draw_sent_by.result (ap (option_map (λ n. n.now)) c.in-Some.is)

@@ -13,16 +13,16 @@ returns-in_err-draw_commands-in-Ok-clause-draws g c =
     let old : Option (List ℕ) = g.W.Sink.written c.args.output.now in
     let new : Option (List ℕ) = g.W.Sink.written c.draw_commands.new.output in
     let fault = c.in_err-draw_commands-in-Ok.field-0.0 in
-    let executed = rw (c.in-Ok.is, c.as_slice-text.ensures.value) at c.in_ok-framed_at.ensures.executed in
+    let (means, framed) = rw (c.in-Ok.is, c.as_slice-text.ensures.value) at c.in_ok-framed.ensures.executed in
     turned _ fault (DrawsDialect sent.dialect setup c.args.block_delete sent.text.items c.args.look old new)
     c.from_residual-in_err-draw_commands-in-Ok.ensures.1
     (dialect_undrawn sent.dialect setup c.args.block_delete sent.text.items c.args.look (history_in c.in-Ok.framed.frames) c.in-Ok.framed.commands.items old new
-    fault executed.0 executed.1 c.in_err-draw_commands-in-Ok.ensures.draws)
+    fault means framed.0 c.in_err-draw_commands-in-Ok.ensures.draws)
 
-pub returns-in-Ok-clause-draws : goal.returns-in-Ok-clause-draws
-returns-in-Ok-clause-draws g c =
+pub returns-in_ok-draw_commands-in-Ok-clause-draws : goal.returns-in_ok-draw_commands-in-Ok-clause-draws
+returns-in_ok-draw_commands-in-Ok-clause-draws g c =
     let sent = c.args.sent.now in
-    let executed = rw (c.in-Ok.is, c.as_slice-text.ensures.value) at c.in_ok-framed_at.ensures.executed in
+    let (means, framed) = rw (c.in-Ok.is, c.as_slice-text.ensures.value) at c.in_ok-framed.ensures.executed in
     drawn_dialect sent.dialect (setup_of sent.shop.machine sent.shop.tools) c.args.block_delete sent.text.items c.args.look
     (history_in c.in-Ok.framed.frames) c.in-Ok.framed.commands.items (g.W.Sink.written c.args.output.now) (g.W.Sink.written c.draw_commands.new.output)
-    executed.0 executed.1 c.in_ok-draw_commands-in-Ok.ensures.draws
+    means framed.0 c.in_ok-draw_commands-in-Ok.ensures.draws

@@ -22,10 +22,10 @@ returns-in_err-certificate-clause-draws g c =
     let old : Option (List ℕ) = g.W.Sink.written c.args.output.now in
     let known : Option (List ℕ) = g.F.Files.bytes c.args.files.now (Some c.args.certificate.now) in
     let fault = c.in_err-certificate.field-0.0 in
-    let executed = rw (c.in-Ok.is, c.as_slice-text.ensures.value) at c.in_ok-framed_at.ensures.executed in
+    let (means, framed) = rw (c.in-Ok.is, c.as_slice-text.ensures.value) at c.in_ok-framed.ensures.executed in
     turned _ (answers.Certificate fault) (DrawsDialectBy sent.dialect setup c.args.block_delete sent.text.items c.args.look known old old)
     c.from_residual-in_err-certificate.ensures.1
-    (no_certificate_by sent.dialect setup c.args.block_delete sent.text.items c.args.look known c.in-Ok.framed.commands.items old fault executed.0
+    (no_certificate_by sent.dialect setup c.args.block_delete sent.text.items c.args.look known c.in-Ok.framed.commands.items old fault means
     (if_known known _ (λ text. IsNoCertificate text fault) (λ text says. no_certificate Global.the_row.Denot certificate_data text fault says)
     c.in_err-certificate.ensures.said))
 
@@ -42,11 +42,11 @@ returns-in_err-draw_commands_by-clause-draws g c =
     let new : Option (List ℕ) = g.W.Sink.written c.draw_commands_by.new.output in
     let known : Option (List ℕ) = g.F.Files.bytes c.args.files.now (Some c.args.certificate.now) in
     let fault = c.in_err-draw_commands_by.field-0.0 in
-    let executed = rw (c.in-Ok.is, c.as_slice-text.ensures.value) at c.in_ok-framed_at.ensures.executed in
+    let (means, framed) = rw (c.in-Ok.is, c.as_slice-text.ensures.value) at c.in_ok-framed.ensures.executed in
     turned _ fault (DrawsDialectBy sent.dialect setup c.args.block_delete sent.text.items c.args.look known old new)
     c.from_residual-in_err-draw_commands_by.ensures.1
     (dialect_undrawn_by sent.dialect setup c.args.block_delete sent.text.items c.args.look known (history_in c.in-Ok.framed.frames)
-    c.in-Ok.framed.commands.items (certificate_data c.in_ok-certificate.certificate) old new fault executed.0 executed.1 c.in_ok-certificate.ensures.said
+    c.in-Ok.framed.commands.items (certificate_data c.in_ok-certificate.certificate) old new fault means framed.0 c.in_ok-certificate.ensures.said
     c.in_err-draw_commands_by.ensures.draws)
 
 pub returns-in_err-draw_commands_by-clause-unread : goal.returns-in_err-draw_commands_by-clause-unread
@@ -62,8 +62,8 @@ pub returns-clause-draws : goal.returns-clause-draws
 returns-clause-draws g c =
     let sent = c.args.sent.now in
     let known : Option (List ℕ) = g.F.Files.bytes c.args.files.now (Some c.args.certificate.now) in
-    let executed = rw (c.in-Ok.is, c.as_slice-text.ensures.value) at c.in_ok-framed_at.ensures.executed in
+    let (means, framed) = rw (c.in-Ok.is, c.as_slice-text.ensures.value) at c.in_ok-framed.ensures.executed in
     drawn_dialect_by sent.dialect (setup_of sent.shop.machine sent.shop.tools) c.args.block_delete sent.text.items c.args.look known
     (history_in c.in-Ok.framed.frames) c.in-Ok.framed.commands.items (certificate_data c.in_ok-certificate.certificate)
-    (g.W.Sink.written c.args.output.now) (g.W.Sink.written c.draw_commands_by.new.output) executed.0 executed.1 c.in_ok-certificate.ensures.said
+    (g.W.Sink.written c.args.output.now) (g.W.Sink.written c.draw_commands_by.new.output) means framed.0 c.in_ok-certificate.ensures.said
     c.in_ok-draw_commands_by.ensures.draws

@@ -1,6 +1,9 @@
-use Rattle.std.proofs.Common.{◌∷◌, Some, Ok, Err, ap, ◌∙◌, inl, inr}
+use Rattle.std.proofs.Common.{◌∷◌, Some, Ok, Err, ap, ◌∙◌, inl, inr, subst}
 use Rattle.std.specs.Prelude.{option_map}
 use Rattle.ngc_inputs.specs.declared.fault.AnswerFault.TheVariants as answers
+use Rattle.ngc_canonical.specs.Interpreter.{setup_of}
+use Rattle.ngc_drawing.specs.declared.look.Look.{Look}
+use Rattle.ngc_simulator.specs.Drawing.{DrawsProgram}
 use Rattle.ngc_simulator.specs.Answers.{OwnDrawResult, certificate_inputs, own_draw_inputs, program_input}
 use Rattle.ngc_inputs.specs.Faults.{OfDrawing}
 use Rattle.ngc_inputs.specs.Unread.{OfProgram, SourceFails, program_unread, shop_inputs, unread_by}
@@ -34,7 +37,9 @@ returns-clause-comes g c =
     plain_files (g.F.Files.bytes c.args.files.now) (g.F.Files.bytes c.read_placed.new.files) c.args.options.now c.args.view c.in_ok-shop.shop
     (g.W.Sink.written c.args.output.now) (g.W.Sink.written c.draw_program.new.output) (Ok tt) _
     (ap (option_map (λ n. n.now)) c.requires) c.in_ok-shop.ensures.said c.read_placed.ensures.keeps c.in_ok-program.ensures.text
-    (λ a is_text. c.in_ok-draw_program.ensures.draws a is_text c.in_ok-program.ensures.readings)
+    (λ a is_text. subst (λ (look : Look). DrawsProgram (setup_of c.in_ok-shop.shop.machine c.in_ok-shop.shop.tools) a c.args.options.now.delete look
+    (g.W.Sink.written c.args.output.now) (g.W.Sink.written c.draw_program.new.output) (Ok tt)) c.look_of.ensures
+    (c.in_ok-draw_program.ensures.draws a is_text c.in_ok-program.ensures.readings))
 
 pub returns-in_err-draw_program-clause-comes : goal.returns-in_err-draw_program-clause-comes
 returns-in_err-draw_program-clause-comes g c =
@@ -46,7 +51,9 @@ returns-in_err-draw_program-clause-comes g c =
       plain_files (g.F.Files.bytes c.args.files.now) (g.F.Files.bytes c.read_placed.new.files) c.args.options.now c.args.view c.in_ok-shop.shop
           (g.W.Sink.written c.args.output.now) (g.W.Sink.written c.draw_program.new.output) (Err fault) _
           (ap (option_map (λ n. n.now)) c.requires) c.in_ok-shop.ensures.said c.read_placed.ensures.keeps c.in_ok-program.ensures.text
-          (λ a is_text. c.in_err-draw_program.ensures.draws a is_text c.in_ok-program.ensures.readings),
+          (λ a is_text. subst (λ (look : Look). DrawsProgram (setup_of c.in_ok-shop.shop.machine c.in_ok-shop.shop.tools) a c.args.options.now.delete look
+          (g.W.Sink.written c.args.output.now) (g.W.Sink.written c.draw_program.new.output) (Err fault)) c.look_of.ensures
+          (c.in_err-draw_program.ensures.draws a is_text c.in_ok-program.ensures.readings)),
     ))
 
 pub returns-in_err-shop-clause-unread : goal.returns-in_err-shop-clause-unread

@@ -1,9 +1,12 @@
-use Rattle.std.proofs.Common.{[], ◌∷◌, ◌++◌, Some, Ok, Err, refl, ◌∙◌, List, inl, inr}
+use Rattle.std.proofs.Common.{[], ◌∷◌, ◌++◌, Some, Ok, Err, refl, ◌∙◌, List, inl, inr, subst}
 use Rattle.std.specs.contracts.alloc.Global
 use Rattle.std.specs.Prelude.{option_map}
 use Rattle.ngc_certificate_text.specs.Contents.{certificate_data}
 use Rattle.ngc_line_reader.specs.ProgramText.{program_of}
 use Rattle.ngc_inputs.specs.declared.fault.AnswerFault.TheVariants as answers
+use Rattle.ngc_canonical.specs.Interpreter.{setup_of}
+use Rattle.ngc_drawing.specs.declared.look.Look.{Look}
+use Rattle.ngc_simulator.specs.Drawing.{DrawsNamed}
 use Rattle.ngc_simulator.specs.Answers.{OwnDrawResult, certificate_inputs, own_draw_inputs, program_input}
 use Rattle.ngc_inputs.specs.Faults.{OfDrawing}
 use Rattle.ngc_inputs.specs.Unread.{Input, OfCertificate, OfProgram, SourceFails, certificate_unread, program_unread, shop_inputs, unread_by}
@@ -56,7 +59,9 @@ returns-clause-comes g c =
     (g.W.Sink.written c.draw_certified.new.output) (Ok tt) _ _
     c.requires c.in_ok-shop.ensures.said c.read_placed.ensures.keeps c.read_program.ensures.named
     c.in_ok-program.ensures.text c.in_ok-certificate.ensures.said
-    (λ a b is_text said. c.in_ok-draw_certified.ensures.draws a b is_text c.in_ok-program.ensures.readings said)
+    (λ a b is_text said. subst (λ (look : Look). DrawsNamed (setup_of c.in_ok-shop.shop.machine c.in_ok-shop.shop.tools) a b c.args.options.now.delete look
+    (g.W.Sink.written c.args.output.now) (g.W.Sink.written c.draw_certified.new.output) (Ok tt)) c.look_of.ensures
+    (c.in_ok-draw_certified.ensures.draws a b is_text c.in_ok-program.ensures.readings said))
 
 pub returns-in_err-draw_certified-clause-comes : goal.returns-in_err-draw_certified-clause-comes
 returns-in_err-draw_certified-clause-comes g c =
@@ -70,7 +75,9 @@ returns-in_err-draw_certified-clause-comes g c =
           (g.W.Sink.written c.args.output.now) (g.W.Sink.written c.draw_certified.new.output) (Err fault) _ _
           c.requires c.in_ok-shop.ensures.said c.read_placed.ensures.keeps c.read_program.ensures.named
           c.in_ok-program.ensures.text c.in_ok-certificate.ensures.said
-          (λ a b is_text said. c.in_err-draw_certified.ensures.draws a b is_text c.in_ok-program.ensures.readings said),
+          (λ a b is_text said. subst (λ (look : Look). DrawsNamed (setup_of c.in_ok-shop.shop.machine c.in_ok-shop.shop.tools) a b c.args.options.now.delete look
+          (g.W.Sink.written c.args.output.now) (g.W.Sink.written c.draw_certified.new.output) (Err fault)) c.look_of.ensures
+          (c.in_err-draw_certified.ensures.draws a b is_text c.in_ok-program.ensures.readings said)),
     ))
 
 pub returns-in_err-shop-clause-unread : goal.returns-in_err-shop-clause-unread
