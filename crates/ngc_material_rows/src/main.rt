@@ -1,18 +1,23 @@
-//! Prints where the traverses of programs may touch material. A line of standard input begins with
-//! `program` and a name; the program begins at 0 0 0 in an uncut stock without a tool. Its lines are
-//! `stock` with the number of a stock, `tool` with a number, of which 0 is none, and `traverse` or
-//! `feed` with the coordinates of an end, in nanometres of the machine.
+//! Prints where the traverses of programs may touch material, in words the first two, and as facts all.
+//! A line of standard input begins with `program` and a name; the program begins at 0 0 0 in an uncut
+//! stock without a tool. Its lines are `stock` with the number of a stock, `tool` with a number, of which
+//! 0 is none, and `traverse` or `feed` with the coordinates of an end, in nanometres of the machine. The
+//! line `untested` prints what isn't tested.
 #![tactic(auto)]
 
 mod stocks;
 
+use ngc_cells::Spot;
 use ngc_commands::{Action, Command, Feed, Motion, Pace, Reached, Way};
 use ngc_fixed_length::{Nm, Point3};
-use ngc_machine_files::Tools;
+use ngc_machine_files::Tool;
 use ngc_material::{Found, WalkFault, find_touches};
+use ngc_material_report::{write_touches, write_untested};
+use ngc_report::Form;
+use ngc_text::{Device, Sink, WriteFault, write_all};
 use std::alloc::{Allocator, Global};
 use std::io;
-use stocks::{numbered, tools};
+use stocks::{numbered, origin_of, tools};
 
 /// A program as far as it is read.
 #[derive(Drop)]
@@ -122,43 +127,66 @@ impl Program {
         }
     }
 
-    fn print(&self, rt: &impl Print, alloc: Global) -> io::Result<()> {
+    fn write<W: Sink>(&self, alloc: Global, output: &mut W) -> Result<(), WriteFault> {
         let start = Reached {
             tool: None,
             place: origin(),
         };
         if self.is_cut {
-            return println!(rt; "  no memory");
+            return write_all(output, b"  no memory\n");
         }
         let stock = numbered(self.stock);
         match find_touches(alloc, &stock, &start, self.commands.as_slice()) {
-            Ok(found) => print_all(rt, found.as_slice()),
-            Err(WalkFault::Memory) => println!(rt; "  no memory"),
-            Err(WalkFault::Far) => println!(rt; "  far from zero"),
+            Ok(found) => write_found(&origin_of(self.stock), found.as_slice(), output),
+            Err(WalkFault::Memory) => write_all(output, b"  no memory\n"),
+            Err(WalkFault::Far) => write_all(output, b"  far from zero\n"),
         }
     }
 }
 
-fn print_all(rt: &impl Print, all: &[Found]) -> io::Result<()> {
-    for found in all {
-        let Found {
-            command,
-            line,
-            tool,
-            touch,
-        } = *found;
-        let depth = touch.depth;
-        let x = touch.place.x;
-        let y = touch.place.y;
-        println!(rt;
-            "  command {command}, line {line}, tool {tool}: at most {depth} deep at {x} {y}"
-        )?;
+// Ends a line, unless a write has failed.
+fn end_line<W: Sink>(outcome: Result<(), WriteFault>, output: &mut W) -> Result<(), WriteFault> {
+    match outcome {
+        Ok(()) => write_all(output, b"\n"),
+        Err(fault) => Err(fault),
     }
-    Ok(())
+}
+
+fn write_found<W: Sink>(origin: &Spot, all: &[Found], output: &mut W) -> Result<(), WriteFault> {
+    if all.is_empty() {
+        return Ok(());
+    }
+    match write_touches(Form::Words, 2, origin, all, output) {
+        Ok(()) => end_line(write_touches(Form::Json, 2, origin, all, output), output),
+        Err(fault) => Err(fault),
+    }
+}
+
+fn write_limits<W: Sink>(stock: i64, tools: &[Tool], output: &mut W) -> Result<(), WriteFault> {
+    let grid = &numbered(stock).grid;
+    match write_untested(Form::Words, grid, tools, output) {
+        Ok(()) => end_line(write_untested(Form::Json, grid, tools, output), output),
+        Err(fault) => Err(fault),
+    }
+}
+
+fn write_all_limits<W: Sink>(stock: i64, alloc: Global, output: &mut W) -> Result<(), WriteFault> {
+    match tools(alloc) {
+        Some(tools) => write_limits(stock, tools.tools(), output),
+        None => write_all(output, b"  no memory\n"),
+    }
+}
+
+fn written(outcome: Result<(), WriteFault>) -> io::Result<()> {
+    match outcome {
+        Ok(()) => Ok(()),
+        Err(_) => Err(io::ErrorKind::WriteZero.into()),
+    }
 }
 
 fn main(rt: HostRuntime) -> io::Result<()> {
     let alloc = rt.alloc();
+    let mut output = Device::new(rt.stdout());
     let mut program = Program::new(alloc);
     let mut number: u32 = 0;
     for line in rt.lines(alloc) {
@@ -166,12 +194,14 @@ fn main(rt: HostRuntime) -> io::Result<()> {
         let text = line.as_str();
         number = number.saturating_add(1);
         if text.starts_with("program") {
-            program.print(&rt, alloc)?;
-            println!(rt; "{text}")?;
+            written(program.write(alloc, &mut output))?;
+            written(end_line(write_all(&mut output, text.as_bytes()), &mut output))?;
             program = Program::new(alloc);
+        } else if text == "untested" {
+            written(write_all_limits(program.stock, alloc, &mut output))?;
         } else if !program.take_text(alloc, number, text) {
-            println!(rt; "  line {number} has no action")?;
+            written(write_all(&mut output, b"  no action\n"))?;
         }
     }
-    program.print(&rt, alloc)
+    written(program.write(alloc, &mut output))
 }

@@ -48,3 +48,14 @@ pub(crate) fn numbered(number: i64) -> Stock
         },
     }
 }
+
+/// Returns the place from which coordinates are printed: the corner of stock 2, or X 10 mm, Y 10 mm.
+pub(crate) fn origin_of(number: i64) -> Spot {
+    match number {
+        2 => numbered(2).grid.corner,
+        _ => Spot {
+            x: 10_000_000,
+            y: 10_000_000,
+        },
+    }
+}

@@ -1,0 +1,104 @@
+-- How traverses that may touch material are written, in words and as facts of a JSON document. Our
+-- own.
+use Rattle.std.specs.Prelude.{ℕ, ◌+◌, ◌-◌, ◌*◌, ◌/◌, nat_lt, ◌-ℤ◌, unsigned_abs, List, [], ◌++◌, codes, decimal, length, take, slice_get, flat_map, Option, Some, None, if◌then◌else◌}
+use Rattle.ngc_text.specs.Millimetres.{sign_text, size_text}
+use Rattle.ngc_machine_files.specs.declared.tools.Tool.{Tool}
+use Rattle.ngc_cells.specs.declared.grid.Grid.{Grid}
+use Rattle.ngc_cells.specs.declared.stretch.Spot.{Spot}
+use Rattle.ngc_stock.specs.Stocks.{margin, radius, reduction}
+use Rattle.ngc_material.specs.declared.walk.Found.{Found}
+use Rattle.ngc_report.specs.declared.form.Form.{Form}
+use Rattle.ngc_report.specs.declared.form.Form.TheVariants.{Words, Json}
+
+-- ---- a traverse
+
+unfoldable pub deep_words : Found → List ℕ
+deep_words f =
+    codes "Line " ++ decimal f.line ++ codes " may touch material at traverse: tool " ++ decimal f.tool
+    ++ codes " is at most " ++ size_text f.touch.depth ++ codes " mm deep at X "
+
+-- from an origin to a place, in millimetres
+unfoldable pub place_words : Spot → Spot → List ℕ
+place_words origin p =
+    sign_text (p.x -ℤ origin.x) ++ size_text (unsigned_abs (p.x -ℤ origin.x)) ++ codes " mm, Y "
+    ++ sign_text (p.y -ℤ origin.y) ++ size_text (unsigned_abs (p.y -ℤ origin.y)) ++ codes " mm.\n"
+
+unfoldable pub touch_words : Spot → Found → List ℕ
+touch_words origin f = deep_words f ++ place_words origin f.touch.place
+
+unfoldable pub deep_fact : Found → List ℕ
+deep_fact f =
+    codes ",\n{\"fact\":\"material\",\"kind\":\"traverse\",\"certain\":false,\"line\":" ++ decimal f.line
+    ++ codes ",\"command\":" ++ decimal f.command ++ codes ",\"tool\":" ++ decimal f.tool
+    ++ codes ",\"part\":0,\"depth\":" ++ decimal f.touch.depth ++ codes ",\"at\":["
+
+-- the same in nanometres
+unfoldable pub place_fact : Spot → Spot → List ℕ
+place_fact origin p =
+    sign_text (p.x -ℤ origin.x) ++ decimal (unsigned_abs (p.x -ℤ origin.x)) ++ codes ","
+    ++ sign_text (p.y -ℤ origin.y) ++ decimal (unsigned_abs (p.y -ℤ origin.y)) ++ codes "]}"
+
+unfoldable pub touch_fact : Spot → Found → List ℕ
+touch_fact origin f = deep_fact f ++ place_fact origin f.touch.place
+
+-- ---- all of them
+
+abbrev pub line_of : Option Found → ℕ
+line_of None = 0
+line_of (Some f) = f.line
+
+-- the line of the last, 0 without one
+abbrev pub last_line : List Found → ℕ
+last_line found = line_of (slice_get found (length found - 1))
+
+unfoldable pub number_words : List Found → List ℕ
+number_words found =
+    codes "There are " ++ decimal (length found) ++ codes " such traverses, the last in line "
+    ++ decimal (last_line found) ++ codes ".\n"
+
+-- their number, if not each has a line
+abbrev pub count_words : ℕ → List Found → List ℕ
+count_words most found = if nat_lt most (length found) then number_words found else []
+
+-- in words the first ones and their number, as facts all of them
+abbrev pub touches_text : Form → ℕ → Spot → List Found → List ℕ
+touches_text Words most origin found =
+    flat_map (touch_words origin) (take most found) ++ count_words most found
+touches_text Json most origin found = flat_map (touch_fact origin) found
+
+-- ---- what isn't tested
+
+-- a size, rounded up to hundredths of a millimetre
+abbrev pub rounded_up : ℕ → ℕ
+rounded_up n = (n + 9999) / 10000 * 10000
+
+unfoldable pub margin_words : Grid → List ℕ
+margin_words g =
+    codes "Traverses were tested for each tool less " ++ size_text (rounded_up (margin g))
+    ++ codes " mm of its radius.\n"
+
+unfoldable pub margin_fact : Grid → List ℕ
+margin_fact g = codes ",\n{\"fact\":\"material_margin\",\"less\":" ++ decimal (margin g) ++ codes "}"
+
+abbrev pub margin_line : Form → Grid → List ℕ
+margin_line Words g = margin_words g
+margin_line Json g = margin_fact g
+
+unfoldable pub thin_words : Grid → Tool → List ℕ
+thin_words g t =
+    codes "Tool " ++ decimal t.number ++ codes " is too thin for cells of " ++ size_text (2 * g.half)
+    ++ codes " mm: its traverses were not tested.\n"
+
+unfoldable pub thin_fact : Tool → List ℕ
+thin_fact t = codes ",\n{\"fact\":\"material_untested\",\"tool\":" ++ decimal t.number ++ codes "}"
+
+abbrev pub thin_line : Form → Grid → Tool → List ℕ
+thin_line Words g t = thin_words g t
+thin_line Json g t = thin_fact t
+
+-- of a tool that is too thin
+abbrev pub thin_text : Form → Grid → Tool → List ℕ
+thin_text form g t = if nat_lt (radius t) (reduction g) then thin_line form g t else []
+
+abbrev pub untested_text : Form → Grid → List Tool → List ℕ
+untested_text form g tools = margin_line form g ++ flat_map (thin_text form g) tools
