@@ -93,7 +93,7 @@ pub(crate) fn dialects() -> &'static [Row]
         },
         Row {
             number: 223,
-            rule: "Cutter compensation doesn't allow this word: end it first, with `G40` and a straight move after it.\n\
+            rule: "Cutter compensation doesn't allow this word: end it first, with `G40` and a straight move.\n\
              While it is on, moves home or in machine coordinates, cycles, and changes of plane, unit,\n\
              origin, length, feed mode or tool aren't allowed, nor compensation again (our own).",
             example: "command with `--dialect linuxcnc`: `F60`, `G41.1 D2 G1 X9`, `G53 G0 Z0`",
