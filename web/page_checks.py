@@ -406,7 +406,7 @@ def file_kinds(checks, page):
     page.value("document.getElementById('adapt').close(); 0")
     vectric = page.read("cam/vectric_mach3.tap")
     page.give({"vectric.tap": vectric})
-    page.value("ngc.actions.adapt().then(() => { document.getElementById('control').value = '2'; return ngc.actions.rewrite(); }).then(() => 0)")
+    page.value("ngc.actions.adapt(); document.getElementById('control').value = '2'; ngc.actions.rewrite().then(() => 0)")
     page.settle()
     made = page.native("adapt", "--from", "mach3", files=("cam/vectric_mach3.tap", "named_mill.toml", None))
     checks.equal("a program for Mach3 is rewritten as by `ngc adapt`", page.value("ngc.store.state.files.program.blob().text()"), made.stdout.decode())

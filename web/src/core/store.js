@@ -40,6 +40,8 @@ export const firstState = {
   origins: {},                  // origins for this check: system -> X, Y and Z in nanometres
   demands: NO_DEMANDS,          // margins and the way of rapids for this check
   cuts: null,                   // cuts of each motion for this check, or null for the program's own number
+  control: null,                // the control that programs are for, 'own' for our own language, or null before the first answer
+  isAsking: false,              // whether the question for the control was opened
   blockDelete: false,
   slots: Object.fromEntries(SLOTS.map(slot => [slot, EMPTY])),
   line: 0,                      // the chosen line, from 1
@@ -75,7 +77,7 @@ export const failureOf = (state, slot) => slotNow(state, slot).failure;
 
 const withSlot = (state, slot, values) => ({ ...state, slots: { ...state.slots, [slot]: { ...state.slots[slot], ...values } } });
 // Nothing of one program may act on another one.
-const FRESH = { blockDelete: false, cuts: null, line: 0, lineFrom: '', hovered: -1, time: null, isPlaying: false, query: '' };
+const FRESH = { blockDelete: false, cuts: null, line: 0, lineFrom: '', hovered: -1, time: null, isPlaying: false, isAsking: false, query: '' };
 let notices = 0;
 
 export function reduce(state, action) {
@@ -83,9 +85,11 @@ export function reduce(state, action) {
     case 'file': {
       const next = { ...state, files: { ...state.files, [action.kind]: action.file } };
       if (action.kind === 'program') Object.assign(next, FRESH, { text: action.text });
-      if (action.kind === 'machine') Object.assign(next, { origins: {}, demands: NO_DEMANDS, cuts: null });
+      if (action.kind === 'machine') Object.assign(next, { origins: {}, demands: NO_DEMANDS, cuts: null, control: null });
       return next;
     }
+    // The same text means something else to another control, so nothing of the old meaning stays.
+    case 'control': return { ...state, ...FRESH, query: state.query, control: action.control };
     case 'edited':
       return { ...state, text: action.text, files: { ...state.files, program: action.file }, isPlaying: false, time: null, hovered: -1,
         line: action.line, lineFrom: 'text' };

@@ -1,5 +1,6 @@
 // The picture: travel, fixtures, path, tool and labels. It draws only when something changed.
 
+import { dialectNow, noDrawingOf } from '../core/controls.js';
 import { AXES } from '../core/systems.js';
 import { commandsOf, isMotion, KIND_NAMES, momentAt, tipAt } from '../core/motion.js';
 import { current, failureOf, isRunning } from '../core/store.js';
@@ -260,7 +261,7 @@ export function makePicture(store) {
     drawRefused();
     drawFixed();
     // The path is shown as soon as it is there, and again with what the report adds.
-    const key = `${store.state.files.program?.name} ${store.state.files.machine?.version} ${JSON.stringify(store.state.origins)}`;
+    const key = `${store.state.files.program?.name} ${store.state.files.machine?.version} ${JSON.stringify(store.state.origins)} ${dialectNow(store.state)}`;
     if (scene && (path || group) && fitted !== key) { fit(); fitted = group ? key : ''; }
     showMoment(store.state.time);
     showLegend();
@@ -303,6 +304,8 @@ export function makeDrawing(store) {
   let url = '';
   store.watch(state => [current(state, 'drawing')], drawing => {
     URL.revokeObjectURL(url);
+    const noDrawing = drawing ? noDrawingOf(dialectNow(store.state), drawing.status) : null;
+    if (noDrawing) return fill(id('labels'), h('p', { class: 'no-drawing' }, `There is no drawing: ${noDrawing}.`));
     if (!drawing?.output.length) return fill(id('labels'));
     const { output } = drawing;
     url = URL.createObjectURL(new Blob([output], { type: 'image/svg+xml' }));
