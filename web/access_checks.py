@@ -59,7 +59,7 @@ def access(checks, page):
     if isinstance(page.browser, Chromium):
         tree(checks, page)
     live = "[...document.querySelectorAll('[role=status]')].map(it => it.id).sort().join()"
-    checks.equal("the verdict, the notices, the chosen line, search, zeros and notes are live regions", page.value(live), "adapt-notes,hits,notices,place,said,verdict-title")
+    checks.equal("the verdict, the question, the notices, the chosen line, search, zeros and notes are live regions", page.value(live), "adapt-notes,ask-words,hits,notices,place,said,verdict-title")
     page.give({"four.ngc": "G21\nG90\nG54\nT2 M6\nS1 M3\nM2\n"})
     page.value("document.getElementById('editor').focus(); ngc.parts.editor.choose(3); 0")
     page.browser.press("ArrowDown")

@@ -2,6 +2,7 @@
 // files -> jobs in the workers -> results -> views.
 
 import { NO_DEMANDS, changesOf } from './changes.js';
+import { dialectNow } from './controls.js';
 
 // Makes a store. `watch` calls `act` with what `select` returns: at once, and again whenever a part of it changes.
 export function makeStore(reduce, first) {
@@ -88,8 +89,11 @@ export function reduce(state, action) {
       if (action.kind === 'machine') Object.assign(next, { origins: {}, demands: NO_DEMANDS, cuts: null, control: null });
       return next;
     }
-    // The same text means something else to another control, so nothing of the old meaning stays.
-    case 'control': return { ...state, ...FRESH, query: state.query, control: action.control };
+    case 'control': {
+      const next = { ...state, control: action.control, isAsking: false };
+      // The same text means something else to another control, so nothing of the old meaning stays.
+      return dialectNow(next) === dialectNow(state) ? next : { ...next, ...FRESH, query: state.query };
+    }
     case 'edited':
       return { ...state, text: action.text, files: { ...state.files, program: action.file }, isPlaying: false, time: null, hovered: -1,
         line: action.line, lineFrom: 'text' };
