@@ -248,6 +248,10 @@ def refusals(checks, page):
     # X is 50 + 20 + 5 * 2, Y is 60 + 30, and the tip is 45 mm below the end of the travel.
     checks.equal("the tool stops there in the picture", touched, [command, [80, 90, -145]])
     checks.equal("whose commands have the source's lines", page.value("[...ngc.pathNow(ngc.store.state).lines].join()"), ",".join(it.split()[1] for it in listed))
+    if page.value("ngc.parts.picture !== null"):
+        page.value("ngc.actions.goTo(8, 'text'); 0")
+        page.wait("ngc.parts.picture.markedSegments === 3")
+        checks.expect("the line's motion is marked each time that it is executed", True)
     page.edit(8, "G1 Z[2 - 2 * #1] F300")
     page.settle()
     checks.expect("an edit of the source is checked in the same language", page.title.startswith("Fits") and page.title.endswith("Read as LinuxCNC."), page.title)

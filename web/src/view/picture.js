@@ -2,7 +2,7 @@
 
 import { dialectNow, noDrawingOf } from '../core/controls.js';
 import { AXES } from '../core/systems.js';
-import { commandsOf, isMotion, KIND_NAMES, momentAt, tipAt } from '../core/motion.js';
+import { isMotion, KIND_NAMES, momentAt, passesOf, tipAt } from '../core/motion.js';
 import { current, failureOf, isRunning } from '../core/store.js';
 import { contactNow, entryNow, groupNow, pathNow, sceneNow, timesNow } from '../core/shown.js';
 import { sentenceOfFailure } from '../core/jobs.js';
@@ -140,12 +140,20 @@ export function makePicture(store) {
 
   // ---- the path, the tool and what is marked
 
-  function showCommands(shown, from, to) {
-    const { path } = data;
-    if (!path || from >= to) shown.clear();
-    else shown.set(path.a.slice(path.first[from] * 3, path.first[to] * 3), path.b.slice(path.first[from] * 3, path.first[to] * 3));
+  // Shows the segments of ranges of commands.
+  function showRanges(shown, ranges) {
+    const { path } = data, parts = path ? ranges.filter(([from, to]) => from < to).map(range => range.map(it => path.first[it] * 3)) : [];
+    const joined = values => {
+      const made = new Float32Array(parts.reduce((sum, [from, to]) => sum + to - from, 0));
+      let at = 0;
+      for (const [from, to] of parts) { made.set(values.subarray(from, to), at); at += to - from; }
+      return made;
+    };
+    if (parts.length) shown.set(joined(path.a), joined(path.b)); else shown.clear();
     request();
   }
+  const showCommands = (shown, from, to) => showRanges(shown, [[from, to]]);
+  const showLine = line => showRanges(lines.marked, passesOf(data.path, line));
   function drawTool() {
     const { scene, path } = data, number = moment && path ? path.tools[moment.command] : 0, key = `${number} ${isDark()} ${path ? toolColour(path, number) : ''}`;
     if (key !== shownTool) {
@@ -256,7 +264,7 @@ export function makePicture(store) {
     if (isNew) moment = null;
     // While a program is edited its last path stays, pale and out of reach, so that the picture doesn't flicker.
     const keepsPale = !path && isWaiting && base === drawnBase;
-    if (path ? isNew : !keepsPale && paths.count) { paths.set(path); showCommands(lines.marked, ...commandsOf(path, store.state.line)); lines.hover.clear(); }
+    if (path ? isNew : !keepsPale && paths.count) { paths.set(path); showLine(store.state.line); lines.hover.clear(); }
     drawnBase = base;
     drawRefused();
     drawFixed();
@@ -267,7 +275,7 @@ export function makePicture(store) {
     showLegend();
   });
   store.watch(state => [isRunning(state, 'path') || isRunning(state, 'report'), failureOf(state, 'path')], isWaiting => { holder.dataset.waiting = String(isWaiting); showLegend(); });
-  store.watch(state => [state.line, pathNow(state)], (line, path) => showCommands(lines.marked, ...commandsOf(path, line)));
+  store.watch(state => [state.line, pathNow(state)], showLine);
   store.watch(state => [state.hovered], command => { showCommands(lines.hover, command, command < 0 ? command : command + 1); showPosition(); });
   store.watch(state => [state.colour, state.hasRapids], (colour, hasRapids) => {
     paths.uniforms.byFeed.value = colour === 'feed' ? 1 : 0;
@@ -283,6 +291,7 @@ export function makePicture(store) {
     fit, orbit, draw, isSoftware, themeChanged,
     get data() { return data; },
     get frames() { return frames; },
+    get markedSegments() { return lines.marked.count; },
     // The picture as PNG. One for paper has the light colours.
     image(shade = document.documentElement.dataset.shade) {
       const { dataset } = document.documentElement, before = dataset.shade, show = it => { if (dataset.shade !== it) { dataset.shade = it; themeChanged(); } };
