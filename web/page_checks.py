@@ -979,10 +979,10 @@ def stopped_workers(checks, page):
               "index": "The lines can't be shown. Stopped.", "batch": "2,? a.ngc,? b.ngc"}
     for job, (begin, lane, said, works) in JOBS.items():
         prepare(page, job)
-        # The job is stopped as soon as its lane is busy with it.
+        # The job is stopped as soon as its lane is busy with it. It is looked for in microtasks too, since a short one may end between two timers.
         slot = job if job in ("report", "path", "scene", "place", "certificate", "every", "search", "index") else None
         begun = f"ngc.store.state.slots.{slot}.status === 'running' && ngc.jobs.isBusy('{lane}')" if slot else f"ngc.jobs.isBusy('{lane}')"
-        page.value(f"new Promise(done => {{ {begin}; const look = () => {{ if ({begun}) {{ ngc.jobs.stop('{lane}'); {'ngc.jobs.stop(' + json.dumps(lane) + ');' if job == 'batch' else ''} done(0); }} else queueMicrotask(() => setTimeout(look, 0)); }}; look(); }})")
+        page.value(f"new Promise(done => {{ let turns = 0; {begin}; const look = () => {{ if ({begun}) {{ ngc.jobs.stop('{lane}'); {'ngc.jobs.stop(' + json.dumps(lane) + ');' if job == 'batch' else ''} done(0); }} else if (++turns % 50) queueMicrotask(look); else setTimeout(look, 0); }}; look(); }})")
         if job == "batch":
             page.wait("(ngc.jobs.stop('batch'), ngc.store.state.programs.every(it => it.verdict))")
         page.wait("ngc.jobs.isIdle", 60)
