@@ -958,7 +958,7 @@ JOBS = {
     "explain": ("ngc.actions.explain(304)", "side", "document.getElementById('notices').textContent + '|' + document.getElementById('explained').textContent", "document.getElementById('explained').textContent.startsWith('Fault 304')"),
     "search": ("document.getElementById('query').value = document.getElementById('query').value === 'g1' ? 'g0' : 'g1'; document.getElementById('query').oninput()", "side", "document.getElementById('hits').textContent", "document.getElementById('hits').textContent.endsWith('found')"),
     "index": ("ngc.files.use('program', 'long.ngc', new TextEncoder().encode('(x)\\n'.repeat(60000) + 'M2\\n'), 'user')", "index", "document.getElementById('line-count').textContent", "document.getElementById('line-count').textContent.endsWith('lines') || document.getElementById('line-count').textContent.endsWith('line')"),
-    "batch": ("ngc.files.take({ files: ['a.ngc', 'b.ngc'].map(it => new File(['G21\\nM2\\n'], it)), folders: 0, unread: [], isCut: false })", "batch", "[...document.querySelectorAll('.chip-program select option')].map(it => it.textContent).join()", "ngc.store.state.programs.every(it => it.verdict === 'fits')"),
+    "batch": ("ngc.files.take({ files: ['a.ngc', 'b.ngc'].map(it => new File(['G21\\nM2\\n'], it)), folders: 0, unread: [], isCut: false })", "batch", "[...document.querySelectorAll('.chip-program select:not(#language) option')].map(it => it.textContent).join()", "ngc.store.state.programs.every(it => it.verdict === 'fits')"),
 }
 STOPPED = {"every": "low_slot.ngc"}
 NO_MEMORY = "There is not enough memory"
