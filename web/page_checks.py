@@ -221,7 +221,8 @@ def block_delete(checks, page):
 def editing(checks, page):
     page.example("low_slot.ngc")
     page.edit(14, "G0 Z10")
-    now = page.value("[document.getElementById('verdict-title').textContent, document.querySelectorAll('.note').length, document.getElementById('view').dataset.waiting, document.getElementById('facts').className]")
+    # The text is painted with the next frame.
+    now = page.value("new Promise(done => requestAnimationFrame(() => done([document.getElementById('verdict-title').textContent, document.querySelectorAll('.note').length, document.getElementById('view').dataset.waiting, document.getElementById('facts').className])))")
     checks.equal("at the first key the verdict, the notes, the path and the travel are out of date", now, ["Checking\u2026", 0, "true", "stale"])
     checks.equal("and the path can't be picked", page.value("ngc.pathNow(ngc.store.state)"), None)
     page.settle()

@@ -6,7 +6,7 @@ import { fill, h, id } from './dom.js';
 
 const LANGUAGES = { [OWN]: 'own language', ...CONTROLS };
 
-// The choice as an element. An example and a rewritten program have none: they are in our own language.
+// The choice as an element. It is disabled for examples and rewritten programs, which are in our own language.
 export function makeChoice(store, actions) {
   const choice = h('select', { id: 'language', 'aria-label': 'Control that the program is for', autocomplete: 'off', onchange: () => actions.setControl(choice.value) },
     Object.entries(LANGUAGES).map(([value, name]) => h('option', { value }, name)));
