@@ -202,6 +202,8 @@ def phone(checks, page):
     checks.expect("320 points with a long name: nothing is wider", page.value("document.documentElement.scrollWidth") <= 320 and not page.value(WIDER), page.value(WIDER)[:4])
     page.browser.shape(390, 844)
     page.example("low_slot.ngc")
+    # A notice would be where the finger goes.
+    page.forget_notices()
     page.value("scrollTo(0, 0); 0")
     page.value(DRAWN)
     checks.expect("on a phone the page is taller than the window", page.value("document.documentElement.scrollHeight") > 900)
