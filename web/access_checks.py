@@ -59,7 +59,7 @@ def access(checks, page):
     if isinstance(page.browser, Chromium):
         tree(checks, page)
     live = "[...document.querySelectorAll('[role=status]')].map(it => it.id).sort().join()"
-    checks.equal("the verdict, the notices, the chosen line, search, zeros and notes are live regions", page.value(live), "adapt-notes,hits,notices,place,said,verdict-title")
+    checks.equal("the verdict, the question, the notices, the chosen line, search, zeros and notes are live regions", page.value(live), "adapt-notes,ask-words,hits,notices,place,said,verdict-title")
     page.give({"four.ngc": "G21\nG90\nG54\nT2 M6\nS1 M3\nM2\n"})
     page.value("document.getElementById('editor').focus(); ngc.parts.editor.choose(3); 0")
     page.browser.press("ArrowDown")
@@ -202,6 +202,8 @@ def phone(checks, page):
     checks.expect("320 points with a long name: nothing is wider", page.value("document.documentElement.scrollWidth") <= 320 and not page.value(WIDER), page.value(WIDER)[:4])
     page.browser.shape(390, 844)
     page.example("low_slot.ngc")
+    # A notice would be where the finger goes.
+    page.forget_notices()
     page.value("scrollTo(0, 0); 0")
     page.value(DRAWN)
     checks.expect("on a phone the page is taller than the window", page.value("document.documentElement.scrollHeight") > 900)

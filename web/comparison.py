@@ -12,6 +12,7 @@ from browsers import Fault
 SETUPS = [("clamped_mill.toml", "tools.toml"), ("named_mill.toml", "tools.toml"), ("small_mill.toml", "tools.toml"), ("bench_mill.toml", "holder_tools.toml")]
 VIEWS = ("top", "front", "side", "iso")
 CONTROLS = ("linuxcnc", "grbl", "mach3", "fanuc")
+DIALECTS = ("linuxcnc_marks.ngc", "linuxcnc_grid.ngc", "linuxcnc_frame.ngc", "slot.ngc", "holes.ngc", "block_delete.ngc")
 # What replaces keys of the machine file: in the page, in nanometres, and the same as options of the program.
 CHANGES = (
     ({"origins": {"G54": (50000000, 46000000, -70000000)}}, ["--origin", "54=50,46,-70"]),
@@ -24,7 +25,7 @@ CHANGES = (
 )
 # Command lines that are refused, and one that isn't a line of the program.
 REFUSED = (["report", "--margin=two"], ["report", "--margin=100.000001"], ["report", "--margin=1", "--margin=2"], ["certify", "--travel-margin=-1"], ["draw", "--rapids=bent"], ["list", "--origin=54=0,0"], ["list", "--origin=53=0,0,0"],
-           ["check", "--origin=54=0,0,0", "--origin=54=1,1,1"], ["report", "--cuts=0"], ["nothing"], ["report", "--help"], ["--version"], ["version"], ["help", "report"], ["explain", "304"])
+           ["check", "--origin=54=0,0,0", "--origin=54=1,1,1"], ["report", "--cuts=0"], ["report", "--dialect=pathpilot"], ["show", "--dialect=grbl"], ["nothing"], ["report", "--help"], ["--version"], ["version"], ["help", "report"], ["explain", "304"])
 # What GRBL prints for $$, of a small router.
 SETTINGS = b"$13=0\n$22=1\n$23=3\n$27=1.000\n$100=250.000\n$101=250.000\n$102=250.000\n$110=500.000\n$111=500.000\n$112=300.000\n" \
     b"$120=10.000\n$121=10.000\n$122=10.000\n$130=200.000\n$131=180.000\n$132=45.000\nok\n"
@@ -130,6 +131,23 @@ class Comparison:
         self.compare_command(["check"], {**files, "certificate": "made.cert"})
 
 
+    def run_dialects(self, program, machine, tools):
+        """Each command on a program in the language of each control. `ngc draw` may not take one yet: then both refuse it."""
+        files = {"program": program, "machine": machine, "tools": tools}
+        for control in CONTROLS:
+            changes, options = {"dialect": control}, [f"--dialect={control}"]
+            for words in (["report"], ["report", "--all", "--json"], ["list"], ["list", "--delete"], ["draw", "--view=iso"], ["place", "--json"]):
+                self.compare_command(words, files, changes, options)
+            self.compare_command(["report", "--json"], files, {**changes, "margin": 2000000, "cuts": 64}, ["--margin", "2", "--cuts", "64", *options])
+            certificate = self.compare_command(["certify", "--format=2"], files, changes, options)
+            self.give("made.cert", certificate)
+            self.compare_command(["check"], {**files, "certificate": "made.cert"}, changes, options)
+            if program in ("linuxcnc_marks.ngc", "slot.ngc"):
+                self.compare_command(["pulses"], {**files, "certificate": "made.cert"}, changes, options)
+        # The last certificate for the program in our own language.
+        self.compare_command(["check"], {**files, "certificate": "made.cert"})
+
+
 def mutants(files, count):
     """Files with some bytes changed, by a seed, so that each run has the same."""
     chance = random.Random(5)
@@ -170,12 +188,15 @@ def compare_all(comparison, examples, count):
     for name in ("slot.ngc", "low_slot.ngc", "holes.ngc", "facing.ngc", "block_delete.ngc"):
         for machine, tools in SETUPS:
             comparison.run_changes(name, machine, tools)
+    for file in sorted((examples / "cam").iterdir()):
+        comparison.give(file.name, file.read_bytes())
+    for name in (*DIALECTS, *(it.name for it in sorted((examples / "cam").iterdir())), *(it for it in more if it.endswith(".ngc"))):
+        comparison.run_dialects(name, "small_mill.toml", "tools.toml")
     for words in REFUSED:
         reads = words[0] in ("report", "certify", "draw", "list", "check") and words[-1] != "--help"
         files = {"program": "slot.ngc", "machine": "clamped_mill.toml", "tools": "tools.toml", **({"certificate": "made.cert"} if words[0] == "check" else {})}
         comparison.compare_command(words, files if reads else {})
     for file in sorted((examples / "cam").iterdir()):
-        comparison.give(file.name, file.read_bytes())
         for control in range(4):
             comparison.adapt(file.name, control, 0, "")
             comparison.adapt(file.name, control, 7, "M64,M65")

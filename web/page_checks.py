@@ -14,6 +14,7 @@ from pathlib import Path
 
 from access_checks import access, contrast, keyboard, phone
 from browsers import Chromium, Fault
+from dialect_checks import DIALECT_GROUPS
 from wasm_changes import memory_of, with_little_stack, with_most_memory
 
 # Nothing runs, and each result belongs to the files in use.
@@ -220,7 +221,8 @@ def block_delete(checks, page):
 def editing(checks, page):
     page.example("low_slot.ngc")
     page.edit(14, "G0 Z10")
-    now = page.value("[document.getElementById('verdict-title').textContent, document.querySelectorAll('.note').length, document.getElementById('view').dataset.waiting, document.getElementById('facts').className]")
+    # The text is painted with the next frame.
+    now = page.value("new Promise(done => requestAnimationFrame(() => done([document.getElementById('verdict-title').textContent, document.querySelectorAll('.note').length, document.getElementById('view').dataset.waiting, document.getElementById('facts').className])))")
     checks.equal("at the first key the verdict, the notes, the path and the travel are out of date", now, ["Checking\u2026", 0, "true", "stale"])
     checks.equal("and the path can't be picked", page.value("ngc.pathNow(ngc.store.state)"), None)
     page.settle()
@@ -406,7 +408,7 @@ def file_kinds(checks, page):
     page.value("document.getElementById('adapt').close(); 0")
     vectric = page.read("cam/vectric_mach3.tap")
     page.give({"vectric.tap": vectric})
-    page.value("ngc.actions.adapt().then(() => { document.getElementById('control').value = '2'; return ngc.actions.rewrite(); }).then(() => 0)")
+    page.value("ngc.actions.adapt(); document.getElementById('control').value = '2'; ngc.actions.rewrite().then(() => 0)")
     page.settle()
     made = page.native("adapt", "--from", "mach3", files=("cam/vectric_mach3.tap", "named_mill.toml", None))
     checks.equal("a program for Mach3 is rewritten as by `ngc adapt`", page.value("ngc.store.state.files.program.blob().text()"), made.stdout.decode())
@@ -957,7 +959,7 @@ JOBS = {
     "explain": ("ngc.actions.explain(304)", "side", "document.getElementById('notices').textContent + '|' + document.getElementById('explained').textContent", "document.getElementById('explained').textContent.startsWith('Fault 304')"),
     "search": ("document.getElementById('query').value = document.getElementById('query').value === 'g1' ? 'g0' : 'g1'; document.getElementById('query').oninput()", "side", "document.getElementById('hits').textContent", "document.getElementById('hits').textContent.endsWith('found')"),
     "index": ("ngc.files.use('program', 'long.ngc', new TextEncoder().encode('(x)\\n'.repeat(60000) + 'M2\\n'), 'user')", "index", "document.getElementById('line-count').textContent", "document.getElementById('line-count').textContent.endsWith('lines') || document.getElementById('line-count').textContent.endsWith('line')"),
-    "batch": ("ngc.files.take({ files: ['a.ngc', 'b.ngc'].map(it => new File(['G21\\nM2\\n'], it)), folders: 0, unread: [], isCut: false })", "batch", "[...document.querySelectorAll('.chip-program select option')].map(it => it.textContent).join()", "ngc.store.state.programs.every(it => it.verdict === 'fits')"),
+    "batch": ("ngc.files.take({ files: ['a.ngc', 'b.ngc'].map(it => new File(['G21\\nM2\\n'], it)), folders: 0, unread: [], isCut: false })", "batch", "[...document.querySelectorAll('.chip-program select:not(#language) option')].map(it => it.textContent).join()", "ngc.store.state.programs.every(it => it.verdict === 'fits')"),
 }
 STOPPED = {"every": "low_slot.ngc"}
 NO_MEMORY = "There is not enough memory"
@@ -978,10 +980,10 @@ def stopped_workers(checks, page):
               "index": "The lines can't be shown. Stopped.", "batch": "2,? a.ngc,? b.ngc"}
     for job, (begin, lane, said, works) in JOBS.items():
         prepare(page, job)
-        # The job is stopped as soon as its lane is busy with it.
+        # The job is stopped as soon as its lane is busy with it. It is looked for in microtasks too, since a short one may end between two timers.
         slot = job if job in ("report", "path", "scene", "place", "certificate", "every", "search", "index") else None
         begun = f"ngc.store.state.slots.{slot}.status === 'running' && ngc.jobs.isBusy('{lane}')" if slot else f"ngc.jobs.isBusy('{lane}')"
-        page.value(f"new Promise(done => {{ {begin}; const look = () => {{ if ({begun}) {{ ngc.jobs.stop('{lane}'); {'ngc.jobs.stop(' + json.dumps(lane) + ');' if job == 'batch' else ''} done(0); }} else queueMicrotask(() => setTimeout(look, 0)); }}; look(); }})")
+        page.value(f"new Promise(done => {{ let turns = 0; {begin}; const look = () => {{ if ({begun}) {{ ngc.jobs.stop('{lane}'); {'ngc.jobs.stop(' + json.dumps(lane) + ');' if job == 'batch' else ''} done(0); }} else if (++turns % 50) queueMicrotask(look); else setTimeout(look, 0); }}; look(); }})")
         if job == "batch":
             page.wait("(ngc.jobs.stop('batch'), ngc.store.state.programs.every(it => it.verdict))")
         page.wait("ngc.jobs.isIdle", 60)
@@ -1148,7 +1150,7 @@ def quiet(checks, page):
 
 
 PICTURED = ("picture_and_player", "paper", "access", "keyboard", "phone", "quiet")
-GROUPS = {it.__name__: it for it in (verdicts, block_delete, editing, races, file_kinds, machine_and_zero, cuts, margins, save, picture_and_player, search, paper, keeping, hostile, stopped_workers, ended_memory, traps, unable, access, keyboard, contrast, phone, quiet)}
+GROUPS = {it.__name__: it for it in (verdicts, block_delete, editing, races, file_kinds, machine_and_zero, cuts, margins, *DIALECT_GROUPS, save, picture_and_player, search, paper, keeping, hostile, stopped_workers, ended_memory, traps, unable, access, keyboard, contrast, phone, quiet)}
 
 
 def take_pictures(page, folder):

@@ -2,12 +2,13 @@
 
 import { current, firstState, inputsKey, keyOf, makeStore, reduce } from './core/store.js';
 import { makeJobs, sentenceOfFailure } from './core/jobs.js';
-import { controlOf } from './core/sort_files.js';
+import { dialectNow, numberOf } from './core/controls.js';
 import { keepTheme, keptTheme } from './core/storage.js';
 import { momentAt } from './core/motion.js';
 import { contactNow, pathNow, sceneNow, timesNow } from './core/shown.js';
 import { fill, h, id } from './view/dom.js';
 import { makeDrawing, makePicture } from './view/picture.js';
+import { makeQuestion } from './view/control.js';
 import { makeDrop } from './view/drop.js';
 import { makeEditor } from './view/editor.js';
 import { makeMachine } from './view/machine.js';
@@ -22,7 +23,6 @@ import { makeFiles } from './files.js';
 import { makeSaving } from './saving.js';
 import { withFixture, withoutFixture, wordsOfFigures } from './machine_text.js';
 
-const HEAD = 4000;                               // bytes of a program that are searched for its control
 const NOTICE_TIME = 10_000, ACTION_TIME = 30_000; // ms that a notice stays
 const DRAWING_OF_VIEW = { top: 0, front: 1, right: 2, iso: 3 };
 const encoder = new TextEncoder();
@@ -57,6 +57,8 @@ const actions = {
   setOrigins(origins) { set({ origins }); },
   setDemands(demands) { set({ demands }); },
   setCuts(cuts) { set({ cuts }); },
+  setControl(control) { store.dispatch({ type: 'control', control }); },
+  ask() { set({ isAsking: true }); },
   place() { checks.place(parts.zero.system()); },
   async explain(number) {
     const out = id('explained');
@@ -67,8 +69,8 @@ const actions = {
   addFixture(fixture) { files.changeMachine(text => withFixture(text, fixture), 'The fixture is in the machine file in use.'); },
   removeFixture(number) { files.changeMachine(text => withoutFixture(text, number), 'The fixture is no longer in the machine file in use.'); },
   makeMachineOfFigures(figures) { files.makeMachineOfFigures(wordsOfFigures(figures), `${figures.travel.map(Math.round).join('x')}.toml`); },
-  async adapt() {
-    id('control').value = String(controlOf(await store.state.files.program.blob().slice(0, HEAD).text()));
+  adapt() {
+    id('control').value = String(numberOf(dialectNow(store.state) ?? store.state.files.program.sign ?? 'linuxcnc'));
     fill(id('adapt-notes'));
     id('adapt').showModal();
   },
@@ -82,7 +84,7 @@ const actions = {
       if (!got.output.length) return;
       const name = `${program.name.replace(/\.[^.]*$/, '')}.rewritten.ngc`;
       files.use('program', name, got.output, 'made');
-      notice(`${name} is in use.`, '', { label: 'Back to the original', act: async () => files.use('program', program.name, new Uint8Array(await program.blob().arrayBuffer()), program.source) });
+      notice(`${name} is in use.`, '', { label: 'Back to the original', act: async () => files.use('program', program.name, new Uint8Array(await program.blob().arrayBuffer()), program.source, program.isOwn) });
     } catch (failure) { fill(out, h('p', { class: 'bad' }, sentenceOfFailure(failure))); }
   },
 };
@@ -179,6 +181,7 @@ function showUnable(fault) {
 function makeViews() {
   parts.editor = makeEditor(store, actions);
   makeVerdict(store, actions, parts.editor);
+  makeQuestion(store, actions);
   makeStrip(store, actions);
   makeReport(store, actions);
   parts.zero = makeZero(store, actions);

@@ -1,16 +1,18 @@
 // The files in use: from drops, choices, examples and edits.
 
 import { NO_DEMANDS, changesOf } from './core/changes.js';
+import { dialectOf, signOf } from './core/controls.js';
 import { ProgramText, startsOf } from './core/program_text.js';
 import { sentenceOfFailure } from './core/jobs.js';
 import { kindOf } from './core/sort_files.js';
-import { keepDemands, keepFile, keptDemands, keptFile } from './core/storage.js';
+import { keepControl, keepDemands, keepFile, keptControl, keptDemands, keptFile } from './core/storage.js';
 import { current } from './core/store.js';
 import { size } from './core/units.js';
 import { EXAMPLE_MACHINE, exampleBytes } from './examples.js';
 
 const LARGEST = 200_000_000;   // bytes of a file that is read at all
 const SHORT = 200_000;         // bytes of a program whose lines are found at once
+const HEAD = 65_536;           // bytes of a program that are searched for signs of its control
 const MOST_CHECKED = 50;       // programs of one drop that get a verdict
 const NAMES = { machine: 'machine files', tools: 'tool tables', certificate: 'certificates', grbl: 'lists of GRBL settings' };
 
@@ -22,8 +24,10 @@ export function makeFiles(store, getJobs, notice) {
     const blob = new Blob([bytes]), version = ++versions;
     return { name, source, version, base: version, size: bytes.length, bytes, blob: () => blob };
   }
-  function use(kind, name, bytes, source) {
+  // An example and what is made here are in our own language, whatever the control.
+  function use(kind, name, bytes, source, isOwn = source === 'example' || source === 'made') {
     const file = fileOf(name, bytes, source);
+    if (kind === 'program') Object.assign(file, { isOwn, sign: signOf(new TextDecoder('latin1').decode(bytes.subarray(0, HEAD))) });
     // Of a long program the worker finds where the lines start.
     const text = kind === 'program' && bytes.length < SHORT ? ProgramText.of(bytes, file.blob(), startsOf(bytes)) : null;
     store.dispatch({ type: 'file', kind, file, text });
@@ -83,8 +87,8 @@ export function makeFiles(store, getJobs, notice) {
     const mine = ++batches, mark = (name, bytes, verdict) => store.dispatch({ type: 'set', values: { programs: store.state.programs.map(it => (it.bytes === bytes && it.name === name ? { ...it, verdict } : it)) } });
     // A verdict for another machine is older than the files in use.
     store.dispatch({ type: 'set', values: { programs: store.state.programs.map(it => ({ ...it, verdict: undefined })) } });
-    // More cuts were asked for one program.
-    const changes = changesOf({ ...store.state, cuts: null });
+    // More cuts were asked for one program. The one in use may be rewritten; those that were dropped are for the control.
+    const changes = { ...changesOf({ ...store.state, cuts: null }), dialect: dialectOf(store.state.control) };
     for (const { name, bytes, blob } of store.state.programs.slice(0, MOST_CHECKED)) {
       let verdict = 'failed';
       try { verdict = (await getJobs().run('batch', 'batch', 'fits', { program: blob, changes })).fits ? 'fits' : 'refused'; } catch { /* It has no verdict. */ }
@@ -109,11 +113,11 @@ export function makeFiles(store, getJobs, notice) {
       store.dispatch({ type: 'set', values: { tab: 'shop' } });
     } catch (failure) { notice(`No machine file was made of ${from}. ${sentenceOfFailure(failure)}`, 'bad'); }
   }
-  // Takes another text of the same machine, and keeps the zeros, margins and cuts of this check.
+  // Takes another text of the same machine, and keeps its control and the zeros, margins and cuts of this check.
   function keepingChanges(act) {
-    const { origins, demands, cuts } = store.state;
+    const { origins, demands, cuts, control } = store.state;
     act();
-    store.dispatch({ type: 'set', values: { origins, demands, cuts } });
+    store.dispatch({ type: 'set', values: { origins, demands, cuts, control } });
   }
   function changeMachine(change, sentence) {
     const { machine } = store.state.files, bytes = new TextEncoder().encode(change(new TextDecoder().decode(machine.bytes)));
@@ -123,9 +127,9 @@ export function makeFiles(store, getJobs, notice) {
 
   // ---- examples, and what is kept for the next visit
 
-  // An example is as its file says: without the zeros and margins that were tried before.
+  // An example is as its file says: without the zeros, the margins and the control that were chosen before.
   function useExampleMachine() {
-    store.dispatch({ type: 'set', values: { origins: {}, demands: NO_DEMANDS, cuts: null } });
+    store.dispatch({ type: 'set', values: { origins: {}, demands: NO_DEMANDS, cuts: null, control: null } });
     for (const [kind, name] of Object.entries(EXAMPLE_MACHINE)) {
       const file = store.state.files[kind];
       if (file?.source !== 'example') use(kind, name, exampleBytes(name), 'example');
@@ -144,16 +148,16 @@ export function makeFiles(store, getJobs, notice) {
       const kept = keptFile(kind);
       kept ? use(kind, kept.name, kept.bytes, 'kept') : use(kind, name, exampleBytes(name), 'example');
     }
-    if (store.state.files.machine.source === 'kept') store.dispatch({ type: 'set', values: { demands: keptDemands() } });
+    if (store.state.files.machine.source === 'kept') store.dispatch({ type: 'set', values: { demands: keptDemands(), control: keptControl() } });
     use('program', 'slot.ngc', exampleBytes('slot.ngc'), 'example');
     // Only files that the checker reads are kept, and no examples.
-    store.watch(state => [current(state, 'scene'), state.files.machine, state.files.tools, state.demands], (scene, machine, tools, demands) => {
+    store.watch(state => [current(state, 'scene'), state.files.machine, state.files.tools, state.demands, state.control], (scene, machine, tools, demands, control) => {
       if (scene?.status !== 0) return;
-      if (machine.source !== 'example') keepDemands(demands);
+      if (machine.source !== 'example') { keepDemands(demands); keepControl(control); }
       for (const [kind, file] of Object.entries({ machine, tools })) if (file.source !== 'example') keepFile(kind, file.name, file.bytes);
     });
-    // All dropped programs are checked again on another machine, and with other zeros and margins.
-    store.watch(state => [state.files.machine, state.files.tools, state.origins, state.demands], () => { if (store.state.programs.length) checkPrograms(); });
+    // All dropped programs are checked again on another machine, for another control, and with other zeros and margins.
+    store.watch(state => [state.files.machine, state.files.tools, state.origins, state.demands, state.control], () => { if (store.state.programs.length) checkPrograms(); });
   }
   return { use, putBack, edited, take, makeMachine, makeMachineOfFigures, changeMachine, useExample, useExampleMachine, start };
 }

@@ -1,5 +1,7 @@
-// What a check replaces in the machine file: zeros, margins and the way of rapids; and its cuts. Lengths are nanometres.
+// What a check replaces in the machine file: zeros, margins and the way of rapids; its cuts; and the program's dialect. Lengths are
+// nanometres.
 
+import { dialectNow } from './controls.js';
 import { AXES } from './systems.js';
 import { inUnit } from './units.js';
 
@@ -12,16 +14,16 @@ export const MOST_CUTS = 4096;
 const WAYS = ['straight', 'free'];
 
 export const hasDemands = demands => Object.values(demands).some(it => it !== null);
-export const changesOf = ({ origins, demands, cuts }) => ({ origins, ...demands, cuts });
+export const changesOf = state => ({ origins: state.origins, ...state.demands, cuts: state.cuts, dialect: dialectNow(state) });
 
 const millimetres = nm => inUnit(nm / 1e6, 'mm');
 const option = (name, value) => (value === null ? [] : [`--${name}=${value}`]);
 const length = (name, nm) => option(name, nm === null ? null : millimetres(nm));
 
 // The same as options of a command line. `origins` is a map from a system to its X, Y and Z.
-export const optionsOf = ({ origins = {}, margin = null, travelMargin = null, rapids = null, cuts = null }) => [
+export const optionsOf = ({ origins = {}, margin = null, travelMargin = null, rapids = null, cuts = null, dialect = null }) => [
   ...Object.entries(origins).map(([system, at]) => `--origin=${system.slice(1)}=${AXES.map((_, axis) => millimetres(Math.round(at[axis]))).join(',')}`),
-  ...length('margin', margin), ...length('travel-margin', travelMargin), ...option('rapids', rapids), ...option('cuts', cuts),
+  ...length('margin', margin), ...length('travel-margin', travelMargin), ...option('rapids', rapids), ...option('cuts', cuts), ...option('dialect', dialect),
 ];
 
 export const isMargin = nm => Number.isInteger(nm) && nm >= 0 && nm <= MOST_MARGIN;

@@ -18,13 +18,21 @@ function firstFrom(values, count, wanted) {
   return low;
 }
 
-// The commands of a line, from the first to before the last. In a program that jumps back only the first one is found.
-export function commandsOf(path, line) {
-  if (!path || !line) return [0, 0];
-  if (path.isSorted) return [firstFrom(path.lines, path.count, line), firstFrom(path.lines, path.count, line + 1)];
-  const first = path.lines.indexOf(line);
-  return first < 0 ? [0, 0] : [first, first + 1];
+const MOST_PASSES = 10_000;   // of a line that is executed again and again
+// The commands of each time that a line is executed, from the first to before the last.
+export function passesOf(path, line) {
+  if (!path || !line) return [];
+  const { lines, count } = path, passes = [];
+  if (path.isSorted) return [[firstFrom(lines, count, line), firstFrom(lines, count, line + 1)]];
+  for (let at = lines.indexOf(line); at >= 0 && passes.length < MOST_PASSES; at = lines.indexOf(line, at)) {
+    const from = at;
+    while (at < count && lines[at] === line) at++;
+    passes.push([from, at]);
+  }
+  return passes;
 }
+// Those of the first time.
+export const commandsOf = (path, line) => passesOf(path, line)[0] ?? [0, 0];
 
 // The times are estimates. Each use of a tool is scaled so that it takes the time that the proved report has for it.
 export function scaledTimes(path, group) {

@@ -1,5 +1,6 @@
 // The verdict as a sentence. Every number is one of the proved report; this file only chooses the words.
 
+import { CONTROLS } from './controls.js';
 import { keptOf } from './facts.js';
 import { AXES } from './systems.js';
 import { atLeast, duration, enough, length } from './units.js';
@@ -81,6 +82,13 @@ function refusedSentence(report, group) {
     note: reason ?? `${cause}.`, detail: reason ? meaningOf(report.explanation) : remedy };
 }
 
+// A program in a dialect has no report where it is refused, but one line with what is wrong, as `cutter compensation: not supported`.
+function refusalSentence({ refusal, dialect, explanation }) {
+  const { setting, line, column, word } = refusal, words = refusal.words.replace(/^(the|this) dialect has/, `${CONTROLS[dialect]} has`).replace(/^(.*): not supported$/, "ngc doesn't support $1");
+  const where = column ? `can't be read at column ${column}` : `is refused${word ? ` at ${word}` : ''}`, when = setting === 'on' ? ' with block delete on' : '';
+  return { kind: 'bad', line, column, note: word ? `${word}: ${words}` : words, title: `Line ${line} ${where}${when}: ${words}.`, detail: meaningOf(explanation) };
+}
+
 // The side of the travel with the least left, without the sides where the machine starts: there nothing is left by definition.
 function tightest(group, scene) {
   let least = null;
@@ -113,9 +121,8 @@ function fitSentence(group, scene, unit, kept) {
   return { kind: 'good', isNose, title: parts.length ? `${fits}: ${parts.join(', ')}.` : `${fits}.`, detail: `${detail}${kept.hasFreeRapids ? FREE_RAPIDS : ''}` };
 }
 
-// Returns { kind, title, detail, line, column, note, isNose }. `kind` is 'good' or 'bad'.
-export function verdictOf(report, group, scene, unit) {
-  if (report.refusedFile) return refusedFileSentence(report);
+function verdictOfProgram(report, group, scene, unit) {
+  if (report.refusal) return refusalSentence(report);
   if (!report.facts.length) {
     const { cause, remedy } = causeAndRemedy(meaningOf(report.explanation));
     return { kind: 'bad', title: cause ? `${cause}.` : 'There is no verdict.', detail: remedy || report.errors };
@@ -127,4 +134,11 @@ export function verdictOf(report, group, scene, unit) {
   const { title, note, detail } = obstacleSentence(group.commands[0], unit, kept);
   const origin = group.noOrigin ? `The machine file has no origin of ${group.noOrigin}: set one there, or try one under Zero. ` : '';
   return { kind: 'bad', line: group.commands[0].command.line ?? 0, title, note, detail: `${origin}${detail}${kept.hasFreeRapids ? FREE_RAPIDS : ''}` };
+}
+
+// Returns { kind, title, detail, line, column, note, isNose }. `kind` is 'good' or 'bad'. The title says whose language was read.
+export function verdictOf(report, group, scene, unit) {
+  if (report.refusedFile) return refusedFileSentence(report);
+  const verdict = verdictOfProgram(report, group, scene, unit);
+  return report.dialect ? { ...verdict, title: `${verdict.title} Read as ${CONTROLS[report.dialect]}.` } : verdict;
 }

@@ -1,6 +1,7 @@
 // What the views show of the results that belong to the files in use. Each is computed once for the same results.
 
 import { contactOf } from './contact.js';
+import { looksForeign } from './controls.js';
 import { groupAt, groupsOf, keptOf } from './facts.js';
 import { scaledTimes } from './motion.js';
 import { current } from './store.js';
@@ -28,5 +29,11 @@ export const everyGroupsNow = state => groupsOfEvery(current(state, 'every'));
 export const groupNow = state => groupAt(groupsNow(state), state.blockDelete) ?? (current(state, 'report') ? everyNow(state) : null);
 export const entryNow = state => { const group = groupNow(state); return group && !group.fits ? group.commands[0] ?? null : null; };
 export const contactNow = state => contact(entryNow(state), pathNow(state), sceneNow(state), keptNow(state).travel);
+// Whether the page asks for the program's control: it was opened, or there is no answer yet and a program as it was dropped looks like one.
+export function asksNow(state) {
+  const { program } = state.files;
+  if (!program || program.isOwn) return false;
+  return state.isAsking || (state.control === null && program.source === 'user' && looksForeign(program, current(state, 'report')));
+}
 // When each command of the path is done, in seconds: only with the report, since the estimates are scaled to it.
 export const timesNow = state => { const path = pathNow(state); return path?.count && current(state, 'report') ? scaledTimes(path, groupNow(state)) : null; };

@@ -14,11 +14,3 @@ export function kindOf(bytes, name) {
   const isMachine = lines.some(it => /^(step|ticks_per_second|max_rate|low|high|origins)\s*=|^\[\[\s*fixture\s*\]\]/.test(it));
   return !isMachine && /tool/i.test(name) ? 'tools' : 'machine';
 }
-
-// The control that a program seems to be written for, as the number that `ngc_adapt` takes: the first choice in the form.
-export function controlOf(text) {
-  if (/grbl/i.test(text)) return 1;
-  if (/mach ?[34]/i.test(text)) return 2;
-  if (/fanuc|^O\d{4}/im.test(text)) return 3;
-  return 0;
-}

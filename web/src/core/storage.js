@@ -1,7 +1,8 @@
-// What is kept for the next visit: the user's own machine file and tool table, the margins of the machine, and the colours. Each byte is kept as a character, since
-// not every file is text. Without storage the page works, and keeps nothing.
+// What is kept for the next visit: the user's own machine file and tool table, the machine's margins and control, and the colours. Each
+// byte is kept as a character, since not every file is text. Without storage the page works, and keeps nothing.
 
 import { NO_DEMANDS, demandsIn, hasDemands } from './changes.js';
+import { controlIn } from './controls.js';
 
 const MOST = 1 << 20;   // bytes
 
@@ -20,6 +21,10 @@ export function keepDemands(demands) {
   try { hasDemands(demands) ? localStorage.setItem('ngc demands', JSON.stringify(demands)) : localStorage.removeItem('ngc demands'); } catch { /* Nothing is kept. */ }
 }
 export function keptDemands() { try { return demandsIn(JSON.parse(localStorage.getItem('ngc demands'))); } catch { return NO_DEMANDS; } }
+export function keepControl(control) {
+  try { control ? localStorage.setItem('ngc control', control) : localStorage.removeItem('ngc control'); } catch { /* Nothing is kept. */ }
+}
+export function keptControl() { try { return controlIn(localStorage.getItem('ngc control')); } catch { return null; } }
 export function keepTheme(theme) { try { localStorage.setItem('ngc theme', theme); } catch { /* Nothing is kept. */ } }
 export function keptTheme() {
   try { const theme = localStorage.getItem('ngc theme'); return ['dark', 'light'].includes(theme) ? theme : 'auto'; } catch { return 'auto'; }

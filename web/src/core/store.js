@@ -2,6 +2,7 @@
 // files -> jobs in the workers -> results -> views.
 
 import { NO_DEMANDS, changesOf } from './changes.js';
+import { dialectNow } from './controls.js';
 
 // Makes a store. `watch` calls `act` with what `select` returns: at once, and again whenever a part of it changes.
 export function makeStore(reduce, first) {
@@ -40,6 +41,8 @@ export const firstState = {
   origins: {},                  // origins for this check: system -> X, Y and Z in nanometres
   demands: NO_DEMANDS,          // margins and the way of rapids for this check
   cuts: null,                   // cuts of each motion for this check, or null for the program's own number
+  control: null,                // the control that programs are for, 'own' for our own language, or null before the first answer
+  isAsking: false,              // whether the question for the control was opened
   blockDelete: false,
   slots: Object.fromEntries(SLOTS.map(slot => [slot, EMPTY])),
   line: 0,                      // the chosen line, from 1
@@ -75,7 +78,7 @@ export const failureOf = (state, slot) => slotNow(state, slot).failure;
 
 const withSlot = (state, slot, values) => ({ ...state, slots: { ...state.slots, [slot]: { ...state.slots[slot], ...values } } });
 // Nothing of one program may act on another one.
-const FRESH = { blockDelete: false, cuts: null, line: 0, lineFrom: '', hovered: -1, time: null, isPlaying: false, query: '' };
+const FRESH = { blockDelete: false, cuts: null, line: 0, lineFrom: '', hovered: -1, time: null, isPlaying: false, isAsking: false, query: '' };
 let notices = 0;
 
 export function reduce(state, action) {
@@ -83,8 +86,13 @@ export function reduce(state, action) {
     case 'file': {
       const next = { ...state, files: { ...state.files, [action.kind]: action.file } };
       if (action.kind === 'program') Object.assign(next, FRESH, { text: action.text });
-      if (action.kind === 'machine') Object.assign(next, { origins: {}, demands: NO_DEMANDS, cuts: null });
+      if (action.kind === 'machine') Object.assign(next, { origins: {}, demands: NO_DEMANDS, cuts: null, control: null });
       return next;
+    }
+    case 'control': {
+      const next = { ...state, control: action.control, isAsking: false };
+      // The same text means something else to another control, so nothing of the old meaning stays.
+      return dialectNow(next) === dialectNow(state) ? next : { ...next, ...FRESH, query: state.query };
     }
     case 'edited':
       return { ...state, text: action.text, files: { ...state.files, program: action.file }, isPlaying: false, time: null, hovered: -1,

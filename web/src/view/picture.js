@@ -1,7 +1,8 @@
 // The picture: travel, fixtures, path, tool and labels. It draws only when something changed.
 
+import { dialectNow, noDrawingOf } from '../core/controls.js';
 import { AXES } from '../core/systems.js';
-import { commandsOf, isMotion, KIND_NAMES, momentAt, tipAt } from '../core/motion.js';
+import { isMotion, KIND_NAMES, momentAt, passesOf, tipAt } from '../core/motion.js';
 import { current, failureOf, isRunning } from '../core/store.js';
 import { contactNow, entryNow, groupNow, pathNow, sceneNow, timesNow } from '../core/shown.js';
 import { sentenceOfFailure } from '../core/jobs.js';
@@ -139,12 +140,20 @@ export function makePicture(store) {
 
   // ---- the path, the tool and what is marked
 
-  function showCommands(shown, from, to) {
-    const { path } = data;
-    if (!path || from >= to) shown.clear();
-    else shown.set(path.a.slice(path.first[from] * 3, path.first[to] * 3), path.b.slice(path.first[from] * 3, path.first[to] * 3));
+  // Shows the segments of ranges of commands.
+  function showRanges(shown, ranges) {
+    const { path } = data, parts = path ? ranges.filter(([from, to]) => from < to).map(range => range.map(it => path.first[it] * 3)) : [];
+    const joined = values => {
+      const made = new Float32Array(parts.reduce((sum, [from, to]) => sum + to - from, 0));
+      let at = 0;
+      for (const [from, to] of parts) { made.set(values.subarray(from, to), at); at += to - from; }
+      return made;
+    };
+    if (parts.length) shown.set(joined(path.a), joined(path.b)); else shown.clear();
     request();
   }
+  const showCommands = (shown, from, to) => showRanges(shown, [[from, to]]);
+  const showLine = line => showRanges(lines.marked, passesOf(data.path, line));
   function drawTool() {
     const { scene, path } = data, number = moment && path ? path.tools[moment.command] : 0, key = `${number} ${isDark()} ${path ? toolColour(path, number) : ''}`;
     if (key !== shownTool) {
@@ -255,18 +264,18 @@ export function makePicture(store) {
     if (isNew) moment = null;
     // While a program is edited its last path stays, pale and out of reach, so that the picture doesn't flicker.
     const keepsPale = !path && isWaiting && base === drawnBase;
-    if (path ? isNew : !keepsPale && paths.count) { paths.set(path); showCommands(lines.marked, ...commandsOf(path, store.state.line)); lines.hover.clear(); }
+    if (path ? isNew : !keepsPale && paths.count) { paths.set(path); showLine(store.state.line); lines.hover.clear(); }
     drawnBase = base;
     drawRefused();
     drawFixed();
     // The path is shown as soon as it is there, and again with what the report adds.
-    const key = `${store.state.files.program?.name} ${store.state.files.machine?.version} ${JSON.stringify(store.state.origins)}`;
+    const key = `${store.state.files.program?.name} ${store.state.files.machine?.version} ${JSON.stringify(store.state.origins)} ${dialectNow(store.state)}`;
     if (scene && (path || group) && fitted !== key) { fit(); fitted = group ? key : ''; }
     showMoment(store.state.time);
     showLegend();
   });
   store.watch(state => [isRunning(state, 'path') || isRunning(state, 'report'), failureOf(state, 'path')], isWaiting => { holder.dataset.waiting = String(isWaiting); showLegend(); });
-  store.watch(state => [state.line, pathNow(state)], (line, path) => showCommands(lines.marked, ...commandsOf(path, line)));
+  store.watch(state => [state.line, pathNow(state)], showLine);
   store.watch(state => [state.hovered], command => { showCommands(lines.hover, command, command < 0 ? command : command + 1); showPosition(); });
   store.watch(state => [state.colour, state.hasRapids], (colour, hasRapids) => {
     paths.uniforms.byFeed.value = colour === 'feed' ? 1 : 0;
@@ -282,6 +291,7 @@ export function makePicture(store) {
     fit, orbit, draw, isSoftware, themeChanged,
     get data() { return data; },
     get frames() { return frames; },
+    get markedSegments() { return lines.marked.count; },
     // The picture as PNG. One for paper has the light colours.
     image(shade = document.documentElement.dataset.shade) {
       const { dataset } = document.documentElement, before = dataset.shade, show = it => { if (dataset.shade !== it) { dataset.shade = it; themeChanged(); } };
@@ -303,6 +313,8 @@ export function makeDrawing(store) {
   let url = '';
   store.watch(state => [current(state, 'drawing')], drawing => {
     URL.revokeObjectURL(url);
+    const noDrawing = drawing ? noDrawingOf(dialectNow(store.state), drawing.status) : null;
+    if (noDrawing) return fill(id('labels'), h('p', { class: 'no-drawing' }, `There is no drawing: ${noDrawing}.`));
     if (!drawing?.output.length) return fill(id('labels'));
     const { output } = drawing;
     url = URL.createObjectURL(new Blob([output], { type: 'image/svg+xml' }));

@@ -58,6 +58,11 @@ export function makeReport(store, actions) {
       faults.length ? h('ul', { class: 'places' }, faults.map(it => h('li', {}, it.line ? lineLink(it.line) : 'no line', ` ${it.reason} `, link(`fault ${it.number}`, () => explain(it.number)), it.isLater ? ' after earlier faults' : ''))) : null,
     ];
   }
+  // Of a program in a dialect only the first fault is known.
+  function refusalOf({ refusal, fault }) {
+    const { line, words, word } = refusal;
+    return [h('h3', {}, 'The first fault'), h('ul', { class: 'places' }, h('li', {}, lineLink(line), ` ${words}${word ? `, at ${word}` : ''} `, link(`fault ${fault}`, () => explain(fault))))];
+  }
   function lowestTable(group, unit) {
     return table('Lowest', ['System', 'Tool', 'Z', 'Line'], group.lowest.map(it => [it.system, lowestTool(it), length(it.z, unit), link(String(it.line), () => actions.goTo(it.line, 'verdict'))]));
   }
@@ -65,6 +70,7 @@ export function makeReport(store, actions) {
     if (!report) return fill(out, h('p', { class: 'quiet' }, 'Checking\u2026'));
     fill(out,
       group?.commands[0]?.coordinates ? coordinateList(group.commands[0], unit) : null,
+      report.refusal ? refusalOf(report) : null,
       placesOf(every, isWaiting, failure, everyValue?.isCut, unit),
       group?.uses.length ? h('div', { class: 'wide' }, table('Tools in the order of use', TOOL_HEADS, toolRows(group, scene, unit))) : null,
       group?.figures.length ? h('div', { class: 'wide' }, table('Figures of each tool', FIGURE_HEADS, figureRows(group, unit))) : null,

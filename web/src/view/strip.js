@@ -4,6 +4,7 @@ import { current, failureOf } from '../core/store.js';
 import { sceneNow } from '../core/shown.js';
 import { sentenceOfFailure } from '../core/jobs.js';
 import { inUnit, length, plural, size } from '../core/units.js';
+import { makeChoice } from './control.js';
 import { fill, h, id } from './dom.js';
 
 const BADGES = { example: ['badge', 'example'], edited: ['badge quiet', 'edited'], made: ['badge quiet', 'made here'], kept: ['badge quiet', 'from last time'] };
@@ -26,15 +27,19 @@ function changesIn(origins, demands, cuts, unit) {
 }
 
 export function makeStrip(store, actions) {
+  const choice = makeChoice(store, actions);
   store.watch(state => [state.files.program, state.files.machine, state.files.tools, state.files.certificate, state.text?.count, sceneNow(state), current(state, 'certificate'), failureOf(state, 'certificate'), state.unit, state.programs, state.origins, state.demands, state.cuts],
     (program, machine, tools, certificate, lines, scene, verdict, failure, unit, programs, origins, demands, cuts) => {
       const others = programs.length < 2 ? null : h('select', { 'aria-label': `The ${programs.length} programs that were dropped`, onchange: event => actions.useProgram(programs[Number(event.target.value)]) },
         h('option', { value: '', selected: true }, `${programs.length}`), programs.map((it, at) => h('option', { value: String(at) }, `${SIGNS[it.verdict] ?? ''}${it.name}`)));
       const span = scene ? [0, 1, 2].map(axis => inUnit(Math.round((scene.high[axis] - scene.low[axis]) * 1000) / 1000, unit)).join('\u2009\u00d7\u2009') : '';
       const travel = scene ? `${span} ${unit}, ${plural(scene.fixtures.length, 'fixture')}` : '';
-      fill(id('strip'), chip('program', 'Program', program, !program ? '' : lines ? plural(lines, 'line') : size(program.size), others),
+      // An element that is put elsewhere loses the focus.
+      const hadFocus = document.activeElement === choice;
+      fill(id('strip'), chip('program', 'Program', program, !program ? '' : lines ? plural(lines, 'line') : size(program.size), [others, choice]),
         chip('machine', 'Machine', machine, [travel, ...changesIn(origins, demands, cuts, unit)].filter(Boolean).join('; ')), chip('tools', 'Tools', tools, scene ? plural(scene.tools.length, 'tool') : ''),
         certificate ? certificateChip(certificate, verdict, failure, actions) : null);
+      if (hadFocus) choice.focus();
     });
   const dismiss = it => store.dispatch({ type: 'dismiss', id: it.id });
   store.watch(state => [state.notices], notices => fill(id('notices'), notices.map(it => h('div', { class: `notice ${it.kind}` }, h('span', {}, it.text),

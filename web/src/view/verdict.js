@@ -1,8 +1,9 @@
 // The verdict as a sentence, with the travel, the time, the warnings and both settings of block delete.
 
 import { current, failureOf, isRunning } from '../core/store.js';
-import { everyGroupsNow, everyNow, groupNow, groupsNow, keptNow, sceneNow } from '../core/shown.js';
+import { asksNow, everyGroupsNow, everyNow, groupNow, groupsNow, keptNow, sceneNow } from '../core/shown.js';
 import { CUTS, MOST_CUTS } from '../core/changes.js';
+import { isRefusal } from '../core/controls.js';
 import { moreCutsMayHelp, obstacleSentence, verdictOf } from '../core/sentences.js';
 import { sentenceOfFailure } from '../core/jobs.js';
 import { duration, inUnit, length, plural } from '../core/units.js';
@@ -83,14 +84,15 @@ export function makeVerdict(store, actions, editor) {
     return [mayHelp && more <= MOST_CUTS ? button(`Check with ${more} cuts`, () => actions.setCuts(more)) : null, cuts ? button(`Back to ${CUTS} cuts`, () => actions.setCuts(null)) : null];
   }
   function showActions(report, group, every, verdict) {
-    const places = every?.commands.length ?? 0, faults = every?.faults.length ?? 0, isRefused = report.fault && report.fault !== 304 && !report.refusedFile;
+    const places = every?.commands.length ?? 0, faults = every?.faults.length ?? 0, mayAsk = isRefusal(report) && !report.dialect && !store.state.files.program.isOwn && !asksNow(store.state);
     fill(buttons,
       verdict.line ? button(`Go to line ${verdict.line}`, () => actions.goTo(verdict.line, 'verdict')) : null,
       places > 1 ? button(`All ${plural(places, 'place')}`, () => actions.tab('report')) : null,
       faults > 1 ? button(`All ${plural(faults, 'fault')}`, () => actions.tab('report')) : null,
       buttonsOfCuts(group, store.state.cuts),
       group?.commands[0]?.command.fact === 'command' ? button('Where would it fit?', () => { actions.tab('place'); actions.place(); }) : null,
-      isRefused ? button('Rewrite for this control\u2026', actions.adapt) : null,
+      mayAsk ? button('Is it for a control\u2026', actions.ask) : null,
+      isRefusal(report) ? button('Rewrite for this control\u2026', actions.adapt) : null,
       report.fault ? button(`What is fault ${report.fault}?`, () => { actions.tab('report'); id('explained').focus(); }, 'small plain') : null);
   }
   function showFigures(group, scene, unit) {
@@ -100,7 +102,7 @@ export function makeVerdict(store, actions, editor) {
       group?.fits && group.useTimes.length > 1 ? group.useTimes.slice(0, 12).map(it => metric(duration(it.seconds), it.tool === null ? 'no tool' : `T${it.tool}`)) : null);
   }
 
-  store.watch(state => [current(state, 'report'), isRunning(state, 'report'), failureOf(state, 'report'), groupNow(state), everyNow(state), sceneNow(state), state.blockDelete, state.unit], (report, isWaiting, failure, group, every, scene, _, unit) => {
+  store.watch(state => [current(state, 'report'), isRunning(state, 'report'), failureOf(state, 'report'), groupNow(state), everyNow(state), sceneNow(state), state.blockDelete, state.unit, asksNow(state)], (report, isWaiting, failure, group, every, scene, _, unit) => {
     id('facts').classList.toggle('stale', !report);
     if (failure) return showFailure(failure);
     if (!report) {

@@ -48,6 +48,13 @@ export function faultNumber(notes) {
   return numbers.length ? Number(numbers[numbers.length - 1][1]) : null;
 }
 
+// What a refused program for another control has: one line with the fault, the line, often a column or a word, and what is wrong.
+const REFUSED = /^ngc: (?:fault 311 setting (off|on) )?fault \d+ line (\d+)(?: column (\d+))?: (.*?)(?:, at (\S+))?$/m;
+export function refusalOf(notes) {
+  const [, setting = null, line, column, words, word = null] = REFUSED.exec(notes) ?? [];
+  return words === undefined ? null : { setting, line: Number(line), column: column ? Number(column) : null, words, word };
+}
+
 // What a failed job is: its kind and the browser's words.
 export function failureOf(fault) {
   const kind = fault instanceof Missing ? 'missing' : fault instanceof WebAssembly.RuntimeError ? 'trap'

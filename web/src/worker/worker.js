@@ -1,7 +1,7 @@
 // The worker: each message is a job, and each job calls a function below. Its state is the module and the latest version of each file that
 // it was sent.
 
-import { call, execute, failureOf, faultNumber, textOf } from './module.js';
+import { call, execute, failureOf, faultNumber, refusalOf, textOf } from './module.js';
 import { buffersOf, readListing } from './listing.js';
 import { readSheet } from './sheet.js';
 import { lineStarts, search } from './lines.js';
@@ -15,11 +15,16 @@ let module = null;
 const IN_USE = ['program', 'machine', 'tools'];
 // `ngc list` has no margins, since they change nothing that it prints, and only these commands have cuts.
 const CUTTING = ['report', 'certify', 'place'];
-const withOptions = (words, changes) => [...words, ...optionsOf(words[0] === 'list' ? { origins: changes.origins } : CUTTING.includes(words[0]) ? changes : { ...changes, cuts: null })];
+const withOptions = (words, changes) => [...words, ...optionsOf(words[0] === 'list' ? { origins: changes.origins, dialect: changes.dialect } : CUTTING.includes(words[0]) ? changes : { ...changes, cuts: null })];
 // Executes a command on the files in use with what replaces keys of the machine file. `others` are files in their place, or more files.
 const command = (words, changes, { others = {}, factor = 1 } = {}) => execute(module, withOptions(words, changes), { ...files, ...others }, spaceFor(factor));
 const spaceFor = factor => (files.program?.length ?? 0) * factor + (1 << 20);
-const explanationOf = fault => (fault === null ? '' : textOf(call(module, 'ngc_explain', [], [fault]).output));
+const PART = /^(?=Fault \d+ \()/m, OF_OTHERS = /^Fault \d+ \(Programs for other controls\)/;
+// What `ngc explain` prints. For a program in a dialect the part about these programs comes first.
+function explanationOf(fault, { dialect = null }) {
+  const text = fault === null ? '' : textOf(call(module, 'ngc_explain', [], [fault]).output), parts = text.split(PART);
+  return dialect ? [...parts.filter(it => OF_OTHERS.test(it)), ...parts.filter(it => !OF_OTHERS.test(it))].join('') : text;
+}
 
 // Reads the first facts of a report. The document has one object a line.
 function factsOf(bytes) {
@@ -73,7 +78,8 @@ const JOBS = {
     const refusedFile = /fault \d+ (machine|tools)/.exec(errors)?.[1] ?? null;
     const sentence = refusedFile ? textOf(command(['report'], changes).output) : '';
     const { facts, isCut } = factsOf(got.output);
-    return [{ status: got.status, facts, isCut, errors, fault, explanation: explanationOf(fault), refusedFile, sentence }];
+    const { dialect = null } = changes;
+    return [{ status: got.status, facts, isCut, errors, fault, explanation: explanationOf(fault, changes), refusedFile, sentence, dialect, refusal: dialect ? refusalOf(errors) : null }];
   },
   scene({ changes }) { return [sceneOf(changes.origins)]; },
   sheet({ words }) {
@@ -98,7 +104,7 @@ const JOBS = {
   },
   place({ changes, system }) {
     const got = command(['place', '--json', `--system=${system.slice(1)}`], changes), fault = faultNumber(textOf(got.notes));
-    return [{ ...placeOf(factsOf(got.output).facts), system, status: got.status, explanation: explanationOf(fault) }];
+    return [{ ...placeOf(factsOf(got.output).facts), system, status: got.status, explanation: explanationOf(fault, changes) }];
   },
   // Whether a program that isn't in use fits the machine and the tools in use.
   async fits({ program, changes }) {
@@ -111,7 +117,7 @@ const JOBS = {
   },
   certificate({ changes, bytes }) {
     const got = command(['check'], changes, { others: { certificate: bytes } }), fault = faultNumber(textOf(got.notes));
-    return [{ isAccepted: got.status === 0, fault, explanation: explanationOf(fault) }];
+    return [{ isAccepted: got.status === 0, fault, explanation: explanationOf(fault, changes) }];
   },
 };
 
