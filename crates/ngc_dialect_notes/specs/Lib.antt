@@ -9,3 +9,4 @@ pub mod CodeNotes
 pub mod WordNotes
 pub mod MotionNotes
 pub mod Noted
+pub mod Laws

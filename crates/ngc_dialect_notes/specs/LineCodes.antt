@@ -1,5 +1,5 @@
 -- The codes of a line that the rules take. Our own.
-use Rattle.std.specs.Prelude.{nat_lt, Bool, false, List, [], ◌∷◌, ◌++◌, length, Option, Some, None}
+use Rattle.std.specs.Prelude.{◌==◌, Bool, false, List, [], ◌∷◌, ◌++◌, length, Option, Some, None}
 use Rattle.std.specs.Prelude.{if◌then◌else◌}
 use Rattle.ngc_dialect_parameters.specs.declared.statement.Word.{Word}
 use Rattle.ngc_dialect_rules.specs.declared.code.Code.{Code}
@@ -13,7 +13,7 @@ code_of w = if is_code_letter w.letter then code_at w.letter (tenths w.value) el
 -- codes with one more; a line has at most 24
 abbrev pub with_code : Option Code → List Code → List Code
 with_code None line = line
-with_code (Some code) line = if nat_lt (length line) 24 then line ++ code ∷ [] else line
+with_code (Some code) line = if length line == 24 then line else line ++ code ∷ []
 
 -- codes with those of words
 abbrev pub with_codes : List Word → List Code → List Code

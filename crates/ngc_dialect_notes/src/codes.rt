@@ -61,8 +61,11 @@ pub const CLEARING: [Code; 1] = [G(830)];
 /// G73, which breaks chips.
 pub const CHIP_BREAKING: [Code; 1] = [G(730)];
 
-/// Codes beside which axis words don't move by the motion mode.
-pub const TAKE_AXES: [Code; 6] = [G(100), G(280), G(300), G(431), G(520), G(920)];
+/// Codes for their line alone that take its axis words.
+pub const TAKE_AXES: [Code; 5] = [G(100), G(280), G(300), G(520), G(920)];
+
+/// G43.1, whose axis word is the tool length.
+pub const WORD_LENGTH: [Code; 1] = [G(431)];
 
 /// G4, the dwell.
 pub const DWELL: [Code; 1] = [G(40)];

@@ -6,6 +6,7 @@ mod code_notes;
 mod codes;
 mod in_force;
 mod kind;
+pub mod laws;
 mod line_codes;
 mod motion;
 mod motion_notes;

@@ -31,34 +31,53 @@ pub(crate) fn has_offsets(words: &[Word]) -> bool
     has_letter(b'I', words) || has_letter(b'J', words) || has_letter(b'K', words)
 }
 
-fn mode_on(known: &Known, line: &[Code]) -> Option<Code>
-    ensures { result ≡ spec.mode_on known.now line.now }
+fn moves_by(known: &Known, line: &[Code], words: &[Word], code: Code) -> bool
+    ensures { result ≡ spec.moves_by known.now line.now words.now code }
 {
-    match code_in(&codes::MOTIONS, line) {
-        Some(code) => Some(code),
+    has_axes(known.dialect, line, words)
+        || (is_among(&codes::ARCS, code) && (has_offsets(words) || has_letter(b'R', words)))
+}
+
+fn goes_on_by(known: &Known, line: &[Code], words: &[Word], code: Code) -> bool
+    ensures { result ≡ spec.goes_on_by known.now line.now words.now code }
+{
+    has_axes(known.dialect, line, words) || (is_among(&codes::ARCS, code) && has_offsets(words))
+}
+
+fn going_on(known: &Known, line: &[Code], words: &[Word], mode: Option<Code>) -> Option<Code>
+    ensures { result ≡ spec.going_on known.now line.now words.now mode }
+{
+    match mode {
+        Some(code) if goes_on_by(known, line, words, code) => Some(code),
+        _ => None,
+    }
+}
+
+fn motion_by(known: &Known, line: &[Code], words: &[Word], code: Option<Code>) -> Option<Code>
+    ensures { result ≡ spec.motion_by known.now line.now words.now code }
+{
+    match code {
         None => {
             if has(&codes::MOTION_END, line) {
                 None
             } else {
-                known.front.motion
+                going_on(known, line, words, known.front.motion)
+            }
+        }
+        Some(code) => {
+            if moves_by(known, line, words, code) {
+                Some(code)
+            } else {
+                None
             }
         }
     }
 }
 
-fn moves_by(known: &Known, line: &[Code], words: &[Word], code: Code) -> bool
-    ensures { result ≡ spec.moves_by known.now line.now words.now code }
+fn takes_axes(line: &[Code]) -> bool
+    ensures { result ≡ spec.takes_axes line.now }
 {
-    has_axes(known.dialect, line, words) || (is_among(&codes::ARCS, code) && has_offsets(words))
-}
-
-fn moving(known: &Known, line: &[Code], words: &[Word], mode: Option<Code>) -> Option<Code>
-    ensures { result ≡ spec.moving known.now line.now words.now mode }
-{
-    match mode {
-        Some(code) if moves_by(known, line, words, code) => Some(code),
-        _ => None,
-    }
+    has(&codes::TAKE_AXES, line) || has(&codes::WORD_LENGTH, line)
 }
 
 /// Returns the code of the motion that a line makes, if it makes one.
@@ -66,8 +85,9 @@ fn moving(known: &Known, line: &[Code], words: &[Word], mode: Option<Code>) -> O
 pub(crate) fn motion_on(known: &Known, line: &[Code], words: &[Word]) -> Option<Code>
     ensures { result ≡ spec.motion_on known.now line.now words.now }
 {
-    if has(&codes::TAKE_AXES, line) {
-        return None;
+    if takes_axes(line) {
+        None
+    } else {
+        motion_by(known, line, words, code_in(&codes::MOTIONS, line))
     }
-    moving(known, line, words, mode_on(known, line))
 }
