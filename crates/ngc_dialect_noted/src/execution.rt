@@ -1,4 +1,6 @@
 //! Executes a program, and notes each line before it is executed.
+ghost use Rattle.std.specs.Prelude.{None};
+
 use ngc_canonical::{Machine, Tools};
 use ngc_dialect_execution::WordInterpreter;
 use ngc_dialect_notes::Notes;
