@@ -251,7 +251,8 @@ draw_sound =
     let margin = set_is_sound FitsCuts _ refl refl refl (λ v none. no_cuts (codes "margin") v refl) in
     let from_travel = set_is_sound FitsCuts _ refl refl refl (λ v none. no_cuts (codes "travel-margin") v refl) in
     let rapids = set_is_sound FitsCuts _ refl refl refl (λ v none. no_cuts (codes "rapids") v refl) in
-    (machine, (tools, (certificate, (program, (view, (delete, (bodies, (whole, (origin, (margin, (from_travel, (rapids, (help_is_sound FitsCuts _ refl refl, tt)))))))))))))
+    let dialect = set_is_sound FitsCuts _ refl refl refl (λ v none. no_cuts (codes "dialect") v refl) in
+    (machine, (tools, (certificate, (program, (view, (delete, (bodies, (whole, (origin, (margin, (from_travel, (rapids, (dialect, (help_is_sound FitsCuts _ refl refl, tt))))))))))))))
 
 draw_values : (words : List Text) → level_fault draw_shape [] nothing_held words false [] ≡ [] → HasDrawValues (rows_after draw_shape.rules [] words)
 draw_values words none =

@@ -112,14 +112,14 @@ live_app = fold with_rule (new_app (codes "live"))
     ∷ travel_margin_option ∷ rapids_option ∷ dialect_option ∷ [])
 
 -- `draw --machine FILE --tools FILE [--certificate FILE] [--program FILE] [--view VIEW] [--delete]
--- [--bodies] [--whole] [--origin SYSTEM=X,Y,Z].. ..`
+-- [--bodies] [--whole] [--origin SYSTEM=X,Y,Z].. .. [--dialect NAME]`
 abbrev pub draw_app : App
 draw_app = fold with_rule (new_app (codes "draw"))
     (required_file (codes "machine") ∷ required_file (codes "tools")
     ∷ file_option (codes "certificate") ∷ file_option (codes "program")
     ∷ file_option (codes "view") ∷ flag (codes "delete") ∷ flag (codes "bodies")
     ∷ flag (codes "whole") ∷ origin_option ∷ margin_option
-    ∷ travel_margin_option ∷ rapids_option ∷ [])
+    ∷ travel_margin_option ∷ rapids_option ∷ dialect_option ∷ [])
 
 -- `show --machine FILE [--tools FILE] [--warnings]`
 abbrev pub show_app : App

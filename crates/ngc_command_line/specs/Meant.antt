@@ -216,6 +216,7 @@ pub record AreDrawOptions (rows : List Row) (options : DrawOptions) : Type 0 whe
   pub bodies : options.bodies ≡ is_set (codes "bodies") rows
   pub whole : options.whole ≡ is_set (codes "whole") rows
   pub changes : changes_in rows ≡ Some options.changes
+  pub dialect : option_map (λ name. name.now) options.dialect ≡ first_of (codes "dialect") rows
 
 -- each option of `show` by the first value that was found under its own name
 pub record AreShowOptions (rows : List Row) (options : ShowOptions) : Type 0 where
@@ -446,7 +447,7 @@ IsDrawRequest machine tools certificate program view delete bodies whole (ToDraw
     × (option_map (λ name. name.now) draw.program ≡ program)
     × (option_map (λ name. name.now) draw.view ≡ view) × (draw.delete ≡ delete)
     × (draw.bodies ≡ bodies) × (draw.whole ≡ whole)
-    × (draw.changes ≡ no_changes)
+    × (draw.changes ≡ no_changes) × (option_map (λ name. name.now) draw.dialect ≡ None)
 IsDrawRequest machine tools certificate program view delete bodies whole other = ⊥
 
 -- `show` is requested, with these options

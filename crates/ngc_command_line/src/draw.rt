@@ -5,8 +5,8 @@ ghost use Rattle.clap.specs.Words.{found_of, rows_of};
 ghost use Rattle.ngc_command_line.specs.Meant.{AreDrawOptions, HasDrawValues, changes_in};
 
 use crate::arguments::{
-    DELETE, MARGIN, ORIGIN, PROGRAM, RAPIDS, REQUIRED_MACHINE, REQUIRED_TOOLS, TRAVEL_MARGIN,
-    flag_is_set, help_end, required,
+    DELETE, DIALECT, MARGIN, ORIGIN, PROGRAM, RAPIDS, REQUIRED_MACHINE, REQUIRED_TOOLS,
+    TRAVEL_MARGIN, flag_is_set, help_end, required,
 };
 use crate::options::DrawOptions;
 use crate::table::{Argument, SubcommandRow, Takes};
@@ -65,6 +65,7 @@ pub(crate) static DRAW: SubcommandRow<'static> = SubcommandRow {
         MARGIN,
         TRAVEL_MARGIN,
         RAPIDS,
+        DIALECT,
     ],
 };
 
@@ -83,5 +84,6 @@ pub(crate) fn draw_options<'a>(found: &ArgMatches<'a>, changes: Changes) -> Draw
         bodies: flag_is_set(found, "bodies"),
         whole: flag_is_set(found, "whole"),
         changes,
+        dialect: found.get_str("dialect"),
     }
 }

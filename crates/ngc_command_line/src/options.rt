@@ -219,6 +219,8 @@ pub struct DrawOptions<'a> {
     pub whole: bool,
     /// What replaces keys of the machine file.
     pub changes: Changes,
+    /// The control in whose language the program is written. Without one it is our own language.
+    pub dialect: Option<&'a str>,
 }
 
 /// The options of `ngc show`.

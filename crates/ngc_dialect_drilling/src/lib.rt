@@ -10,4 +10,5 @@ mod places;
 
 pub use holes::{CycleStart, cycle_of};
 pub use kept::kept_after;
-pub use moves::{write_move, write_stop};
+pub use moves::{length_to, motion_to, word_to, write_move, write_stop};
+pub use places::{depth_axis, letter_of, own_shift, u_axis, v_axis};

@@ -41,8 +41,9 @@ fn some_length(length: Result<Nm, Fault>) -> Result<Option<Nm>, Fault>
     }
 }
 
-// Returns the length of an axis word by which the axis goes to a machine coordinate.
-fn word_to(known: &Known, axis: Axis, here: Nm, there: Nm) -> Result<Option<Nm>, Fault>
+/// Returns the length of an axis word by which the axis goes to a machine coordinate. Refuses one over 100
+/// metres.
+pub fn word_to(known: &Known, axis: Axis, here: Nm, there: Nm) -> Result<Option<Nm>, Fault>
     ensures { result ≡ spec.word_to known.now axis here there }
 {
     let base = base_of(known, axis, here);
@@ -50,8 +51,8 @@ fn word_to(known: &Known, axis: Axis, here: Nm, there: Nm) -> Result<Option<Nm>,
     some_length(length)
 }
 
-// Returns the length of an axis word, if the axis moves.
-fn length_to(known: &Known, axis: Axis, here: Nm, there: Nm) -> Result<Option<Nm>, Fault>
+/// Returns the length of an axis word, as `word_to`, if the axis moves.
+pub fn length_to(known: &Known, axis: Axis, here: Nm, there: Nm) -> Result<Option<Nm>, Fault>
     ensures { result ≡ spec.length_to known.now axis here there }
 {
     if here.nanometres() == there.nanometres() {
@@ -82,7 +83,9 @@ fn written(known: &Known, code: Code) -> Option<Code>
     }
 }
 
-fn motion_to(known: &Known, code: Code, end: &Point3) -> Result<Action, Fault>
+/// Returns the straight motion to a place by a code, which isn't written if it is the motion mode. Refuses
+/// a word over 100 metres.
+pub fn motion_to(known: &Known, code: Code, end: &Point3) -> Result<Action, Fault>
     ensures { result ≡ spec.motion_to known.now code end.now }
 {
     let axes = lengths_to(known, end)?;

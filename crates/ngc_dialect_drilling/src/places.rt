@@ -21,7 +21,7 @@ fn sum_of_three(a: Nm, b: Nm, c: Nm) -> i128
 }
 
 /// Returns the shift of our own interpreter along an axis, in nanometres.
-pub(crate) fn own_shift(known: &Known, axis: Axis) -> i128
+pub fn own_shift(known: &Known, axis: Axis) -> i128
     ensures value { result ≡ spec.own_shift known.now axis }
     ensures bound { unsigned_abs result ≤ 300000000000 }
 {
@@ -48,7 +48,7 @@ pub(crate) fn whole_shift(known: &Known, axis: Axis) -> i128
 }
 
 /// Returns the axis perpendicular to a plane.
-pub(crate) fn depth_axis(plane: Plane) -> Axis
+pub fn depth_axis(plane: Plane) -> Axis
     ensures { result ≡ spec.depth_axis plane }
 {
     match plane {
@@ -59,7 +59,7 @@ pub(crate) fn depth_axis(plane: Plane) -> Axis
 }
 
 /// Returns a plane's first axis.
-pub(crate) fn u_axis(plane: Plane) -> Axis
+pub fn u_axis(plane: Plane) -> Axis
     ensures { result ≡ spec.u_axis plane }
 {
     match plane {
@@ -70,7 +70,7 @@ pub(crate) fn u_axis(plane: Plane) -> Axis
 }
 
 /// Returns a plane's second axis.
-pub(crate) fn v_axis(plane: Plane) -> Axis
+pub fn v_axis(plane: Plane) -> Axis
     ensures { result ≡ spec.v_axis plane }
 {
     match plane {
@@ -81,7 +81,7 @@ pub(crate) fn v_axis(plane: Plane) -> Axis
 }
 
 /// Returns the letter of an axis.
-pub(crate) fn letter_of(axis: Axis) -> u8
+pub fn letter_of(axis: Axis) -> u8
     ensures { result ≡ spec.letter_of axis }
 {
     match axis {

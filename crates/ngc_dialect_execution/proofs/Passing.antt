@@ -1,6 +1,6 @@
 -- What a step returns, passed on by the steps after it; and the moves of a canned cycle, one after another.
-use Rattle.std.proofs.Common.{◌≡◌, ℕ, List, [], ◌∷◌, Result, Ok, Err, refl, sym, ◌∙◌, ap, subst}
-use Rattle.std.specs.Prelude.{Option, Some, None}
+use Rattle.std.proofs.Common.{◌≡◌, ℕ, List, [], ◌∷◌, Bool, true, false, Result, Ok, Err, refl, sym, ◌∙◌, ap, subst}
+use Rattle.std.specs.Prelude.{Option, is_some, if◌then◌else◌}
 use Rattle.ngc_canned_cycles.specs.declared.cycle.CycleMove.{CycleMove}
 use Rattle.ngc_canonical.specs.State.{Setup, State}
 use Rattle.ngc_dialect_parameters.specs.declared.statement.Word.{Word}
@@ -19,7 +19,7 @@ use Rattle.ngc_dialect_execution.specs.declared.fault.Refusal.{Refusal}
 use Rattle.ngc_dialect_execution.specs.declared.fault.Refusal.TheVariants.{Because, Memory}
 use Rattle.ngc_dialect_execution.specs.Executed.{executed, lines_at}
 use Rattle.ngc_dialect_execution.specs.Faults.{◌>>=◌, caused, Says}
-use Rattle.ngc_dialect_execution.specs.Taken.{Between, known_of, with_state, with_series, plain_taken, move_taken, moves_taken, start_taken, cycle_taken, cycle_if, words_taken}
+use Rattle.ngc_dialect_execution.specs.Taken.{Between, known_of, with_state, with_series, plain_taken, move_taken, moves_taken, start_taken, cycle_taken, made_or_path, made_taken, path_taken, plain_words_taken}
 
 -- a step that always succeeds after another
 pub goes_on : {X Y Z : Type 0} (view : X → Y) (seen : X → Z) (f : Y → Result Z Cause) (r : Result X Refusal) (says : Result Y Cause) →
@@ -119,56 +119,22 @@ cycle_starts setup line words cycle b d start r e says =
 
 -- ---- the words of a line
 
--- the plain lines, and then the cycle
-abbrev then_cycle : Setup → ℕ → List Word → Between → LineResult × List Plain → Result Between Cause
-then_cycle setup line words b made =
-    caused causes.Plain (executed setup (lines_at line made.1) b.state) >>= λ s. cycle_if setup line words made.0.cycle (with_state b made.0.front s)
+words_follow : (setup : Setup) (line : ℕ) (words : List Word) (b d : Between) (made : LineResult × List Plain) (r : Result (Unit {0}) Refusal) →
+    plain_lines (known_of b) words ≡ Ok made → Says (λ (x : Unit {0}). d) r (made_or_path setup line words made b)
+    → Says (λ (x : Unit {0}). d) r (plain_words_taken setup line words b)
+unfolding plain_words_taken
+words_follow setup line words b d made r e says =
+    follows (λ (x : Unit {0}). d) (λ m. made_or_path setup line words m b) r (caused causes.Rule (plain_lines (known_of b) words)) made
+    (ap (λ (q : Result (LineResult × List Plain) RuleFault). caused causes.Rule q) e) says
 
-pub words_refused : (setup : Setup) (line : ℕ) (words : List Word) (b : Between) (fault : RuleFault) →
-    plain_lines (known_of b) words ≡ Err fault → words_taken setup line words b ≡ Err (causes.Rule fault)
-unfolding words_taken
-words_refused setup line words b fault e =
-    ap (λ (r : Result (LineResult × List Plain) RuleFault). caused causes.Rule r >>= λ made. then_cycle setup line words b made) e
+no : {A : Type 0} (b : Bool) (x y : A) → b ≡ false → (if b then x else y) ≡ y
+no true x y e = absurd (cc e)
+no false x y e = refl
 
-words_made : (setup : Setup) (line : ℕ) (words : List Word) (b : Between) (made : LineResult × List Plain) →
-    plain_lines (known_of b) words ≡ Ok made → words_taken setup line words b ≡ then_cycle setup line words b made
-unfolding words_taken
-words_made setup line words b made e =
-    ap (λ (r : Result (LineResult × List Plain) RuleFault). caused causes.Rule r >>= λ m. then_cycle setup line words b m) e
-
-pub words_stop : (setup : Setup) (line : ℕ) (words : List Word) (b d : Between) (s : State) (made : LineResult × List Plain) (refusal : Refusal) →
-    plain_lines (known_of b) words ≡ Ok made
-    → Says (λ (x : Unit {0}). s) (Err refusal) (caused causes.Plain (executed setup (lines_at line made.1) b.state))
-    → Says (λ (x : Unit {0}). d) (Err refusal) (words_taken setup line words b)
-words_stop setup line words b d s made refusal e says =
-    subst (λ (r : Result Between Cause). Says (λ (x : Unit {0}). d) (Err refusal) r) (sym (words_made setup line words b made e))
-    (stops (λ (x : Unit {0}). s) (λ (x : Unit {0}). d) (λ t. cycle_if setup line words made.0.cycle (with_state b made.0.front t)) refusal
-    (caused causes.Plain (executed setup (lines_at line made.1) b.state)) says)
-
-pub words_follow : (setup : Setup) (line : ℕ) (words : List Word) (b d : Between) (s : State) (made : LineResult × List Plain)
-    (r : Result (Unit {0}) Refusal) →
-    plain_lines (known_of b) words ≡ Ok made → caused causes.Plain (executed setup (lines_at line made.1) b.state) ≡ Ok s
-    → Says (λ (x : Unit {0}). d) r (cycle_if setup line words made.0.cycle (with_state b made.0.front s))
-    → Says (λ (x : Unit {0}). d) r (words_taken setup line words b)
-words_follow setup line words b d s made r e ok says =
-    subst (λ (q : Result Between Cause). Says (λ (x : Unit {0}). d) r q) (sym (words_made setup line words b made e))
-    (follows (λ (x : Unit {0}). d) (λ t. cycle_if setup line words made.0.cycle (with_state b made.0.front t)) r
-    (caused causes.Plain (executed setup (lines_at line made.1) b.state)) s ok says)
-
--- without a cycle the plain lines are all
-pub words_end : (setup : Setup) (line : ℕ) (words : List Word) (b : Between) (s : State) (made : LineResult × List Plain) →
-    plain_lines (known_of b) words ≡ Ok made → caused causes.Plain (executed setup (lines_at line made.1) b.state) ≡ Ok s → made.0.cycle ≡ None
-    → words_taken setup line words b ≡ Ok (with_state b made.0.front s)
-words_end setup line words b s made e ok none =
-    words_made setup line words b made e
-    ∙ ap (λ (r : Result State Cause). r >>= λ t. cycle_if setup line words made.0.cycle (with_state b made.0.front t)) ok
-    ∙ ap (λ (o : Option LineCycle). cycle_if setup line words o (with_state b made.0.front s)) none
-
-pub words_go_on : (setup : Setup) (line : ℕ) (words : List Word) (b d : Between) (s : State) (made : LineResult × List Plain) (cycle : LineCycle)
-    (r : Result (Unit {0}) Refusal) →
-    plain_lines (known_of b) words ≡ Ok made → caused causes.Plain (executed setup (lines_at line made.1) b.state) ≡ Ok s → made.0.cycle ≡ Some cycle
-    → Says (λ (x : Unit {0}). d) r (cycle_taken setup line words cycle (with_state b made.0.front s))
-    → Says (λ (x : Unit {0}). d) r (words_taken setup line words b)
-words_go_on setup line words b d s made cycle r e ok is says =
-    words_follow setup line words b d s made r e ok
-    (subst (λ (o : Option LineCycle). Says (λ (x : Unit {0}). d) r (cycle_if setup line words o (with_state b made.0.front s))) (sym is) says)
+pub words_go_on : (setup : Setup) (line : ℕ) (words : List Word) (b d : Between) (made : LineResult × List Plain) (begins : Bool)
+    (r : Result (Unit {0}) Refusal) → plain_lines (known_of b) words ≡ Ok made → begins ≡ is_some made.0.compensation → begins ≡ false
+    → Says (λ (x : Unit {0}). d) r (made_taken setup line words made.0 made.1 b) → Says (λ (x : Unit {0}). d) r (plain_words_taken setup line words b)
+words_go_on setup line words b d made begins r e is fails says =
+    words_follow setup line words b d made r e
+    (subst (Says (λ (x : Unit {0}). d) r)
+    (sym (no (is_some made.0.compensation) (path_taken setup line words b) (made_taken setup line words made.0 made.1 b) (sym is ∙ fails))) says)

@@ -1,6 +1,6 @@
 -- What a program's plain lines lead to.
 use Rattle.std.proofs.Common.{◌≡◌, ℕ, zero, suc, ℤ, slice_get, List, [], ◌∷◌, ◌++◌, Bool, true, false, Result, Ok, Err, refl, sym, ◌∙◌, ap, subst}
-use Rattle.std.specs.Prelude.{if◌then◌else◌, ◌&&◌, IfOk, Option, Some, None}
+use Rattle.std.specs.Prelude.{if◌then◌else◌, ◌&&◌, IfOk, Option, Some, None, is_some}
 use Rattle.ngc_canonical.specs.declared.fault.Fault.{Fault}
 use Rattle.ngc_canonical.specs.declared.fault.Fault.TheVariants.{NoEnd}
 use Rattle.ngc_canonical.specs.State.{Setup, State, start_state}
@@ -23,6 +23,11 @@ use Rattle.ngc_dialect_rules.specs.declared.plan.LineCycle.{LineCycle}
 use Rattle.ngc_dialect_rules.specs.declared.plan.LineResult.{LineResult}
 use Rattle.ngc_dialect_rules.specs.Rules.{plain_lines}
 use Rattle.ngc_line_reader.specs.Program.{split_lines}
+use Rattle.ngc_dialect_path.specs.declared.step.PathStep.{PathStep}
+use Rattle.ngc_dialect_path.specs.Paths.{held_line}
+use Rattle.ngc_dialect_path.specs.Steps.{Written, path_end, path_step}
+use Rattle.ngc_dialect_execution.specs.declared.beside.StepLines.{StepLines}
+use Rattle.ngc_dialect_execution.specs.declared.beside.WaitingLine.{WaitingLine}
 use Rattle.ngc_dialect_execution.specs.declared.fault.Cause.{Cause}
 use Rattle.ngc_dialect_execution.specs.declared.fault.Cause.TheVariants as causes
 use Rattle.ngc_dialect_execution.specs.declared.fault.DialectFault.{DialectFault}
@@ -46,9 +51,9 @@ use Rattle.ngc_dialect_execution.specs.Ending.{Framed, Outcome, at, changed_by, 
 use Rattle.ngc_dialect_execution.specs.Faults.{◌>>=◌ as ◌>>=c◌, caused, stored_cause, ProgramSays}
 use Rattle.ngc_dialect_execution.specs.Flow.{FlowProgress, effect_done, effect_taken, ends, flow_line_taken, flow_statements_taken, flow_taken, line_or_end, number_at, other_words, others_taken, passed_over, said_if, stepped, then_on, turned, values_from, with_values}
 use Rattle.ngc_dialect_execution.specs.Laws.{AreLawful, AreExecuted, IsReached}
-use Rattle.ngc_dialect_execution.specs.Mounting.{before_lines, first_number, mounted, mounting, with_between, with_mounted}
+use Rattle.ngc_dialect_execution.specs.Mounting.{before_lines, first_number, mounted, mounting, with_between}
 use Rattle.ngc_dialect_execution.specs.Program.{changes_in, changes_of, commands_in, executed_in, from_begun, go_from, go_on, lines_taken, marked_taken, meaning_in}
-use Rattle.ngc_dialect_execution.specs.Taken.{Between, Progress, Said, END, done_at, ended_at, has_flow, is_deleted, known_of, line_taken, parts_taken, said_at, start_progress, statements_taken, with_state, words_of, words_taken, plain_taken, move_taken, moves_taken, with_series, start_taken, cycle_taken, cycle_if}
+use Rattle.ngc_dialect_execution.specs.Taken.{Between, Progress, Said, END, done_at, ended_at, has_flow, is_deleted, known_of, line_taken, parts_taken, said_at, start_progress, statements_taken, with_state, words_of, words_taken, plain_taken, move_taken, moves_taken, with_series, start_taken, cycle_taken, cycle_if, made_taken, own_taken, path_ended, path_taken, plain_words_taken, put_off, released_if, step_carried, step_lines, step_taken, waiting_taken}
 use Rattle.ngc_dialect_execution.specs.Text.{ProgramLines, first_byte, is_end, lines_after, mark_of, no_lines, number_of, program_of}
 use Rattle.ngc_dialect_execution.proofs.Lawful.{are_lawful, in_order}
 
@@ -147,12 +152,97 @@ after_plain setup line words lines made b (Ok s) e =
     (cycle_if_leads setup line words made.cycle (with_state b made.front s))
 after_plain setup line words lines made b (Err fault) e = tt
 
+made_leads : (setup : Setup) (line : ℕ) (words : List Word) (made : LineResult) (ps : List Plain) (b : Between) →
+    KnownLeads setup b.state (made_taken setup line words made ps b)
+unfolding made_taken
+made_leads setup line words made ps b = after_plain setup line words (lines_at line ps) made b (executed setup (lines_at line ps) b.state) refl
+
+-- ---- beside a path
+
+-- a state leads on
+abbrev StateLeads : Setup → State → Result State Cause → Type 0
+StateLeads setup s r = IfOk r (λ (t : State). Leads setup s t)
+
+executed_leads : (setup : Setup) (lines : List PlainLine) (s : State) (r : Result State Fault) → executed setup lines s ≡ r
+    → StateLeads setup s (caused causes.Plain r)
+executed_leads setup lines s (Ok t) e = record { lines = lines; leads = e }
+executed_leads setup lines s (Err fault) e = tt
+
+from_state : (setup : Setup) (s t : State) (r : Result State Cause) → Leads setup s t → StateLeads setup t r → StateLeads setup s r
+from_state setup s t (Ok u) first leads = on_leads setup s t u first leads
+from_state setup s t (Err e) first leads = tt
+
+then_state : (setup : Setup) (s : State) (r : Result State Cause) (f : State → Result State Cause) → StateLeads setup s r
+    → ((t : State) → StateLeads setup t (f t)) → StateLeads setup s (r >>=c f)
+then_state setup s (Ok t) f leads rest = from_state setup s t (f t) leads (rest t)
+then_state setup s (Err e) f leads rest = tt
+
+waiting_leads : (setup : Setup) (ws : List WaitingLine) (s : State) → StateLeads setup s (waiting_taken setup ws s)
+unfolding waiting_taken
+waiting_leads setup [] s = stays_there setup s
+waiting_leads setup (w ∷ ws) s =
+    then_state setup s _ _ (executed_leads setup (lines_at w.line w.plain.items) s (executed setup (lines_at w.line w.plain.items) s) refl)
+    (λ t. waiting_leads setup ws t)
+
+released_leads : (setup : Setup) (releases : Bool) (held : ℕ) (made : List Plain) (ws : List WaitingLine) (s : State) →
+    StateLeads setup s (released_if setup releases held made ws s)
+released_leads setup false held made ws s = stays_there setup s
+released_leads setup true held made ws s =
+    then_state setup s _ _ (executed_leads setup (lines_at held made) s (executed setup (lines_at held made) s) refl) (λ t. waiting_leads setup ws t)
+
+own_leads : (setup : Setup) (waits : Bool) (line : ℕ) (own : List Plain) (s : State) → StateLeads setup s (own_taken setup waits line own s)
+own_leads setup true line own s = stays_there setup s
+own_leads setup false line own s = executed_leads setup (lines_at line own) s (executed setup (lines_at line own) s) refl
+
+step_leads : (setup : Setup) (at : StepLines) (step : PathStep) (w : Written) (ws : List WaitingLine) (s : State) →
+    StateLeads setup s (step_taken setup at step w ws s)
+step_leads setup at step w ws s =
+    then_state setup s _ _ (released_leads setup step.releases at.held w.made ws s) (λ t. own_leads setup step.waits at.own w.own t)
+
+carried_leads : (setup : Setup) (at : StepLines) (step : PathStep) (w : Written) (b : Between) →
+    KnownLeads setup b.state (step_carried setup at step w b)
+unfolding step_carried
+carried_leads setup at step w b =
+    after_step (λ (s : State). Leads setup b.state s) (λ (c : Between). Leads setup b.state c.state) (step_taken setup at step w b.waiting b.state) _
+    (step_leads setup at step w b.waiting b.state)
+    (λ s leads. after_any (λ (c : Between). Leads setup b.state c.state) (put_off at.own step w.own b.waiting) _ (λ ws. leads))
+
+path_leads : (setup : Setup) (line : ℕ) (words : List Word) (b : Between) → KnownLeads setup b.state (path_taken setup line words b)
+unfolding path_taken
+path_leads setup line words b =
+    after_any (λ (c : Between). Leads setup b.state c.state) (caused causes.Rule (path_step (known_of b) setup.tools line b.path words)) _
+    (λ x. carried_leads setup (step_lines b.path line) x.0 x.1 b)
+
+either_known : (setup : Setup) (s : State) (b : Bool) (x y : Result Between Cause) → KnownLeads setup s x → KnownLeads setup s y
+    → KnownLeads setup s (if b then x else y)
+either_known setup s true x y h k = h
+either_known setup s false x y h k = k
+
+plain_words_lead : (setup : Setup) (line : ℕ) (words : List Word) (b : Between) → KnownLeads setup b.state (plain_words_taken setup line words b)
+unfolding plain_words_taken
+plain_words_lead setup line words b =
+    after_any (λ (c : Between). Leads setup b.state c.state) (caused causes.Rule (plain_lines (known_of b) words)) _
+    (λ made. either_known setup b.state (is_some made.0.compensation) _ _ (path_leads setup line words b)
+    (made_leads setup line words made.0 made.1 b))
+
 words_lead : (setup : Setup) (line : ℕ) (words : List Word) (b : Between) →
     IfOk (words_taken setup line words b) (λ (c : Between). Leads setup b.state c.state)
 unfolding words_taken
 words_lead setup line words b =
-    after_any (λ (c : Between). Leads setup b.state c.state) (caused causes.Rule (plain_lines (known_of b) words)) _
-    (λ made. after_plain setup line words (lines_at line made.1) made.0 b (executed setup (lines_at line made.1) b.state) refl)
+    either_known setup b.state (is_some b.path) _ _ (path_leads setup line words b) (plain_words_lead setup line words b)
+
+-- the end of the program
+path_end_leads : (setup : Setup) (b : Between) → KnownLeads setup b.state (path_ended setup b)
+unfolding path_ended
+path_end_leads setup b =
+    after_any (λ (c : Between). Leads setup b.state c.state) (caused causes.Rule (path_end (known_of b) b.path)) _
+    (λ e. after_step (λ (s : State). Leads setup b.state s) (λ (c : Between). Leads setup b.state c.state)
+    (released_if setup e.0 (held_line b.path) e.1 b.waiting b.state) _ (released_leads setup e.0 (held_line b.path) e.1 b.waiting b.state) (λ s leads. leads))
+
+end_leads : (setup : Setup) (line : ℕ) (b : Between) → KnownLeads setup b.state (ended_at setup line b)
+unfolding ended_at
+end_leads setup line b =
+    chain setup b.state (path_ended setup b) (λ c. plain_taken setup line END c) (path_end_leads setup b) (λ c. plain_lead setup line END c)
 
 -- the result leads on
 abbrev LeadsOn : Setup → State → Result (Taken × Progress) Cause → Type 0
@@ -305,7 +395,7 @@ unfolding finished
 finish_executed setup last p reached =
     at_any (AreExecuted setup) last (ended_at setup last p.between >>=c λ b. commands_of b.state)
     (after_step (λ (c : Between). Leads setup p.between.state c.state) (AreExecuted setup) (ended_at setup last p.between) _
-    (caused_state setup (lines_at last END) p.between p.between.front (executed setup (lines_at last END) p.between.state) refl)
+    (end_leads setup last p.between)
     (λ b leads. handed_out setup b.state (on_from setup p.between.state b.state reached leads)))
 
 -- the commands of an outcome are those of plain lines

@@ -1,6 +1,6 @@
 -- The tool that is in the spindle before the first line. Our own: Grbl changes no tools, so the one tool
 -- of a tool table is mounted.
-use Rattle.std.specs.Prelude.{ℕ, ◌*◌, pos, List, [], ◌∷◌, Option, Some, None, Result, Ok, Err}
+use Rattle.std.specs.Prelude.{ℕ, ◌*◌, pos, List, [], ◌∷◌, Option, Some, None, Result, Ok}
 use Rattle.ngc_line_reader.specs.declared.letter.Letter.TheVariants as letters
 use Rattle.ngc_machine_files.specs.declared.tools.Tool.{Tool}
 use Rattle.ngc_canonical.specs.State.{Setup}

@@ -1,7 +1,7 @@
 -- A line of another control: its parts are read, its values computed, and its words become plain
 -- lines, which are executed. Our own.
-use Rattle.std.specs.Prelude.{ℕ, ◌*◌, ◌==◌, ℤ, pos, ◌&&◌, ◌||◌, List, [], ◌∷◌, Bool, true, false, Option, Some}
-use Rattle.std.specs.Prelude.{None, Result, Ok}
+use Rattle.std.specs.Prelude.{ℕ, ◌*◌, ◌==◌, nat_le, ℤ, pos, ◌&&◌, ◌||◌, List, [], ◌∷◌, ◌++◌, length}
+use Rattle.std.specs.Prelude.{Bool, true, false, Option, Some, None, is_some, Result, Ok, Err}
 use Rattle.std.specs.Prelude.{if◌then◌else◌}
 use Rattle.std.specs.List.{list_any}
 use Rattle.std.specs.Ordering.{int_eq}
@@ -25,17 +25,27 @@ use Rattle.ngc_dialect_parameters.specs.Known.{Known as Values, known_from}
 use Rattle.ngc_dialect_parameters.specs.Evaluation.{Sums, line_values}
 use Rattle.ngc_dialect_parameters.specs.Stored.{Stored}
 use Rattle.ngc_dialect_parameters.specs.Storing.{none_stored, set_by_all}
+use Rattle.ngc_dialect_path.specs.declared.path.Path.{Path}
+use Rattle.ngc_dialect_path.specs.declared.step.PathStep.{PathStep}
+use Rattle.ngc_dialect_path.specs.Paths.{held_line}
+use Rattle.ngc_dialect_path.specs.Steps.{Written, path_end, path_step}
 use Rattle.ngc_dialect_drilling.specs.Holes.{cycle_of}
 use Rattle.ngc_dialect_drilling.specs.Moves.{move_lines, stop_lines}
 use Rattle.ngc_dialect_rules.specs.declared.code.Code.{Code}
+use Rattle.ngc_dialect_rules.specs.declared.code.Code.TheVariants.{G}
+use Rattle.ngc_dialect_rules.specs.declared.fault.Cause.TheVariants as rules
 use Rattle.ngc_dialect_rules.specs.declared.front.Front.{Front}
 use Rattle.ngc_dialect_rules.specs.declared.front.KeptSeries.{KeptSeries}
 use Rattle.ngc_dialect_rules.specs.declared.front.Known.{Known}
 use Rattle.ngc_dialect_rules.specs.declared.plan.LineCycle.{LineCycle}
+use Rattle.ngc_dialect_rules.specs.declared.plan.LineResult.{LineResult}
 use Rattle.ngc_dialect_rules.specs.declared.plain.Plain.{Plain}
 use Rattle.ngc_dialect_rules.specs.declared.plain.Plain.TheVariants as plain
+use Rattle.ngc_dialect_rules.specs.Faults.{about_code}
 use Rattle.ngc_dialect_rules.specs.Front.{start_front}
 use Rattle.ngc_dialect_rules.specs.Rules.{plain_lines}
+use Rattle.ngc_dialect_execution.specs.declared.beside.StepLines.{StepLines}
+use Rattle.ngc_dialect_execution.specs.declared.beside.WaitingLine.{WaitingLine}
 use Rattle.ngc_dialect_execution.specs.declared.fault.Cause.{Cause}
 use Rattle.ngc_dialect_execution.specs.declared.fault.Cause.TheVariants as causes
 use Rattle.ngc_dialect_execution.specs.declared.lines.Taken.{Taken}
@@ -48,12 +58,16 @@ pub record Between : Type 0 where
   pub dialect : Dialect
   pub front : Front
   pub state : State
+  pub path : Option Path
+  pub waiting : List WaitingLine
 
 abbrev pub start : Dialect → MachineFile → Between
 start d machine = record {
   dialect = d;
   front = start_front d machine.home28 machine.home30;
   state = start_state machine;
+  path = None;
+  waiting = [];
 }
 
 -- what is known between two lines of a program: also what it has set
@@ -118,21 +132,118 @@ abbrev pub cycle_if : Setup → ℕ → List Word → Option LineCycle → Betwe
 cycle_if setup line words None b = Ok b
 cycle_if setup line words (Some cycle) b = cycle_taken setup line words cycle b
 
--- words of a line: what their plain lines do, and then the moves of their canned cycle
-unfoldable pub words_taken : Setup → ℕ → List Word → Between → Result Between Cause
-words_taken setup line words b = do
+-- the line's plain lines, and then the moves of its canned cycle
+unfoldable pub made_taken :
+    Setup → ℕ → List Word → LineResult → List Plain → Between → Result Between Cause
+made_taken setup line words made ps b = do
+  s ← caused causes.Plain (executed setup (lines_at line ps) b.state)
+  cycle_if setup line words made.cycle (with_state b made.front s)
+
+-- ---- beside a path: the end of a move waits for the next move, and plain lines wait with it
+
+-- what waits, in order
+unfoldable pub waiting_taken : Setup → List WaitingLine → State → Result State Cause
+waiting_taken setup [] s = Ok s
+waiting_taken setup (w ∷ ws) s =
+    caused causes.Plain (executed setup (lines_at w.line w.plain.items) s)
+    >>= λ t. waiting_taken setup ws t
+
+-- the held move, and then what waits for it
+abbrev pub released : Setup → ℕ → List Plain → List WaitingLine → State → Result State Cause
+released setup held made waiting s =
+    caused causes.Plain (executed setup (lines_at held made) s)
+    >>= λ t. waiting_taken setup waiting t
+
+-- the line's own plain lines, unless they wait
+abbrev pub own_taken : Setup → Bool → ℕ → List Plain → State → Result State Cause
+own_taken setup true line own s = Ok s
+own_taken setup false line own s = caused causes.Plain (executed setup (lines_at line own) s)
+
+abbrev pub released_if :
+    Setup → Bool → ℕ → List Plain → List WaitingLine → State → Result State Cause
+released_if setup false held made waiting s = Ok s
+released_if setup true held made waiting s = released setup held made waiting s
+
+abbrev pub step_taken :
+    Setup → StepLines → PathStep → Written → List WaitingLine → State → Result State Cause
+step_taken setup at step w waiting s =
+    released_if setup step.releases at.held w.made waiting s
+    >>= λ t. own_taken setup step.waits at.own w.own t
+
+-- at most 1,000 lines wait
+abbrev pub with_waiting : ℕ → List Plain → List WaitingLine → Result (List WaitingLine) Cause
+with_waiting line [] ws = Ok ws
+with_waiting line (p ∷ ps) ws =
+    if nat_le 1000 (length ws) then Err (causes.Rule (about_code rules.TooManyKept (G 410)))
+    else Ok (ws ++ record { line = line; plain = record { items = p ∷ ps } } ∷ [])
+
+-- what waits after a line: its own plain lines, or its stop
+abbrev pub what_waits : PathStep → List Plain → List Plain
+what_waits step own = if step.waits then own else stop_lines step.stop
+
+abbrev pub still_waiting : Bool → List WaitingLine → List WaitingLine
+still_waiting true ws = []
+still_waiting false ws = ws
+
+abbrev pub put_off : ℕ → PathStep → List Plain → List WaitingLine → Result (List WaitingLine) Cause
+put_off line step own ws =
+    with_waiting line (what_waits step own) (still_waiting step.releases ws)
+
+abbrev pub with_step : Between → PathStep → State → List WaitingLine → Between
+with_step b step s ws = record b { front = step.front; state = s; path = step.path; waiting = ws }
+
+unfoldable pub step_carried : Setup → StepLines → PathStep → Written → Between → Result Between Cause
+step_carried setup at step w b = do
+  s ← step_taken setup at step w b.waiting b.state
+  ws ← put_off at.own step w.own b.waiting
+  Ok (with_step b step s ws)
+
+abbrev pub step_lines : Option Path → ℕ → StepLines
+step_lines path line = record { held = held_line path; own = line }
+
+-- a line where cutter compensation is on, begins or ends
+unfoldable pub path_taken : Setup → ℕ → List Word → Between → Result Between Cause
+path_taken setup line words b = do
+  x ← caused causes.Rule (path_step (known_of b) setup.tools line b.path words)
+  step_carried setup (step_lines b.path line) x.0 x.1 b
+
+-- ---- the words of a line
+
+abbrev pub made_or_path :
+    Setup → ℕ → List Word → LineResult × List Plain → Between → Result Between Cause
+made_or_path setup line words made b =
+    if is_some made.0.compensation then path_taken setup line words b
+    else made_taken setup line words made.0 made.1 b
+
+unfoldable pub plain_words_taken : Setup → ℕ → List Word → Between → Result Between Cause
+plain_words_taken setup line words b = do
   made ← caused causes.Rule (plain_lines (known_of b) words)
-  s ← caused causes.Plain (executed setup (lines_at line made.1) b.state)
-  cycle_if setup line words made.0.cycle (with_state b made.0.front s)
+  made_or_path setup line words made b
+
+unfoldable pub words_taken : Setup → ℕ → List Word → Between → Result Between Cause
+words_taken setup line words b =
+    if is_some b.path then path_taken setup line words b
+    else plain_words_taken setup line words b
 
 -- M2, by which a program ends after its last line
 abbrev pub END : List Plain
 END = plain.Word (record { letter = letters.M; value = pos 2000000 }) ∷ plain.End ∷ []
 
-abbrev pub ended_at : Setup → ℕ → Between → Result Between Cause
+-- a held move is made before the program ends
+abbrev pub ended_path : Setup → Bool × List Plain → Between → Result Between Cause
+ended_path setup e b =
+    released_if setup e.0 (held_line b.path) e.1 b.waiting b.state
+    >>= λ s. Ok (with_state b b.front s)
+
+unfoldable pub path_ended : Setup → Between → Result Between Cause
+path_ended setup b = do
+  e ← caused causes.Rule (path_end (known_of b) b.path)
+  ended_path setup e b
+
+unfoldable pub ended_at : Setup → ℕ → Between → Result Between Cause
 ended_at setup line b = do
-  s ← caused causes.Plain (executed setup (lines_at line END) b.state)
-  Ok (with_state b b.front s)
+  c ← path_ended setup b
+  plain_taken setup line END c
 
 -- ---- a line
 

@@ -14,7 +14,13 @@ abbrev pub said_in : LineValues → Said
 said_in v = record { statements = v.statements.items; arguments = v.arguments.items }
 
 abbrev pub between_of : {A : Type 0} → WordInterpreter A → Between
-between_of i = record { dialect = i.dialect; front = i.front; state = state_of i.interpreter }
+between_of i = record {
+  dialect = i.dialect;
+  front = i.front;
+  state = state_of i.interpreter;
+  path = i.path;
+  waiting = i.waiting.items;
+}
 
 abbrev pub progress_of : {A : Type 0} → Execution A → Progress
 progress_of e = record { values = stored_in e.parameters; between = between_of e.words }

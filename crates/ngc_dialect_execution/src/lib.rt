@@ -2,6 +2,7 @@
 //! language, and our own interpreter executes them.
 #![tactic(auto)]
 
+mod beside;
 mod doing;
 mod fault;
 mod flow;

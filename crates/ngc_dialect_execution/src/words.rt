@@ -6,9 +6,12 @@ ghost use Rattle.ngc_canonical.specs.Interpreter.{setup_of};
 ghost use Rattle.ngc_frames.specs.Changes.{frame_of};
 ghost use Rattle.ngc_dialect_execution.specs.Faults.{Says};
 ghost use Rattle.ngc_dialect_execution.specs.Mounting.{mounted};
+ghost use Rattle.ngc_dialect_path.specs.Steps.{written_in};
 ghost use Rattle.ngc_dialect_execution.specs.Taken as spec;
+ghost use Rattle.ngc_dialect_execution.specs.Taken.{END};
 ghost use Rattle.ngc_dialect_execution.specs.Views.{between_of};
 
+use crate::beside::{StepLines, WaitingLine, execute_step, put_off, release};
 use crate::fault::{Cause, Refusal};
 use crate::fold::execute_plain;
 use arrayvec::ArrayVec;
@@ -17,8 +20,11 @@ use ngc_canonical::{Command, Interpreter, Machine, Tools, Work};
 use ngc_dialect_cycles::CycleMoves;
 use ngc_dialect_drilling::{CycleStart, cycle_of, write_move, write_stop};
 use ngc_dialect_parameters::Word;
+use ngc_dialect_path::{Path, PathLines, PathStep, held_line, path_end, path_step};
 use ngc_dialect_reader::Dialect;
-use ngc_dialect_rules::{Code, Front, Known, LineCycle, Plain, PlainLines, plain_lines};
+use ngc_dialect_rules::{
+    Code, Front, Known, LineCycle, LineResult, Plain, PlainLines, plain_lines,
+};
 use ngc_fixed_length::Value;
 use ngc_frames::Frame;
 use ngc_line_reader::{Letter, Word as PlainWord};
@@ -33,6 +39,9 @@ pub struct WordInterpreter<A: Allocator> {
     pub(crate) interpreter: Interpreter<A>,
     plain: PlainLines,
     work: Work,
+    pub(crate) path: Option<Path>,
+    pub(crate) waiting: Vec<WaitingLine, A>,
+    path_lines: PathLines,
 }
 
 // Returns the word M2.
@@ -96,6 +105,12 @@ impl<A: Allocator + Copy> WordInterpreter<A> {
             interpreter,
             plain: ArrayVec::new(),
             work: Work::new(),
+            path: None,
+            waiting: Vec::new(alloc),
+            path_lines: PathLines {
+                made: ArrayVec::new(),
+                own: ArrayVec::new(),
+            },
         })
     }
 
@@ -243,25 +258,20 @@ impl<A: Allocator + Copy> WordInterpreter<A> {
         }
     }
 
-    /// Executes the words of a line with this number, as their plain lines and the moves of their
-    /// canned cycle. A fault is the first one of the rules or of a plain line; nothing is then stated
-    /// of what is known.
-    #[tactic(auto, unfolding(crate::specs::Taken::words_taken))]
-    pub fn take_words(
+    // Executes the line's plain lines, and then the moves of its cycle.
+    #[tactic(auto, unfolding(crate::specs::Taken::made_taken))]
+    fn take_made(
         &mut self,
         machine: &Machine<A>,
         tools: &Tools<A>,
         line: u32,
         words: &[Word],
+        made: &LineResult,
     ) -> Result<(), Refusal>
-        ensures { Says (λ _. between_of self.new) result (spec.words_taken
-            (setup_of machine.now tools.now) line words.now (between_of self.old)) }
+        ensures { Says (λ _. between_of self.new) result (spec.made_taken
+            (setup_of machine.now tools.now) line words.now made.now self.old.plain.items
+            (between_of self.old)) }
     {
-        let known = self.known();
-        let result = match plain_lines(&known, words, &mut self.plain) {
-            Ok(result) => result,
-            Err(fault) => return Err(Refusal::Because(Cause::Rule(fault))),
-        };
         match execute_plain(
             &mut self.interpreter,
             machine,
@@ -273,10 +283,119 @@ impl<A: Allocator + Copy> WordInterpreter<A> {
             Ok(()) => {}
             Err(refusal) => return Err(refusal),
         }
-        self.front = result.front;
-        match result.cycle {
+        self.front = made.front;
+        match made.cycle {
             None => Ok(()),
             Some(cycle) => self.take_cycle(machine, tools, line, words, &cycle),
+        }
+    }
+
+    // Executes the plain lines of a line beside a path, or puts them off.
+    #[tactic(auto, unfolding(crate::specs::Taken::step_carried))]
+    fn take_step(
+        &mut self,
+        machine: &Machine<A>,
+        tools: &Tools<A>,
+        numbers: StepLines,
+        step: &PathStep,
+    ) -> Result<(), Refusal>
+        ensures { Says (λ _. between_of self.new) result (spec.step_carried
+            (setup_of machine.now tools.now) numbers step.now (written_in self.old.path_lines)
+            (between_of self.old)) }
+    {
+        match execute_step(
+            &mut self.interpreter,
+            machine,
+            tools,
+            numbers,
+            step,
+            &self.path_lines,
+            self.waiting.as_slice(),
+            &mut self.work,
+        ) {
+            Ok(()) => {}
+            Err(refusal) => return Err(refusal),
+        }
+        match put_off(
+            &mut self.waiting,
+            numbers.own,
+            step,
+            &mut self.path_lines.own,
+        ) {
+            Ok(()) => {}
+            Err(refusal) => return Err(refusal),
+        }
+        self.front = step.front;
+        self.path = step.path;
+        Ok(())
+    }
+
+    // Executes the words of a line where cutter compensation is on, begins or ends.
+    #[tactic(auto, unfolding(crate::specs::Taken::path_taken))]
+    fn take_path(
+        &mut self,
+        machine: &Machine<A>,
+        tools: &Tools<A>,
+        line: u32,
+        words: &[Word],
+    ) -> Result<(), Refusal>
+        ensures { Says (λ _. between_of self.new) result (spec.path_taken
+            (setup_of machine.now tools.now) line words.now (between_of self.old)) }
+    {
+        let known = self.known();
+        let numbers = StepLines {
+            held: held_line(&self.path),
+            own: line,
+        };
+        match path_step(&known, tools, line, &self.path, words, &mut self.path_lines) {
+            Ok(step) => self.take_step(machine, tools, numbers, &step),
+            Err(fault) => Err(Refusal::Because(Cause::Rule(fault))),
+        }
+    }
+
+    // Executes the words of a line where cutter compensation is off.
+    #[tactic(auto, unfolding(crate::specs::Taken::plain_words_taken))]
+    fn take_plain_words(
+        &mut self,
+        machine: &Machine<A>,
+        tools: &Tools<A>,
+        line: u32,
+        words: &[Word],
+    ) -> Result<(), Refusal>
+        ensures { Says (λ _. between_of self.new) result (spec.plain_words_taken
+            (setup_of machine.now tools.now) line words.now (between_of self.old)) }
+    {
+        let known = self.known();
+        match plain_lines(&known, words, &mut self.plain) {
+            Ok(made) => {
+                if made.compensation.is_some() {
+                    self.take_path(machine, tools, line, words)
+                } else {
+                    self.take_made(machine, tools, line, words, &made)
+                }
+            }
+            Err(fault) => Err(Refusal::Because(Cause::Rule(fault))),
+        }
+    }
+
+    /// Executes the words of a line with this number, as their plain lines and the moves of their
+    /// canned cycle. While cutter compensation holds a move back, plain lines wait with it. A fault is
+    /// the first one of the rules or of a plain line; nothing is then stated of what is known.
+    #[tactic(auto, unfolding(crate::specs::Taken::words_taken))]
+    pub fn take_words(
+        &mut self,
+        machine: &Machine<A>,
+        tools: &Tools<A>,
+        line: u32,
+        words: &[Word],
+    ) -> Result<(), Refusal>
+        ensures { Says (λ _. between_of self.new) result (spec.words_taken
+            (setup_of machine.now tools.now) line words.now (between_of self.old)) }
+    {
+        if self.path.is_some() {
+            self.take_path(machine, tools, line, words)
+        } else {
+            self.take_plain_words(machine, tools, line, words)
         }
     }
 
@@ -302,8 +421,44 @@ impl<A: Allocator + Copy> WordInterpreter<A> {
         self.take_plain(machine, tools, 1)
     }
 
-    /// Ends the program after its last line, whose number is `line`, as by M2. A fault is that of too
-    /// many commands; nothing is then stated of what is known.
+    // Executes M2.
+    fn take_end(&mut self, machine: &Machine<A>, tools: &Tools<A>, line: u32) -> Result<(), Refusal>
+        ensures { Says (λ _. between_of self.new) result (spec.plain_taken
+            (setup_of machine.now tools.now) line END (between_of self.old)) }
+    {
+        self.plain.clear();
+        self.plain.push(Plain::Word(end_word()));
+        self.plain.push(Plain::End);
+        self.take_plain(machine, tools, line)
+    }
+
+    // Executes the held move, if there is one, and what waits for it.
+    #[tactic(auto, unfolding(crate::specs::Taken::path_ended))]
+    fn take_path_end(&mut self, machine: &Machine<A>, tools: &Tools<A>) -> Result<(), Refusal>
+        ensures { Says (λ _. between_of self.new) result (spec.path_ended
+            (setup_of machine.now tools.now) (between_of self.old)) }
+    {
+        let known = self.known();
+        let held = held_line(&self.path);
+        match path_end(&known, &self.path, &mut self.path_lines) {
+            Ok(false) => Ok(()),
+            Ok(true) => release(
+                &mut self.interpreter,
+                machine,
+                tools,
+                held,
+                &self.path_lines.made,
+                self.waiting.as_slice(),
+                &mut self.work,
+            ),
+            Err(fault) => Err(Refusal::Because(Cause::Rule(fault))),
+        }
+    }
+
+    /// Ends the program after its last line, whose number is `line`, as by M2. A move that cutter
+    /// compensation holds back is made first. A fault is that of a held move or of too many commands;
+    /// nothing is then stated of what is known.
+    #[tactic(auto, unfolding(crate::specs::Taken::ended_at))]
     pub fn end_at(
         &mut self,
         machine: &Machine<A>,
@@ -313,17 +468,10 @@ impl<A: Allocator + Copy> WordInterpreter<A> {
         ensures { Says (λ _. between_of self.new) result (spec.ended_at
             (setup_of machine.now tools.now) line (between_of self.old)) }
     {
-        self.plain.clear();
-        self.plain.push(Plain::Word(end_word()));
-        self.plain.push(Plain::End);
-        execute_plain(
-            &mut self.interpreter,
-            machine,
-            tools,
-            line,
-            &self.plain,
-            &mut self.work,
-        )
+        match self.take_path_end(machine, tools) {
+            Ok(()) => self.take_end(machine, tools, line),
+            Err(refusal) => Err(refusal),
+        }
     }
 
     /// Returns the commands that were executed so far.

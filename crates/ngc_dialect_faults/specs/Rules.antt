@@ -1,5 +1,7 @@
 -- Why the rules of a dialect refuse a line, in words. Our own.
 use Rattle.std.specs.Prelude.{ℕ, List, [], codes}
+use Rattle.ngc_compensation.specs.declared.refusal.Refusal.{Refusal as CompensationRefusal}
+use Rattle.ngc_compensation.specs.declared.refusal.Refusal.TheVariants as compensation
 use Rattle.ngc_dialect_arcs.specs.declared.refusal.ArcRefusal.{ArcRefusal}
 use Rattle.ngc_dialect_arcs.specs.declared.refusal.ArcRefusal.TheVariants as arcs
 use Rattle.ngc_dialect_rules.specs.declared.fault.Cause.{Cause as RuleCause}
@@ -44,6 +46,17 @@ arc_words arcs.RadiusOutOfRange = codes "a radius of 0 or over 2 metres"
 arc_words arcs.RadiiDiffer = codes "the radii differ by more than can be evened out"
 arc_words arcs.TooFar = codes "a length over 100 metres"
 
+-- cutter compensation is refused
+abbrev pub compensation_words : CompensationRefusal → List ℕ
+compensation_words compensation.EntryTooShort = codes "the entry move is not longer than the tool's radius"
+compensation_words compensation.NoEntryArc = codes "no arc enters in the direction of the programmed one"
+compensation_words compensation.ArcTooSmall = codes "the arc is not larger than the tool"
+compensation_words compensation.NoIntersection = codes "the tool's paths do not meet in an inside corner"
+compensation_words compensation.Backwards = codes "the tool does not fit: a move would run backwards"
+compensation_words compensation.TooFar = codes "a place over 4 metres, or a radius of 0 or over 0.1 metres"
+compensation_words compensation.PlaneYz = codes "no cutter compensation in G19"
+compensation_words compensation.AlreadyOn = codes "cutter compensation is on already"
+
 -- a line is refused
 abbrev pub rule_words : RuleCause → List ℕ
 rule_words rules.UnknownCode = codes "the dialect has no such code"
@@ -75,6 +88,12 @@ rule_words rules.NegativeDwell = codes "a dwell below 0"
 rule_words rules.SpindleOff = codes "the spindle does not turn"
 rule_words rules.CycleInInverseTime = codes "a canned cycle in G93"
 rule_words rules.CycleTooFar = codes "a height or a hole over 100 metres away"
+rule_words rules.WhileCompensating = codes "not while cutter compensation is on"
+rule_words rules.WhileLeaving = codes "not between G40 and the straight move after it"
+rule_words rules.CompensationInInverseTime = codes "cutter compensation in G93"
+rule_words rules.NoSuchTool = codes "the tool isn't in the tool table"
+rule_words rules.TooManyKept = codes "over 1,000 lines between two moves beside a path"
+rule_words (rules.Compensation refusal) = compensation_words refusal
 
 abbrev pub rule_end : RuleCause → List ℕ
 rule_end (rules.LeftOut left) = codes ": not supported"

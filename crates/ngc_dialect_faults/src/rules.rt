@@ -1,7 +1,9 @@
 //! Why the rules of a dialect refuse a line, in words.
 ghost use Rattle.std.specs.Prelude.{◌≡◌};
-ghost use Rattle.ngc_dialect_faults.specs.Rules.{arc_words, left_out_words, rule_end, rule_words};
+ghost use Rattle.ngc_dialect_faults.specs.Rules.{arc_words, compensation_words, left_out_words};
+ghost use Rattle.ngc_dialect_faults.specs.Rules.{rule_end, rule_words};
 
+use ngc_compensation::Refusal as CompensationRefusal;
 use ngc_dialect_arcs::ArcRefusal;
 use ngc_dialect_rules::{Cause as RuleCause, LeftOut};
 
@@ -50,6 +52,23 @@ fn arc_words(refusal: ArcRefusal) -> &'static [u8]
     }
 }
 
+fn compensation_words(refusal: CompensationRefusal) -> &'static [u8]
+    ensures { result.now ≡ compensation_words refusal }
+{
+    match refusal {
+        CompensationRefusal::EntryTooShort =>
+            b"the entry move is not longer than the tool's radius",
+        CompensationRefusal::NoEntryArc => b"no arc enters in the direction of the programmed one",
+        CompensationRefusal::ArcTooSmall => b"the arc is not larger than the tool",
+        CompensationRefusal::NoIntersection => b"the tool's paths do not meet in an inside corner",
+        CompensationRefusal::Backwards => b"the tool does not fit: a move would run backwards",
+        CompensationRefusal::TooFar =>
+            b"a place over 4 metres, or a radius of 0 or over 0.1 metres",
+        CompensationRefusal::PlaneYz => b"no cutter compensation in G19",
+        CompensationRefusal::AlreadyOn => b"cutter compensation is on already",
+    }
+}
+
 pub(crate) fn rule_words(cause: RuleCause) -> &'static [u8]
     ensures { result.now ≡ rule_words cause }
 {
@@ -83,6 +102,12 @@ pub(crate) fn rule_words(cause: RuleCause) -> &'static [u8]
         RuleCause::SpindleOff => b"the spindle does not turn",
         RuleCause::CycleInInverseTime => b"a canned cycle in G93",
         RuleCause::CycleTooFar => b"a height or a hole over 100 metres away",
+        RuleCause::WhileCompensating => b"not while cutter compensation is on",
+        RuleCause::WhileLeaving => b"not between G40 and the straight move after it",
+        RuleCause::CompensationInInverseTime => b"cutter compensation in G93",
+        RuleCause::NoSuchTool => b"the tool isn't in the tool table",
+        RuleCause::TooManyKept => b"over 1,000 lines between two moves beside a path",
+        RuleCause::Compensation(refusal) => compensation_words(refusal),
     }
 }
 

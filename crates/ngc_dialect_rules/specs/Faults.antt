@@ -1,5 +1,6 @@
 -- Faults and their numbers, and steps that may refuse a line. Our own.
 use Rattle.std.specs.Prelude.{ℕ, Option, Some, None, Result, Ok, Err, Bool, if◌then◌else◌}
+use Rattle.ngc_compensation.specs.Refusals.{refusal_number as compensation_number}
 use Rattle.ngc_dialect_arcs.specs.Refusals.{refusal_number}
 use Rattle.ngc_dialect_rules.specs.declared.code.Code.{Code}
 use Rattle.ngc_dialect_rules.specs.declared.fault.Cause.{Cause}
@@ -20,6 +21,10 @@ fault_number causes.PeckNotAboveZero = 233
 fault_number causes.NegativeDwell = 234
 fault_number causes.SpindleOff = 235
 fault_number causes.CycleInInverseTime = 236
+fault_number causes.WhileCompensating = 223
+fault_number causes.WhileLeaving = 223
+fault_number causes.NoSuchTool = 222
+fault_number (causes.Compensation refusal) = compensation_number refusal
 fault_number _ = 211
 
 -- a fault with the word that it is about

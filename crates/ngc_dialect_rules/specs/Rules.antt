@@ -262,18 +262,26 @@ front_after k line plan = record {
 
 -- what a line does, besides its plain lines
 abbrev pub result_of : Known → List Code → Plan → LineResult
-result_of k line plan = record { front = front_after k line plan; cycle = plan.cycle }
+result_of k line plan = record {
+  front = front_after k line plan;
+  cycle = plan.cycle;
+  compensation = code_in codes.COMPENSATION line;
+}
 
 abbrev pub letter_fault : Option ℕ → Option Fault
 letter_fault None = None
 letter_fault (Some letter) = Some (about_letter causes.LetterTwice letter)
 
--- of a line by its codes and words
-unfoldable pub lines_of : Known → List Code → List Word → Result (LineResult × List Plain) Fault
-lines_of k line words = do
+-- what a line by its codes and words becomes, before it is written
+unfoldable pub line_plan : Known → List Code → List Word → Result Plan Fault
+line_plan k line words = do
   once ← refuse_of (letter_fault (repeated words))
   taken ← refuse_of (refused_word k.dialect line words)
-  plan ← plan_of k line words
+  plan_of k line words
+
+unfoldable pub lines_of : Known → List Code → List Word → Result (LineResult × List Plain) Fault
+lines_of k line words = do
+  plan ← line_plan k line words
   Ok (result_of k line plan, written k line words plan)
 
 unfoldable pub plain_lines : Known → List Word → Result (LineResult × List Plain) Fault

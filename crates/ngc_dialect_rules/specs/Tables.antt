@@ -37,7 +37,7 @@ group_of code =
     if is_among codes.CENTRES code then codes.CENTRES else (
     if is_among codes.FEED_MODES code then codes.FEED_MODES else (
     if is_among codes.UNITS code then codes.UNITS else (
-    if is_among codes.COMPENSATION_END code then codes.COMPENSATION_END else (
+    if is_among codes.COMPENSATIONS code then codes.COMPENSATIONS else (
     if is_among codes.LENGTHS code then codes.LENGTHS else (
     if is_among codes.RETRACTS code then codes.RETRACTS else (
     if is_among codes.SYSTEMS code then codes.SYSTEMS else (
@@ -73,16 +73,17 @@ left_out_motion d code =
     if is_among codes.PROBING code then Some things.Probing else (
     if not (is_fanuc d) && is_among codes.SPLINES code then Some things.Splines else None))))
 
--- modes
-unfoldable pub left_out_mode : Code → Option LeftOut
-left_out_mode code =
+-- modes; how the others compensate isn't known well enough
+unfoldable pub left_out_mode : Dialect → Code → Option LeftOut
+left_out_mode d code =
     if is_among codes.ROTATION code then Some things.Rotation else (
     if is_among codes.POLAR code then Some things.Polar else (
     if is_among codes.MORE_SYSTEMS code then Some things.MoreSystems else (
     if is_among codes.FEED_PER_TURN code then Some things.FeedPerTurn else (
     if is_among codes.DIAMETERS code then Some things.Diameters else (
     if is_among codes.SECOND_OFFSET code then Some things.SecondOffset else (
-    if is_among codes.COMPENSATION code then Some things.Compensation else None))))))
+    if not (is_linuxcnc d) && is_among codes.COMPENSATION code then Some things.Compensation
+    else None))))))
 
 -- and M codes
 unfoldable pub left_out_switch : Code → Option LeftOut
@@ -99,7 +100,7 @@ or_else None other = other
 
 abbrev pub left_out : Dialect → Code → Option LeftOut
 left_out d code =
-    or_else (left_out_motion d code) (or_else (left_out_mode code) (left_out_switch code))
+    or_else (left_out_motion d code) (or_else (left_out_mode d code) (left_out_switch code))
 
 abbrev pub is_empty : List Code → Bool
 is_empty [] = true

@@ -67,6 +67,9 @@ pub const UNITS: [Code; 4] = [G(200), G(210), G(700), G(710)];
 /// Inches.
 pub const INCHES: [Code; 2] = [G(200), G(700)];
 
+/// Cutter compensation, and G40, which ends it.
+pub const COMPENSATIONS: [Code; 5] = [G(400), G(410), G(411), G(420), G(421)];
+
 /// The end of cutter compensation.
 pub const COMPENSATION_END: [Code; 1] = [G(400)];
 
@@ -215,7 +218,7 @@ pub const DIAMETERS: [Code; 1] = [G(70)];
 /// G43.2, a second tool offset.
 pub const SECOND_OFFSET: [Code; 1] = [G(432)];
 
-/// Cutter compensation.
+/// Cutter compensation: G41 and G42 by a tool of the table, G41.1 and G42.1 by a diameter.
 pub const COMPENSATION: [Code; 4] = [G(410), G(411), G(420), G(421)];
 
 /// M19, which turns the spindle to an angle.

@@ -3,6 +3,7 @@ ghost use Rattle.std.specs.Prelude.{◌≡◌};
 ghost use Rattle.ngc_dialect_rules.specs.Faults as spec;
 
 use crate::code::Code;
+use ngc_compensation::Refusal as CompensationRefusal;
 use ngc_dialect_arcs::ArcRefusal;
 use thiserror::Error;
 
@@ -113,6 +114,18 @@ pub enum Cause {
     CycleInInverseTime,
     #[error("a height or a hole over 100 metres away")]
     CycleTooFar,
+    #[error("not while cutter compensation is on")]
+    WhileCompensating,
+    #[error("not between G40 and the straight move after it")]
+    WhileLeaving,
+    #[error("cutter compensation in G93")]
+    CompensationInInverseTime,
+    #[error("the tool isn't in the tool table")]
+    NoSuchTool,
+    #[error("over 1,000 lines between two moves beside a path")]
+    TooManyKept,
+    #[error("{0}")]
+    Compensation(CompensationRefusal),
 }
 
 impl Cause {
@@ -135,6 +148,9 @@ impl Cause {
             Cause::NegativeDwell => 234,
             Cause::SpindleOff => 235,
             Cause::CycleInInverseTime => 236,
+            Cause::WhileCompensating | Cause::WhileLeaving => 223,
+            Cause::NoSuchTool => 222,
+            Cause::Compensation(refusal) => refusal.number(),
             _ => 211,
         }
     }

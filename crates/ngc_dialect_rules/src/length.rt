@@ -34,7 +34,7 @@ pub fn length_in(units: Units, letter: u8, value: Number) -> Result<Nm, Fault>
 
 /// Returns the length of a letter's word, if it is on the line.
 #[tactic(auto, unfolding(crate::specs::Lengths::word_length))]
-pub(crate) fn word_length(units: Units, letter: u8, words: &[Word]) -> Result<Option<Nm>, Fault>
+pub fn word_length(units: Units, letter: u8, words: &[Word]) -> Result<Option<Nm>, Fault>
     ensures { result ≡ spec.word_length units letter words.now }
 {
     match value_of(letter, words) {
@@ -130,7 +130,7 @@ fn is_exact_length(units: Units, length: Option<Nm>) -> bool
 
 /// Returns whether a unit can write the lengths.
 #[tactic(auto, unfolding(crate::specs::Lengths::is_exact))]
-pub(crate) fn is_exact(units: Units, axes: &AxisLengths) -> bool
+pub fn is_exact(units: Units, axes: &AxisLengths) -> bool
     ensures { result ≡ spec.is_exact units axes.now }
 {
     is_exact_length(units, axes.x)

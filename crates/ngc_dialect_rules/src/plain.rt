@@ -98,7 +98,7 @@ fn is_open(lines: &[Plain]) -> bool
 
 /// Ends the last line, if it has words.
 #[tactic(auto, unfolding(crate::specs::Plain::ended))]
-pub(crate) fn end_line(lines: &mut PlainLines)
+pub fn end_line(lines: &mut PlainLines)
     requires { array_vec_len lines.old < 64 }
     ensures items { lines.new.items ≡ spec.ended lines.old.items }
     ensures room { array_vec_len lines.new ≤ array_vec_len lines.old + 1 }

@@ -6,26 +6,26 @@ use ngc_offsets::AxisLengths;
 
 /// A line's F, S, T, H and dwell.
 #[derive(Clone, Copy)]
-pub(crate) struct Amounts {
+pub struct Amounts {
     /// F as it is written.
-    pub(crate) feed: Option<Value>,
-    pub(crate) speed: Option<Value>,
-    pub(crate) tool: Option<Value>,
+    pub feed: Option<Value>,
+    pub speed: Option<Value>,
+    pub tool: Option<Value>,
     /// The tool whose length offset G43 takes.
-    pub(crate) offset: Option<Value>,
+    pub offset: Option<Value>,
     /// In seconds.
-    pub(crate) dwell: Option<Value>,
+    pub dwell: Option<Value>,
 }
 
 /// What is in force after a line's modes.
 #[derive(Clone, Copy)]
-pub(crate) struct InForce {
-    pub(crate) units: Units,
-    pub(crate) distance: Distance,
-    pub(crate) feed_mode: FeedMode,
-    pub(crate) feed: Option<Value>,
+pub struct InForce {
+    pub units: Units,
+    pub distance: Distance,
+    pub feed_mode: FeedMode,
+    pub feed: Option<Value>,
     /// The tool length offset of G43.1.
-    pub(crate) length: Nm,
+    pub length: Nm,
 }
 
 /// A motion or a change of origins: what its plain line has.
@@ -51,23 +51,25 @@ pub struct LineCycle {
     pub stop: Option<Code>,
 }
 
-/// What a line does, besides its plain lines: what the dialect knows then, and the canned cycle whose
-/// moves follow the plain lines.
+/// What a line does, besides its plain lines: what the dialect knows then, the canned cycle whose
+/// moves follow the plain lines, and the code by which cutter compensation begins. With such a code
+/// the plain lines are those without compensation.
 #[derive(Clone, Copy)]
 pub struct LineResult {
     pub front: Front,
     pub cycle: Option<LineCycle>,
+    pub compensation: Option<Code>,
 }
 
 /// What a line becomes.
 #[derive(Clone, Copy)]
-pub(crate) struct Plan {
-    pub(crate) amounts: Amounts,
-    pub(crate) force: InForce,
+pub struct Plan {
+    pub amounts: Amounts,
+    pub force: InForce,
     /// The motions and changes of origins, in order.
-    pub(crate) first: Option<Action>,
-    pub(crate) second: Option<Action>,
+    pub first: Option<Action>,
+    pub second: Option<Action>,
     /// A motion code without a motion.
-    pub(crate) code: Option<Code>,
-    pub(crate) cycle: Option<LineCycle>,
+    pub code: Option<Code>,
+    pub cycle: Option<LineCycle>,
 }

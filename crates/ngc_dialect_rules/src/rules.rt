@@ -64,8 +64,9 @@ fn add_feed_words(lines: &mut PlainLines, line: &[Code], plan: &Plan)
     add(lines, a_word(Letter::F, f));
 }
 
+/// Adds the words of the feed, in a line of their own if they count in other units than the line.
 #[tactic(auto, unfolding(crate::specs::Rules::with_feed))]
-fn add_feed(lines: &mut PlainLines, known: &Known, line: &[Code], plan: &Plan)
+pub fn add_feed(lines: &mut PlainLines, known: &Known, line: &[Code], plan: &Plan)
     requires { array_vec_len lines.old ≤ 32 }
     ensures items { lines.new.items ≡ spec.with_feed known.now line.now plan.now lines.old.items }
     ensures room { array_vec_len lines.new ≤ array_vec_len lines.old + 3 }
@@ -408,8 +409,9 @@ fn add_last_words(lines: &mut PlainLines, line: &[Code], plan: &Plan)
     add(lines, a_code(last_stop(line, plan.cycle)));
 }
 
+/// Adds the words of a line that neither feed nor move: tool, spindle, coolant, dwell and modes.
 #[tactic(auto, unfolding(crate::specs::Rules::modes_written))]
-fn write_modes(lines: &mut PlainLines, line: &[Code], words: &[Word], amounts: &Amounts)
+pub fn write_modes(lines: &mut PlainLines, line: &[Code], words: &[Word], amounts: &Amounts)
     requires { array_vec_len lines.old ≤ 3 }
     ensures items { lines.new.items
         ≡ spec.modes_written line.now words.now amounts.now lines.old.items }
@@ -508,8 +510,9 @@ fn stored(home: Code, before: Point3, place: Point3, code: Option<Code>) -> Poin
     }
 }
 
+/// Returns what the dialect knows after a line.
 #[tactic(auto, unfolding(crate::specs::Rules::front_after))]
-fn front_after(known: &Known, line: &[Code], plan: &Plan) -> Front
+pub fn front_after(known: &Known, line: &[Code], plan: &Plan) -> Front
     ensures { result ≡ spec.front_after known.now line.now plan.now }
 {
     let front = &known.front;
@@ -544,7 +547,22 @@ fn carry_out(
     LineResult {
         front: front_after(known, line, plan),
         cycle: plan.cycle,
+        compensation: code_in(&codes::COMPENSATION, line),
     }
+}
+
+/// Returns what a line of these codes and words becomes, before it is written, or the first refusal.
+#[tactic(auto, unfolding(crate::specs::Rules::line_plan))]
+pub fn line_plan(known: &Known, line: &[Code], words: &[Word]) -> Result<Plan, Fault>
+    ensures { result ≡ spec.line_plan known.now line.now words.now }
+{
+    if let Some(letter) = repeated(words) {
+        return Err(about_letter(Cause::LetterTwice, letter));
+    }
+    if let Some(fault) = refused_word(known.dialect, line, words) {
+        return Err(fault);
+    }
+    plan_of(known, line, words)
 }
 
 #[tactic(auto, unfolding(crate::specs::Rules::lines_of))]
@@ -557,13 +575,7 @@ fn lines_of(
     ensures { Gives (λ r. (r, lines.new.items)) result
         (spec.lines_of known.now line.now words.now) }
 {
-    if let Some(letter) = repeated(words) {
-        return Err(about_letter(Cause::LetterTwice, letter));
-    }
-    if let Some(fault) = refused_word(known.dialect, line, words) {
-        return Err(fault);
-    }
-    match plan_of(known, line, words) {
+    match line_plan(known, line, words) {
         Ok(plan) => Ok(carry_out(lines, known, line, words, &plan)),
         Err(fault) => Err(fault),
     }

@@ -11,7 +11,7 @@ use ngc_dialect_reader::Dialect;
 
 /// Returns whether a code is in a table.
 #[tactic(auto, unfolding(crate::specs::Tables::is_among))]
-pub(crate) fn is_among(table: &[Code], code: Code) -> bool
+pub fn is_among(table: &[Code], code: Code) -> bool
     ensures { result ≡ spec.is_among table.now code }
 {
     table.iter().any(|c| c.is(code))
@@ -19,14 +19,14 @@ pub(crate) fn is_among(table: &[Code], code: Code) -> bool
 
 /// Returns the first code of a line that is in a table.
 #[tactic(auto, unfolding(crate::specs::Tables::code_in))]
-pub(crate) fn code_in(table: &[Code], line: &[Code]) -> Option<Code>
+pub fn code_in(table: &[Code], line: &[Code]) -> Option<Code>
     ensures { result ≡ spec.code_in table.now line.now }
 {
     line.iter().copied().find(|c| is_among(table, *c))
 }
 
 /// Returns whether a line has a code of a table.
-pub(crate) fn has(table: &[Code], line: &[Code]) -> bool
+pub fn has(table: &[Code], line: &[Code]) -> bool
     ensures { result ≡ spec.has table.now line.now }
 {
     code_in(table, line).is_some()
@@ -52,8 +52,8 @@ fn group_of(code: Code) -> &'static [Code]
         &codes::FEED_MODES
     } else if is_among(&codes::UNITS, code) {
         &codes::UNITS
-    } else if is_among(&codes::COMPENSATION_END, code) {
-        &codes::COMPENSATION_END
+    } else if is_among(&codes::COMPENSATIONS, code) {
+        &codes::COMPENSATIONS
     } else if is_among(&codes::LENGTHS, code) {
         &codes::LENGTHS
     } else if is_among(&codes::RETRACTS, code) {
@@ -133,8 +133,8 @@ fn left_out_motion(dialect: Dialect, code: Code) -> Option<LeftOut>
 
 // Returns the mode that our own language doesn't have.
 #[tactic(auto, unfolding(crate::specs::Tables::left_out_mode))]
-fn left_out_mode(code: Code) -> Option<LeftOut>
-    ensures { result ≡ spec.left_out_mode code }
+fn left_out_mode(dialect: Dialect, code: Code) -> Option<LeftOut>
+    ensures { result ≡ spec.left_out_mode dialect code }
 {
     if is_among(&codes::ROTATION, code) {
         Some(LeftOut::Rotation)
@@ -148,7 +148,7 @@ fn left_out_mode(code: Code) -> Option<LeftOut>
         Some(LeftOut::Diameters)
     } else if is_among(&codes::SECOND_OFFSET, code) {
         Some(LeftOut::SecondOffset)
-    } else if is_among(&codes::COMPENSATION, code) {
+    } else if !is_linuxcnc(dialect) && is_among(&codes::COMPENSATION, code) {
         Some(LeftOut::Compensation)
     } else {
         None
@@ -180,7 +180,7 @@ fn left_out(dialect: Dialect, code: Code) -> Option<LeftOut>
 {
     match left_out_motion(dialect, code) {
         Some(what) => Some(what),
-        None => match left_out_mode(code) {
+        None => match left_out_mode(dialect, code) {
             Some(what) => Some(what),
             None => left_out_switch(code),
         },

@@ -79,7 +79,7 @@ fn add_code(dialect: Dialect, word: &Word, line: &mut ArrayVec<Code, 24>) -> Res
 }
 
 /// Adds the codes of a line's words. Returns the first refusal from the left.
-pub(crate) fn add_codes(
+pub fn add_codes(
     dialect: Dialect,
     words: &[Word],
     line: &mut ArrayVec<Code, 24>,

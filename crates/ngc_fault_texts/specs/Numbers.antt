@@ -33,7 +33,7 @@ arc_numbers = 241 ∷ 241 ∷ 242 ∷ 243 ∷ 244 ∷ 245 ∷ 246 ∷ 246 ∷ 25
 
 -- programs for other controls
 abbrev pub dialect_numbers : List ℕ
-dialect_numbers = 123 ∷ 134 ∷ 135 ∷ 136 ∷ 137 ∷ 138 ∷ 139 ∷ 205 ∷ 211 ∷ 248 ∷ []
+dialect_numbers = 123 ∷ 134 ∷ 135 ∷ 136 ∷ 137 ∷ 138 ∷ 139 ∷ 205 ∷ 211 ∷ 223 ∷ 247 ∷ 248 ∷ []
 
 -- machine file and tool table
 abbrev pub setup_numbers : List ℕ

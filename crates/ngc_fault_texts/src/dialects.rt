@@ -92,6 +92,28 @@ pub(crate) fn dialects() -> &'static [Row]
             mend: "Mach3 and Fanuc leave out words that nothing uses.",
         },
         Row {
+            number: 223,
+            rule: "Cutter compensation doesn't allow this word: end it first, with `G40` and a straight move after it.\n\
+             While it is on, moves home or in machine coordinates, cycles, and changes of plane, unit,\n\
+             origin, length, feed mode or tool aren't allowed, nor compensation again (our own).",
+            example: "command with `--dialect linuxcnc`: `F60`, `G41.1 D2 G1 X9`, `G53 G0 Z0`",
+            answer: "`ngc: fault 223 line 3: not while cutter compensation is on, at G53`",
+            place: None,
+            mend: "The move after `G40` leads the tool back to the programmed path, on all axes: leave the part\n\
+             with it.",
+        },
+        Row {
+            number: 247,
+            rule: "The tool doesn't fit beside this path: use a smaller one, or another entry.\n\
+             The entry move is longer than the tool's radius, arcs that the tool follows on the inside are\n\
+             larger than it, and its path has room in each corner (our own, as LinuxCNC).",
+            example: "command with `--dialect linuxcnc`: `F60`, `G41.1 D4 G1 X1`",
+            answer: "`ngc: fault 247 line 2: the entry move is not longer than the tool's radius, at G1`",
+            place: None,
+            mend: "The radius is that of the lowest part of the tool in the tool table, or half of D with `G41.1`\n\
+             and `G42.1`.",
+        },
+        Row {
             number: 248,
             rule: "The start and the end of this arc aren't equally far from its centre: correct its end or its\n\
              centre. The radii may differ as the control allows, and by what a centre within 0.025 mm evens\n\

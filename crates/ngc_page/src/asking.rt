@@ -52,6 +52,7 @@ pub fn draw_options(view: u32, delete: bool) -> Options<'static>
         bodies: false,
         whole: false,
         changes: Changes::none(),
+        dialect: None,
     })
 }
 

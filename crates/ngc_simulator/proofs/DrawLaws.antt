@@ -20,6 +20,7 @@ use Rattle.ngc_frames.specs.declared.change.FrameChange.{FrameChange}
 use Rattle.ngc_frames.specs.declared.frame.Frame.{Frame}
 use Rattle.ngc_certificate_text.specs.Certificate.{CertificateData, Entry, entries_at}
 use Rattle.ngc_certificate_text.specs.ParsedPart.{parsed_certificate}
+use Rattle.ngc_certificate_text.specs.declared.piece.Setting.{Setting}
 use Rattle.ngc_certificate_text.specs.declared.piece.Setting.TheVariants.{Off}
 use Rattle.ngc_certificate.specs.Made.{from_start, join_settings}
 use Rattle.ngc_certificate.specs.PieceFault.{place_fault}
@@ -36,9 +37,10 @@ use Rattle.ngc_drawing.specs.declared.look.Look.{Look}
 use Rattle.ngc_drawing.specs.declared.origin.WorkOrigin.{WorkOrigin}
 use Rattle.ngc_drawing.specs.declared.refusal.RefusedMotion.{RefusedMotion}
 use Rattle.ngc_drawing.specs.declared.view.View.{View}
-use Rattle.ngc_simulator.specs.Answers.{DrawsFrom, certificate_input, certificate_inputs, draw_inputs, program_input}
-use Rattle.ngc_simulator.specs.Drawing.{Draws, DrawsNamed, DrawsProgram, IsFirstRefused, IsNamedRefusal, IsPicture, fault_at, origin_shown, refusal_answer, work_origin}
-use Rattle.ngc_simulator.specs.Drawing.{look_of, setting_of}
+use Rattle.ngc_simulator.specs.Answers.{DrawsFrom, certificate_input, certificate_inputs, own_draw_inputs, program_input}
+use Rattle.ngc_program_report.specs.Coordinates.{History, history_of}
+use Rattle.ngc_simulator.specs.Drawing.{Draws, DrawsCertified, DrawsNamed, DrawsProgram, IsFirstRefused, IsNamedRefusal, IsPicture, IsPictureOf}
+use Rattle.ngc_simulator.specs.Drawing.{WritesPicture, fault_at, look_of, origin_shown, refusal_answer, setting_of}
 use Rattle.ngc_inputs.specs.Faults.{of_picture}
 use Rattle.ngc_simulator.specs.Lists.{IsMeaning, IsRefused}
 use Rattle.ngc_inputs.specs.Setups.{FileBytes, KeepsFiles, KeepsNamed}
@@ -76,82 +78,135 @@ refused_program setup bytes block_delete text fault is_text have fails = record 
   fails = fails have.readings have.are;
 }
 
--- this work origin is the one in force, by all readings of the lines
-abbrev pub IsInForce : Setup → ProgramText → Bool → List Command → Option RefusedMotion → WorkOrigin → Type 0
-IsInForce setup text block_delete commands refusal w = (rs : List Reading) → AreReadings text.lines rs →
-    w ≡ work_origin setup (with_readings text.lines rs) block_delete commands refusal
+-- ---- the picture of commands
 
--- the frames that were collected show it
-pub in_force : (setup : Setup) (text : ProgramText) (block_delete : Bool) (start : Frame) (changes : List FrameChange) (commands : List Command)
-    (refusal : Option RefusedMotion) (w : WorkOrigin) → start ≡ start_frame setup
-    → ((rs : List Reading) → AreReadings text.lines rs → changes ≡ frame_changes setup (with_readings text.lines rs) block_delete)
-    → w ≡ origin_shown start changes commands refusal → IsInForce setup text block_delete commands refusal w
-in_force setup text block_delete start changes commands refusal w is_start are is = λ rs readings.
-    is
-    ∙ ap (λ (f : Frame). origin_shown f changes commands refusal) is_start
-    ∙ ap (λ (cs : List FrameChange). origin_shown (start_frame setup) cs commands refusal) (are rs readings)
+-- of commands that were handed on as a slice
+picture : (machine : MachineFile) (look : Look) (entries : List Entry) (IsShown : List Command → Option RefusedMotion → Type 0) (frames : History)
+    (commands given : List Command) (found : List Entry) (refusal : Option RefusedMotion) (w : WorkOrigin)
+    → given ≡ commands → found ≡ entries → IsShown given refusal → w ≡ origin_shown frames.start frames.changes given refusal
+    → IsPictureOf machine look entries IsShown frames commands (picture_text look machine given found refusal w)
+picture machine look entries IsShown frames commands given found refusal w same same_found shows is = record {
+  refusal = refusal;
+  shows = subst (λ cs. IsShown cs refusal) same shows;
+  draws =
+      ap (λ cs. picture_text look machine cs found refusal w) same
+      ∙ ap (λ es. picture_text look machine commands es refusal w) same_found
+      ∙ ap (λ (o : WorkOrigin). picture_text look machine commands entries refusal o)
+      (is ∙ ap (λ cs. origin_shown frames.start frames.changes cs refusal) same);
+}
 
-picture : (setup : Setup) (bytes : List ℕ) (block_delete : Bool) (look : Look) (entries : List Entry) (IsShown : List Command → Option RefusedMotion → Type 0)
-    (text : ProgramText) (commands given : List Command) (found : List Entry) (refusal : Option RefusedMotion) (w : WorkOrigin)
-    → given ≡ commands → found ≡ entries → program_of bytes ≡ Ok text → HaveReadings text.lines →
-    Means text setup block_delete (Ok commands) → IsShown given refusal
-    → IsInForce setup text block_delete given refusal w
-    → IsPicture setup bytes block_delete look entries IsShown (picture_text look setup.machine given found refusal w)
+pub drawn : (machine : MachineFile) (look : Look) (entries : List Entry) (IsShown : List Command → Option RefusedMotion → Type 0) (frames : History)
+    (old new : Option (List ℕ)) (commands given : List Command) (found : List Entry) (refusal : Option RefusedMotion) (w : WorkOrigin)
+    → given ≡ commands → found ≡ entries → IsShown given refusal → w ≡ origin_shown frames.start frames.changes given refusal
+    → Appends old new (picture_text look machine given found refusal w)
+    → WritesPicture (IsPictureOf machine look entries IsShown frames commands) old new (Ok tt)
+drawn machine look entries IsShown frames old new commands given found refusal w same same_found shows is wrote =
+    (picture_text look machine given found refusal w, picture machine look entries IsShown frames commands given found refusal w same same_found shows is, wrote)
+
+-- a prefix of it, or nothing where memory ran out
+pub drawing_stopped : (machine : MachineFile) (look : Look) (entries : List Entry) (IsShown : List Command → Option RefusedMotion → Type 0) (frames : History)
+    (old new : Option (List ℕ)) (commands given : List Command) (found : List Entry) (refusal : Option RefusedMotion) (w : WorkOrigin) (fault : DrawFault)
+    → given ≡ commands → found ≡ entries → IsShown given refusal → w ≡ origin_shown frames.start frames.changes given refusal
+    → AppendsPrefix old new (picture_text look machine given found refusal w) → (fault ≡ Memory → Keeps old new)
+    → WritesPicture (IsPictureOf machine look entries IsShown frames commands) old new (Err (of_picture fault))
+drawing_stopped machine look entries IsShown frames old new commands given found refusal w Memory same same_found shows is wrote keeps = keeps refl
+drawing_stopped machine look entries IsShown frames old new commands given found refusal w Write same same_found shows is wrote keeps =
+    (picture_text look machine given found refusal w, picture machine look entries IsShown frames commands given found refusal w same same_found shows is, wrote)
+
+pub no_memory : (IsDrawn : List ℕ → Type 0) (known : Option (List ℕ)) (fault : DrawFault) → fault ≡ Memory
+    → WritesPicture IsDrawn known known (Err (of_picture fault))
+no_memory IsDrawn known Memory is = keeps_same known
+no_memory IsDrawn known Write is = cc
+
+-- a fault of a certificate that isn't drawn
+pub certificate_refused : (machine : MachineFile) (block_delete : Bool) (look : Look) (c : CertificateData) (frames : History) (commands given : List Command)
+    (known : Option (List ℕ)) (fault : CheckFault) → given ≡ commands → Err fault ≡ refusal_answer (fault_at machine (setting_of block_delete) given c)
+    → DrawsCertified machine block_delete look c frames commands known known (Err (answers.Check fault))
+certificate_refused machine block_delete look c frames commands given known fault same is =
+    (sym (is ∙ ap (λ cs. refusal_answer (fault_at machine (setting_of block_delete) cs c)) same), keeps_same known)
+
+-- the motions of a certificate at a setting
+pub same_entries : (c : CertificateData) (s t : Setting) (entries : List Entry) → entries ≡ entries_at s c → s ≡ t → entries ≡ entries_at t c
+same_entries c s t entries are same = are ∙ ap (λ x. entries_at x c) same
+
+-- the refusal that is drawn
+pub named_refusal : (machine : MachineFile) (s : Setting) (c : CertificateData) (commands : List Command) (refusal : Option RefusedMotion)
+    → Ok refusal ≡ refusal_answer (fault_at machine s commands c) → IsNamedRefusal machine s c commands refusal
+named_refusal machine s c commands refusal is = sym is
+
+-- a picture by a certificate that isn't written
+pub certified_stopped : (machine : MachineFile) (block_delete : Bool) (look : Look) (c : CertificateData) (frames : History) (commands : List Command)
+    (old new : Option (List ℕ)) (fault : DrawFault)
+    → WritesPicture (IsPictureOf machine look (entries_at (setting_of block_delete) c) (IsNamedRefusal machine (setting_of block_delete) c) frames commands) old
+    new (Err (of_picture fault))
+    → DrawsCertified machine block_delete look c frames commands old new (Err (of_picture fault))
+certified_stopped machine block_delete look c frames commands old new Memory draws = draws
+certified_stopped machine block_delete look c frames commands old new Write draws = draws
+
+-- ---- the picture of a file
+
+-- the frames of a program in our own language, by all readings of its lines
+abbrev pub AreFrames : Setup → ProgramText → Bool → Frame → List FrameChange → Type 0
+AreFrames setup text block_delete start changes =
+    (start ≡ start_frame setup)
+    × ((rs : List Reading) → AreReadings text.lines rs → changes ≡ frame_changes setup (with_readings text.lines rs) block_delete)
+
+file_picture : (setup : Setup) (bytes : List ℕ) (block_delete : Bool) (look : Look) (entries : List Entry)
+    (IsShown : List Command → Option RefusedMotion → Type 0) (text : ProgramText) (commands : List Command) (start : Frame) (changes : List FrameChange)
+    (drawing : List ℕ)
+    → program_of bytes ≡ Ok text → HaveReadings text.lines → Means text setup block_delete (Ok commands) → AreFrames setup text block_delete start changes
+    → IsPictureOf setup.machine look entries IsShown (history_of start changes) commands drawing
+    → IsPicture setup bytes block_delete look entries IsShown drawing
 unfolding is_meaning
-picture setup bytes block_delete look entries IsShown text commands given found refusal w same same_found is_text have means shows
-    force = record {
-      commands = commands;
-      meaning = is_meaning setup bytes block_delete text (Ok commands) is_text have means;
-      refusal = refusal;
-      shows = subst (λ cs. IsShown cs refusal) same shows;
-      draws =
-          ap (λ cs. picture_text look setup.machine cs found refusal w) same
-          ∙ ap (λ es. picture_text look setup.machine commands es refusal w) same_found
-          ∙ ap (λ (o : WorkOrigin). picture_text look setup.machine commands entries refusal o)
-          (force have.readings have.are
-          ∙ ap (λ cs. work_origin setup (with_readings text.lines have.readings) block_delete cs refusal) same);
-    }
+file_picture setup bytes block_delete look entries IsShown text commands start changes drawing is_text have means are p = record {
+  commands = commands;
+  meaning = is_meaning setup bytes block_delete text (Ok commands) is_text have means;
+  refusal = p.refusal;
+  shows = p.shows;
+  draws =
+      p.draws
+      ∙ ap (λ (o : WorkOrigin). picture_text look setup.machine commands entries p.refusal o)
+      (ap (λ (f : Frame). origin_shown f changes commands p.refusal) are.0
+      ∙ ap (λ (cs : List FrameChange). origin_shown (start_frame setup) cs commands p.refusal) (are.1 have.readings have.are));
+}
 
--- the picture of commands that were handed on as a slice
-pub drawn : (setup : Setup) (bytes : List ℕ) (block_delete : Bool) (look : Look) (entries : List Entry) (IsShown : List Command → Option RefusedMotion → Type 0)
-    (old new : Option (List ℕ))
-    (text : ProgramText) (commands given : List Command) (found : List Entry) (refusal : Option RefusedMotion) (w : WorkOrigin)
-    → given ≡ commands → found ≡ entries → program_of bytes ≡ Ok text → HaveReadings text.lines →
-    Means text setup block_delete (Ok commands) → IsShown given refusal
-    → IsInForce setup text block_delete given refusal w
-    → Appends old new (picture_text look setup.machine given found refusal w) → Draws setup bytes block_delete look entries IsShown old new (Ok tt)
-drawn setup bytes block_delete look entries IsShown old new text commands given found refusal w same same_found is_text have means
-    shows force wrote = (
-      picture_text look setup.machine given found refusal w,
-      picture setup bytes block_delete look entries IsShown text commands given found refusal w same same_found is_text have means
-          shows force,
-      wrote,
-    )
+-- the picture of the commands of a program's file
+pub drawn_file : (setup : Setup) (bytes : List ℕ) (block_delete : Bool) (look : Look) (entries : List Entry)
+    (IsShown : List Command → Option RefusedMotion → Type 0) (text : ProgramText) (commands : List Command) (start : Frame) (changes : List FrameChange)
+    (old new : Option (List ℕ)) (outcome : Result (Unit {0}) AnswerFault)
+    → program_of bytes ≡ Ok text → HaveReadings text.lines → Means text setup block_delete (Ok commands) → AreFrames setup text block_delete start changes
+    → WritesPicture (IsPictureOf setup.machine look entries IsShown (history_of start changes) commands) old new outcome
+    → Draws setup bytes block_delete look entries IsShown old new outcome
+drawn_file setup bytes block_delete look entries IsShown text commands start changes old new (Ok u) is_text have means are writes =
+    (writes.0, file_picture setup bytes block_delete look entries IsShown text commands start changes writes.0 is_text have means are writes.1, writes.2)
+drawn_file setup bytes block_delete look entries IsShown text commands start changes old new (Err (answers.Write fault)) is_text have means are writes =
+    (writes.0, file_picture setup bytes block_delete look entries IsShown text commands start changes writes.0 is_text have means are writes.1, writes.2)
+drawn_file setup bytes block_delete look entries IsShown text commands start changes old new (Err answers.Memory) is_text have means are writes = writes
+drawn_file setup bytes block_delete look entries IsShown text commands start changes old new (Err _) is_text have means are writes = absurd writes
 
--- and a prefix of it, or nothing where memory ran out
-pub drawing_stopped : (setup : Setup) (bytes : List ℕ) (block_delete : Bool) (look : Look) (entries : List Entry)
-    (IsShown : List Command → Option RefusedMotion → Type 0) (old new : Option (List ℕ))
-    (text : ProgramText) (commands given : List Command) (found : List Entry) (refusal : Option RefusedMotion) (w : WorkOrigin) (fault : DrawFault)
-    → given ≡ commands → found ≡ entries → program_of bytes ≡ Ok text → HaveReadings text.lines →
-    Means text setup block_delete (Ok commands) → IsShown given refusal
-    → IsInForce setup text block_delete given refusal w
-    → AppendsPrefix old new (picture_text look setup.machine given found refusal w) → (fault ≡ Memory → Keeps old new)
-    → Draws setup bytes block_delete look entries IsShown old new (Err (of_picture fault))
-drawing_stopped setup bytes block_delete look entries IsShown old new text commands given found refusal w Memory same same_found
-    is_text have means shows force wrote keeps = keeps refl
-drawing_stopped setup bytes block_delete look entries IsShown old new text commands given found refusal w Write same same_found
-    is_text have means shows force wrote keeps = (
-      picture_text look setup.machine given found refusal w,
-      picture setup bytes block_delete look entries IsShown text commands given found refusal w same same_found is_text have means
-          shows force,
-      wrote,
-    )
-
-pub no_memory : (setup : Setup) (bytes : List ℕ) (block_delete : Bool) (look : Look) (entries : List Entry) (IsShown : List Command → Option RefusedMotion → Type 0)
-    (known : Option (List ℕ)) (fault : DrawFault)
-    → fault ≡ Memory → Draws setup bytes block_delete look entries IsShown known known (Err (of_picture fault))
-no_memory setup bytes block_delete look entries IsShown known Memory is = keeps_same known
-no_memory setup bytes block_delete look entries IsShown known Write is = cc
+-- the same with a certificate
+pub drawn_named : (setup : Setup) (bytes given_text : List ℕ) (block_delete : Bool) (look : Look) (text : ProgramText) (c : CertificateData)
+    (commands : List Command) (start : Frame) (changes : List FrameChange) (old new : Option (List ℕ)) (outcome : Result (Unit {0}) AnswerFault)
+    → program_of bytes ≡ Ok text → HaveReadings text.lines → Means text setup block_delete (Ok commands) → AreFrames setup text block_delete start changes
+    → parsed_certificate given_text ≡ Ok c → DrawsCertified setup.machine block_delete look c (history_of start changes) commands old new outcome
+    → DrawsNamed setup bytes given_text block_delete look old new outcome
+drawn_named setup bytes given_text block_delete look text c commands start changes old new (Ok u) is_text have means are said draws = (
+  c,
+  said,
+  drawn_file setup bytes block_delete look (entries_at (setting_of block_delete) c) (IsNamedRefusal setup.machine (setting_of block_delete) c) text commands
+      start changes old new (Ok u) is_text have means are draws,
+)
+drawn_named setup bytes given_text block_delete look text c commands start changes old new (Err (answers.Check fault)) is_text have means are said draws =
+    ((commands, c, is_meaning setup bytes block_delete text (Ok commands) is_text have means, said, draws.0), draws.1)
+drawn_named setup bytes given_text block_delete look text c commands start changes old new (Err (answers.Write fault)) is_text have means are said draws = (
+  c,
+  said,
+  drawn_file setup bytes block_delete look (entries_at (setting_of block_delete) c) (IsNamedRefusal setup.machine (setting_of block_delete) c) text commands
+      start changes old new (Err (answers.Write fault)) is_text have means are draws,
+)
+drawn_named setup bytes given_text block_delete look text c commands start changes old new (Err answers.Memory) is_text have means are said draws =
+    (c, said, draws)
+drawn_named setup bytes given_text block_delete look text c commands start changes old new (Err _) is_text have means are said draws = absurd draws
 
 -- a start that isn't clear is refused as command 0
 pub start_refused : (machine : MachineFile) (commands : List Command) (place : StepPos) (met : Option ℕ)
@@ -183,33 +238,6 @@ first_of machine commands place (Some fixture) ks first at is h are said = absur
   where
     true-false : true ≡ false → ⊥
     true-false e = cc
-
--- ---- with a certificate
-
-pub given_fault : (setup : Setup) (bytes given_text : List ℕ) (block_delete : Bool) (look : Look) (known : Option (List ℕ)) (text : ProgramText)
-    (commands given : List Command)
-    (c : CertificateData) (fault : CheckFault)
-    → given ≡ commands → program_of bytes ≡ Ok text → HaveReadings text.lines → Means text setup block_delete (Ok commands) → parsed_certificate given_text ≡ Ok c
-    → Err fault ≡ refusal_answer (fault_at setup.machine (setting_of block_delete) given c)
-    → DrawsNamed setup bytes given_text block_delete look known known (Err (answers.Check fault))
-given_fault setup bytes given_text block_delete look known text commands given c fault same is_text have means said answers = (
-  (
-    commands,
-    c,
-    is_meaning setup bytes block_delete text (Ok commands) is_text have means,
-    said,
-    sym (answers ∙ ap (λ cs. refusal_answer (fault_at setup.machine (setting_of block_delete) cs c)) same),
-  ),
-  keeps_same known,
-)
-
-pub given_stopped : (setup : Setup) (bytes text : List ℕ) (block_delete : Bool) (look : Look) (old new : Option (List ℕ)) (c : CertificateData)
-    (fault : DrawFault) → parsed_certificate text ≡ Ok c
-    → Draws setup bytes block_delete look (entries_at (setting_of block_delete) c) (IsNamedRefusal setup.machine (setting_of block_delete) c) old new
-    (Err (of_picture fault))
-    → DrawsNamed setup bytes text block_delete look old new (Err (of_picture fault))
-given_stopped setup bytes text block_delete look old new c Memory said draws = (c, said, draws)
-given_stopped setup bytes text block_delete look old new c Write said draws = (c, said, draws)
 
 -- ---- of the files that the command line names
 
@@ -263,11 +291,11 @@ given_files bytes after later options name view shop old new outcome P Q is_some
 
 -- ---- which file isn't read
 
-pub with_certificate : (P : List Input → Type 0) (options : DrawOptions) (view : View) (name : List ℕ) → option_map (λ n. n.now) options.certificate ≡ Some name
+pub with_certificate : (P : List Input → Type 0) (options : DrawOptions) (name : List ℕ) → option_map (λ n. n.now) options.certificate ≡ Some name
     → P (shop_inputs (Some options.machine.now) (Some options.tools.now) ++ program_input (option_map (λ n. n.now) options.program)
     ∷ certificate_input name ∷ [])
-    → P (draw_inputs options (Some view))
-with_certificate P options view name is p =
+    → P (own_draw_inputs options)
+with_certificate P options name is p =
     subst (λ (named : Option (List ℕ)).
     P (shop_inputs (Some options.machine.now) (Some options.tools.now) ++ program_input (option_map (λ n. n.now) options.program)
     ∷ certificate_inputs named)) (sym is) p

@@ -32,3 +32,5 @@ pub mod FaultsLaws
 pub mod DialectRunLaws
 -- The report of a program for another control, from the results of its parts.
 pub mod DialectReportLaws
+-- The picture of a program for another control, from the results of its parts.
+pub mod DialectPictureLaws

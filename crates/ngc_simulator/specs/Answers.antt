@@ -36,6 +36,7 @@ use Rattle.ngc_inputs.specs.Faults.{OrOfReading, answer_status, fault_line}
 use Rattle.ngc_simulator.specs.declared.writing.Writing.{Writing}
 use Rattle.ngc_simulator.specs.Writing.{writing_named}
 use Rattle.ngc_simulator.specs.Lists.{Lists}
+use Rattle.ngc_dialect_reader.specs.declared.dialect.Dialect.{Dialect}
 use Rattle.ngc_drawing.specs.declared.view.View.{View}
 use Rattle.ngc_simulator.specs.Drawing.{DrawsNamed, DrawsProgram, look_of, view_named}
 use Rattle.ngc_simulator.specs.Showing.{Shows}
@@ -69,6 +70,7 @@ use Rattle.ngc_simulator.specs.DialectPlaces.{PlacesDialect}
 use Rattle.ngc_simulator.specs.Dialects.{CertifiesDialect, ChecksDialect, ListsDialect, OnDialect}
 use Rattle.ngc_simulator.specs.Dialects.{StopsDialect, named_dialect}
 use Rattle.ngc_simulator.specs.DialectReports.{ReportsDialect}
+use Rattle.ngc_simulator.specs.DialectPictures.{DrawsDialect, DrawsDialectBy}
 use Rattle.ngc_simulator.specs.Making.{Makes, OnDump, has_source}
 use Rattle.ngc_inputs.specs.Unread.{FailsByInput}
 
@@ -322,14 +324,46 @@ RunResult bytes options None old new outcome =
 RunResult bytes options (Some writing) old new outcome =
     RunResultIn (option_map (λ name. name.now) options.dialect) bytes options writing old new outcome
 
+abbrev pub OwnDrawResult : FileBytes → DrawOptions → View → Option (List ℕ) → Option (List ℕ) →
+    Result Done AnswerFault → Type 0
+OwnDrawResult bytes options view old new outcome =
+    Comes (StopsPlaced bytes (Some options.machine.now) (Some options.tools.now) options.changes
+    old new)
+    (OrOfReading OfDrawing) (DrawsFrom bytes options view old new) outcome
+
+-- a picture of a program's text from this side, without a certificate or with one
+abbrev pub DrawsDialectFrom : FileBytes → DrawOptions → View → Dialect → Setup → List ℕ →
+    Option (List ℕ) → Option (List ℕ) → Result Done AnswerFault → Type 0
+DrawsDialectFrom bytes options view d setup source old new outcome =
+    MatchOption (option_map (λ name. name.now) options.certificate)
+    (DrawsDialect d setup options.delete source (look_of options view) old new outcome)
+    (λ certificate. DrawsDialectBy d setup options.delete source (look_of options view)
+    (bytes (Some certificate)) old new outcome)
+
+abbrev pub DialectDrawResult : List ℕ → FileBytes → DrawOptions → View → Option (List ℕ) →
+    Option (List ℕ) → Result Done AnswerFault → Type 0
+DialectDrawResult control bytes options view old new outcome =
+    let machine : Option (List ℕ) = Some options.machine.now in
+    let tools : Option (List ℕ) = Some options.tools.now in
+    DialectComes (StopsDialect control bytes machine tools options.changes)
+    (λ o. OnDialect control bytes machine tools options.changes
+    (option_map (λ name. name.now) options.program)
+    (λ d setup source. DrawsDialectFrom bytes options view d setup source old new o))
+    old new outcome
+
+abbrev pub DrawResultIn : Option (List ℕ) → FileBytes → DrawOptions → View → Option (List ℕ) →
+    Option (List ℕ) → Result Done AnswerFault → Type 0
+DrawResultIn None bytes options view old new outcome =
+    OwnDrawResult bytes options view old new outcome
+DrawResultIn (Some control) bytes options view old new outcome =
+    DialectDrawResult control bytes options view old new outcome
+
 -- a view that isn't known is rejected before a file is read
 abbrev pub DrawResult : FileBytes → DrawOptions → Option View → Option (List ℕ) → Option (List ℕ) →
     Result Done AnswerFault → Type 0
 DrawResult bytes options None old new outcome = (outcome ≡ Err answers.UnknownView) × Keeps old new
 DrawResult bytes options (Some view) old new outcome =
-    Comes (StopsPlaced bytes (Some options.machine.now) (Some options.tools.now) options.changes
-    old new)
-    (OrOfReading OfDrawing) (DrawsFrom bytes options view old new) outcome
+    DrawResultIn (option_map (λ name. name.now) options.dialect) bytes options view old new outcome
 
 abbrev pub ShowResult : FileBytes → ShowOptions → Option (List ℕ) → Option (List ℕ) →
     Result Done AnswerFault → Type 0
@@ -780,13 +814,24 @@ abbrev pub certificate_inputs : Option (List ℕ) → List Input
 certificate_inputs None = []
 certificate_inputs (Some name) = certificate_input name ∷ []
 
+abbrev pub own_draw_inputs : DrawOptions → List Input
+own_draw_inputs options =
+    shop_inputs (Some options.machine.now) (Some options.tools.now)
+    ++ program_input (option_map (λ name. name.now) options.program)
+    ∷ certificate_inputs (option_map (λ name. name.now) options.certificate)
+
+abbrev pub draw_inputs_in : Option (List ℕ) → DrawOptions → List Input
+draw_inputs_in None options = own_draw_inputs options
+draw_inputs_in (Some control) options =
+    dialect_inputs (Some options.machine.now) (Some options.tools.now)
+    (option_map (λ name. name.now) options.program)
+    ++ certificate_inputs (option_map (λ name. name.now) options.certificate)
+
 -- where the view is known
 abbrev pub draw_inputs : DrawOptions → Option View → List Input
 draw_inputs options None = []
 draw_inputs options (Some view) =
-    shop_inputs (Some options.machine.now) (Some options.tools.now)
-    ++ program_input (option_map (λ name. name.now) options.program)
-    ∷ certificate_inputs (option_map (λ name. name.now) options.certificate)
+    draw_inputs_in (option_map (λ name. name.now) options.dialect) options
 
 abbrev pub show_inputs : ShowOptions → List Input
 show_inputs options =
@@ -887,7 +932,7 @@ IsQuiet (commands.Check options) = options.dialect ≡ None
 IsQuiet (commands.Run options) = options.dialect ≡ None
 IsQuiet (commands.RunThrough options) = ⊥
 IsQuiet (commands.Live options) = options.dialect ≡ None
-IsQuiet (commands.Draw options) = Unit {0}
+IsQuiet (commands.Draw options) = options.dialect ≡ None
 IsQuiet (commands.Show options) = Unit {0}
 IsQuiet (commands.Report options) = options.dialect ≡ None
 IsQuiet (commands.Place options) = options.dialect ≡ None

@@ -34,6 +34,7 @@ use Rattle.ngc_drawing.specs.declared.origin.WorkOrigin.{WorkOrigin}
 use Rattle.ngc_drawing.specs.declared.refusal.RefusedMotion.{RefusedMotion}
 use Rattle.ngc_drawing.specs.declared.view.View.{View}
 use Rattle.ngc_drawing.specs.declared.view.View.TheVariants.{Top, Front, Side, Iso}
+use Rattle.ngc_program_report.specs.Coordinates.{History}
 use Rattle.ngc_program_report.specs.Met.{met_at}
 use Rattle.ngc_inputs.specs.declared.fault.AnswerFault.{AnswerFault}
 use Rattle.ngc_inputs.specs.declared.fault.AnswerFault.TheVariants as answers
@@ -187,3 +188,41 @@ DrawsNamed setup bytes text block_delete look old new outcome =
     (c : CertificateData) × (parsed_certificate text ≡ Ok c)
     × Draws setup bytes block_delete look (entries_at (setting_of block_delete) c)
     (IsNamedRefusal setup.machine (setting_of block_delete) c) old new outcome
+
+-- ---- the picture of commands, by whatever program they are
+
+-- the picture of commands and of their frames, with the motions of a certificate, and with its refusal
+pub record IsPictureOf (machine : MachineFile) (look : Look) (entries : List Entry)
+    (IsShown : List Command → Option RefusedMotion → Type 0) (frames : History)
+    (commands : List Command) (text : List ℕ) : Type 0 where
+  pub refusal : Option RefusedMotion
+  pub shows : IsShown commands refusal
+  pub draws : text ≡ picture_text look machine commands entries refusal
+      (origin_shown frames.start frames.changes commands refusal)
+
+-- a picture was written, or a prefix of it where the sink failed; where memory ran out, the output is
+-- unchanged
+abbrev pub WritesPicture : (List ℕ → Type 0) → Option (List ℕ) → Option (List ℕ) →
+    Result (Unit {0}) AnswerFault → Type 0
+WritesPicture IsDrawn old new (Ok u) = (text : List ℕ) × IsDrawn text × Appends old new text
+WritesPicture IsDrawn old new (Err (answers.Write fault)) =
+    (text : List ℕ) × IsDrawn text × AppendsPrefix old new text
+WritesPicture IsDrawn old new (Err answers.Memory) = Keeps old new
+WritesPicture IsDrawn old new (Err _) = ⊥
+
+-- without a certificate
+abbrev pub DrawsCommands : MachineFile → Look → History → List Command → Option (List ℕ) →
+    Option (List ℕ) → Result (Unit {0}) AnswerFault → Type 0
+DrawsCommands machine look frames commands old new outcome =
+    WritesPicture (IsPictureOf machine look [] (IsMadeRefusal machine) frames commands) old new outcome
+
+-- With the motions of a certificate at a setting of block delete. A fault of the certificate that isn't
+-- drawn is returned.
+abbrev pub DrawsCertified : MachineFile → Bool → Look → CertificateData → History → List Command →
+    Option (List ℕ) → Option (List ℕ) → Result (Unit {0}) AnswerFault → Type 0
+DrawsCertified machine block_delete look c frames commands old new (Err (answers.Check fault)) =
+    (refusal_answer (fault_at machine (setting_of block_delete) commands c) ≡ Err fault)
+    × Keeps old new
+DrawsCertified machine block_delete look c frames commands old new outcome =
+    WritesPicture (IsPictureOf machine look (entries_at (setting_of block_delete) c)
+    (IsNamedRefusal machine (setting_of block_delete) c) frames commands) old new outcome

@@ -16,6 +16,7 @@ pub mod Dialects
 pub mod DialectPlaces
 pub mod DialectRuns
 pub mod DialectReports
+pub mod DialectPictures
 pub mod Certifying
 pub mod Placing
 pub mod Answers

@@ -1,31 +1,24 @@
 //! Reports of programs for other controls.
-ghost use Rattle.std.specs.Prelude.{◌≡◌, ◌∷◌, ◌≤◌, ◌<◌, IfErr, IfOk, IfSome, MatchResult, Some};
-ghost use Rattle.std.specs.Prelude.{length};
+ghost use Rattle.std.specs.Prelude.{◌≡◌, ◌∷◌, ◌≤◌, ◌<◌, IfErr, IfOk, MatchResult, Some, length};
 ghost use Rattle.ngc_canonical.specs.Interpreter.{setup_of};
-ghost use Rattle.ngc_dialect_execution.specs.Program.{meaning_in};
 ghost use Rattle.ngc_dialect_execution.specs.Text as spec;
 ghost use Rattle.ngc_inputs.specs.Faults.{FailsByOutput};
 ghost use Rattle.ngc_inputs.specs.Unread.{FailsByInput, SourceFails};
-ghost use Rattle.ngc_job.specs.Job.{AreCommands};
 ghost use Rattle.ngc_line_reader.specs.Program.{split_lines};
-ghost use Rattle.ngc_machine_files.specs.Machine.{file_of};
-ghost use Rattle.ngc_program_report.specs.Framed.{framed_in, history_in};
+ghost use Rattle.ngc_program_report.specs.Framed.{framed_in};
 ghost use Rattle.ngc_simulator.specs.Answers.{DialectReportResult, report_inputs_in};
 ghost use Rattle.ngc_simulator.specs.DialectReports.{IsFramedDialect, ReportsDialect};
-ghost use Rattle.ngc_simulator.specs.DialectReports.{begins_with_slash, dialect_frames};
-ghost use Rattle.ngc_simulator.specs.DialectReports.{has_deleted};
-ghost use Rattle.ngc_simulator.specs.Dialects.{NotesFault, NotesRefusal, is_on};
+ghost use Rattle.ngc_simulator.specs.DialectReports.{begins_with_slash, has_deleted};
+ghost use Rattle.ngc_simulator.specs.Dialects.{NotesRefusal};
 
-use crate::dialects::{Sent, read_sent_reporting, refused};
+use crate::dialects::{Sent, framed_at, read_sent_reporting};
 use crate::done::{Done, Notes};
 use crate::reporting::report_job;
 use crate::reporting_files::request_of;
 use memchr::memchr;
 use ngc_certificate_text::Setting;
 use ngc_command_line::ReportOptions;
-use ngc_dialect_execution::{DialectFault, interpret_dialect_with_frames};
 use ngc_dialect_reader::Dialect;
-use ngc_frames::FramedCommands;
 use ngc_inputs::{AnswerFault, Files, Shop};
 use ngc_job::Job;
 use ngc_program_report::{FramedJob, ReportRequest, ReportedText};
@@ -81,51 +74,6 @@ fn has_deleted_lines(text: &[u8]) -> bool
     false
 }
 
-fn is_on(setting: Setting) -> bool
-    ensures { result ≡ is_on setting }
-{
-    match setting {
-        Setting::Off => false,
-        Setting::On => true,
-    }
-}
-
-// Executes a program at a setting of block delete, and returns its commands and their frames, or notes
-// on why it is refused.
-fn framed_at(
-    alloc: Global,
-    dialect: Dialect,
-    text: &[u8],
-    shop: &Shop,
-    setting: Setting,
-) -> Result<Result<FramedCommands<Global>, Notes>, AnswerFault>
-    ensures executed { IfOk result (λ made. MatchResult made
-        (λ f. (meaning_in dialect (setup_of shop.now.machine shop.now.tools) (is_on setting) text.now
-        ≡ Ok f.commands.items)
-        × ((history_in f.frames ≡ dialect_frames dialect
-        (setup_of shop.now.machine shop.now.tools) (is_on setting) text.now)
-        × AreCommands (file_of shop.now.machine).start f.commands.items))
-        (NotesFault dialect (setup_of shop.now.machine shop.now.tools) (is_on setting) text.now
-        (Some setting))) }
-    ensures fault { IfErr result (λ e. e ≡ AnswerFault.Memory) }
-{
-    match interpret_dialect_with_frames(
-        alloc,
-        dialect,
-        text,
-        &shop.machine,
-        &shop.tools,
-        is_on(setting),
-    ) {
-        Ok(framed) => Ok(Ok(framed)),
-        Err(DialectFault::Memory) => Err(AnswerFault::Memory),
-        Err(DialectFault::At { line, cause }) => {
-            let notes = refused(alloc, Some(setting), line, &cause)?;
-            Ok(Err(notes))
-        }
-    }
-}
-
 // Returns the job of a program with the frames of its commands, or notes on why it is refused. If no
 // line begins with `/`, it is executed once.
 fn framed_dialect(
@@ -139,7 +87,7 @@ fn framed_dialect(
         (NotesRefusal dialect (setup_of shop.machine shop.tools) text.now)) }
     ensures fault { IfErr result (λ e. e ≡ AnswerFault.Memory) }
 {
-    let off = match framed_at(alloc, dialect, text, &shop, Setting::Off)? {
+    let off = match framed_at(alloc, dialect, text, &shop, false, Some(Setting::Off))? {
         Ok(off) => off,
         Err(notes) => return Ok(Err(notes)),
     };
@@ -149,7 +97,7 @@ fn framed_dialect(
         let (off, on) = (off.frames, None);
         return Ok(Ok(FramedJob { job, off, on }));
     }
-    let on = match framed_at(alloc, dialect, text, &shop, Setting::On)? {
+    let on = match framed_at(alloc, dialect, text, &shop, true, Some(Setting::On))? {
         Ok(on) => on,
         Err(notes) => return Ok(Err(notes)),
     };

@@ -1,12 +1,19 @@
-//! Programs for other controls that are executed in their own language: their files, and why they are
-//! refused.
-ghost use Rattle.std.specs.Prelude.{◌≡◌, false, IfErr, IfOk, IsSome, Some, option_map};
+//! Programs for other controls that are executed in their own language: their files, their commands, and
+//! why they are refused.
+ghost use Rattle.std.specs.Prelude.{◌≡◌, false, IfErr, IfOk, IsSome, MatchResult, Ok, Some, option_map};
+ghost use Rattle.ngc_canonical.specs.Interpreter.{setup_of};
+ghost use Rattle.ngc_dialect_execution.specs.Program.{meaning_in};
 ghost use Rattle.ngc_dialect_faults.specs.Lines.{fault_line};
 ghost use Rattle.ngc_simulator.specs.Answers.{StopsReport, dialect_inputs, report_inputs_in};
-ghost use Rattle.ngc_simulator.specs.Dialects.{IsRead, IsSent, StopsSending, named_dialect};
+ghost use Rattle.ngc_simulator.specs.DialectReports.{dialect_frames};
+ghost use Rattle.ngc_simulator.specs.Dialects.{IsRead, IsSent, NotesFault, StopsSending};
+ghost use Rattle.ngc_simulator.specs.Dialects.{named_dialect};
 ghost use Rattle.ngc_inputs.specs.Faults.{FailsByOutput};
 ghost use Rattle.ngc_inputs.specs.Setups.{KeepsFiles, KeepsNamed};
 ghost use Rattle.ngc_inputs.specs.Unread.{FailsByInput, SourceFails};
+ghost use Rattle.ngc_job.specs.Job.{AreCommands};
+ghost use Rattle.ngc_machine_files.specs.Machine.{file_of};
+ghost use Rattle.ngc_program_report.specs.Framed.{history_in};
 
 use crate::adapting::source_bytes;
 use crate::done::Notes;
@@ -14,9 +21,10 @@ use crate::mistaken_files::read_placed_reporting;
 use crate::reporting_files::requested_form;
 use ngc_certificate_text::Setting;
 use ngc_command_line::ReportOptions;
-use ngc_dialect_execution::Cause;
+use ngc_dialect_execution::{Cause, DialectFault, interpret_dialect_with_frames};
 use ngc_dialect_faults::write_dialect_fault;
 use ngc_dialect_reader::Dialect;
+use ngc_frames::FramedCommands;
 use ngc_inputs::{AnswerFault, Files, Shop, read_placed};
 use ngc_margins::Changes;
 use ngc_text::{Device, Sink};
@@ -136,5 +144,42 @@ pub(crate) fn refused(
             is_written: false,
         }),
         Err(_) => Err(AnswerFault::Memory),
+    }
+}
+
+/// Executes a program at a setting of block delete, and returns its commands and their frames, or notes
+/// on why it is refused. They name the setting where a command needs both.
+pub(crate) fn framed_at(
+    alloc: Global,
+    dialect: Dialect,
+    text: &[u8],
+    shop: &Shop,
+    block_delete: bool,
+    setting: Option<Setting>,
+) -> Result<Result<FramedCommands<Global>, Notes>, AnswerFault>
+    ensures executed { IfOk result (λ made. MatchResult made
+        (λ f. (meaning_in dialect (setup_of shop.now.machine shop.now.tools) block_delete text.now
+        ≡ Ok f.commands.items)
+        × ((history_in f.frames ≡ dialect_frames dialect
+        (setup_of shop.now.machine shop.now.tools) block_delete text.now)
+        × AreCommands (file_of shop.now.machine).start f.commands.items))
+        (NotesFault dialect (setup_of shop.now.machine shop.now.tools) block_delete text.now
+        setting)) }
+    ensures fault { IfErr result (λ e. e ≡ AnswerFault.Memory) }
+{
+    match interpret_dialect_with_frames(
+        alloc,
+        dialect,
+        text,
+        &shop.machine,
+        &shop.tools,
+        block_delete,
+    ) {
+        Ok(framed) => Ok(Ok(framed)),
+        Err(DialectFault::Memory) => Err(AnswerFault::Memory),
+        Err(DialectFault::At { line, cause }) => {
+            let notes = refused(alloc, setting, line, &cause)?;
+            Ok(Err(notes))
+        }
     }
 }

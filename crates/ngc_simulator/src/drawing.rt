@@ -9,10 +9,12 @@ ghost use Rattle.ngc_line_reader.specs.ProgramText.{program_of, HaveReadings};
 ghost use Rattle.ngc_line_reader.specs.ProgramView.{text_in};
 ghost use Rattle.ngc_machine_files.specs.Machine.{file_of};
 ghost use Rattle.ngc_inputs.specs.Faults.{FailsByOutput, OfDrawing};
-ghost use Rattle.ngc_simulator.specs.Drawing.{DrawsNamed, DrawsProgram, IsFirstRefused, IsMadeRefusal};
+ghost use Rattle.ngc_simulator.specs.Drawing.{DrawsCertified, DrawsCommands, DrawsNamed, DrawsProgram};
+ghost use Rattle.ngc_simulator.specs.Drawing.{IsFirstRefused, IsMadeRefusal};
 ghost use Rattle.ngc_simulator.specs.Drawing.{drawn_refusal, fault_at, shown_command};
 ghost use Rattle.ngc_simulator.specs.Drawing.{origin_shown, work_of};
 ghost use Rattle.ngc_offsets.specs.Frames.{index};
+ghost use Rattle.ngc_program_report.specs.Framed.{history_in};
 ghost use Rattle.ngc_program_report.specs.Met.{met_at};
 ghost use Rattle.ngc_simulator.specs.Drawing.{refusal_answer, setting_of, view_named};
 
@@ -22,7 +24,7 @@ use ngc_checker::{CheckFault, setting_fault};
 use ngc_commands::Command;
 use ngc_drawing::{DrawFault, Look, RefusedMotion, View, WorkOrigin, write_svg};
 use ngc_fixed_length::System;
-use ngc_frames::{Frame, FrameHistory, interpret_with_frames};
+use ngc_frames::{Frame, FrameHistory, FramedCommands, interpret_with_frames};
 use ngc_inputs::AnswerFault;
 use ngc_line_reader::Program;
 use ngc_machine_files::{Machine, Tools};
@@ -211,6 +213,59 @@ fn work_origin<A: Allocator>(
     work_of(&in_force.frame)
 }
 
+/// Draws commands on their machine, with the motion that no certificate clears, and the fixture that it
+/// meets in one piece. The work origin is that of the frame in force at that motion, or at the end.
+pub(crate) fn draw_commands<A: Allocator + Copy, W: Sink>(
+    alloc: A,
+    framed: &FramedCommands<A>,
+    machine: &Machine<A>,
+    look: Look,
+    output: &mut W,
+) -> Result<(), AnswerFault>
+    requires { length framed.now.commands.items ≤ COMMAND_LIMIT }
+    ensures draws { DrawsCommands (file_of machine.now) look (history_in framed.now.frames)
+        framed.now.commands.items (W.written output.old) (W.written output.new) result }
+    ensures sink { FailsByOutput result (W.failures output.old) (W.failures output.new) }
+    ensures faults { IfErr result OfDrawing }
+{
+    let commands = framed.commands.as_slice();
+    let refusal = made_refusal(alloc, commands, machine)?;
+    let work = work_origin(&framed.frames, commands, &refusal);
+    let none = Motions::new(alloc);
+    write_svg(
+        alloc, &look, machine, commands, &none, &refusal, &work, output,
+    )?;
+    Ok(())
+}
+
+/// Draws commands on their machine, as `draw_commands` does, by a certificate at a setting of block
+/// delete: with the motion that it doesn't clear.
+pub(crate) fn draw_commands_by<A: Allocator + Copy, W: Sink>(
+    alloc: A,
+    framed: &FramedCommands<A>,
+    machine: &Machine<A>,
+    certificate: &Certificate<A>,
+    look: Look,
+    block_delete: bool,
+    output: &mut W,
+) -> Result<(), AnswerFault>
+    requires { length framed.now.commands.items ≤ COMMAND_LIMIT }
+    ensures draws { DrawsCertified (file_of machine.now) block_delete look
+        (certificate_data certificate.now) (history_in framed.now.frames)
+        framed.now.commands.items (W.written output.old) (W.written output.new) result }
+    ensures sink { FailsByOutput result (W.failures output.old) (W.failures output.new) }
+    ensures faults { IfErr result OfDrawing }
+{
+    let commands = framed.commands.as_slice();
+    let refusal = checked_refusal(machine, block_delete, commands, certificate)?;
+    let work = work_origin(&framed.frames, commands, &refusal);
+    let motions = certificate.motions(setting_of(block_delete));
+    write_svg(
+        alloc, &look, machine, commands, motions, &refusal, &work, output,
+    )?;
+    Ok(())
+}
+
 /// Draws a program on a machine, at a setting of block delete, with the motion that no certificate
 /// clears, and the fixture that it meets in one piece.
 pub fn draw_program<A: Allocator + Copy, W: Sink>(
@@ -231,14 +286,7 @@ pub fn draw_program<A: Allocator + Copy, W: Sink>(
     ensures faults { IfErr result OfDrawing }
 {
     let framed = interpret_with_frames(alloc, program, machine, tools, block_delete)?;
-    let commands = framed.commands.as_slice();
-    let refusal = made_refusal(alloc, commands, machine)?;
-    let work = work_origin(&framed.frames, commands, &refusal);
-    let none = Motions::new(alloc);
-    write_svg(
-        alloc, &look, machine, commands, &none, &refusal, &work, output,
-    )?;
-    Ok(())
+    draw_commands(alloc, &framed, machine, look, output)
 }
 
 /// Draws a program on a machine, at a setting of block delete. If `look` says so, the bodies of the
@@ -264,12 +312,13 @@ pub fn draw_certified<A: Allocator + Copy, W: Sink>(
     ensures faults { IfErr result OfDrawing }
 {
     let framed = interpret_with_frames(alloc, program, machine, tools, block_delete)?;
-    let commands = framed.commands.as_slice();
-    let refusal = checked_refusal(machine, block_delete, commands, certificate)?;
-    let work = work_origin(&framed.frames, commands, &refusal);
-    let motions = certificate.motions(setting_of(block_delete));
-    write_svg(
-        alloc, &look, machine, commands, motions, &refusal, &work, output,
-    )?;
-    Ok(())
+    draw_commands_by(
+        alloc,
+        &framed,
+        machine,
+        certificate,
+        look,
+        block_delete,
+        output,
+    )
 }

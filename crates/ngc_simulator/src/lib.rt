@@ -7,6 +7,7 @@ mod certifier;
 mod checking;
 mod dialect_certificates;
 mod dialect_lister;
+mod dialect_pictures;
 mod dialect_places;
 mod dialect_reports;
 mod dialect_runs;

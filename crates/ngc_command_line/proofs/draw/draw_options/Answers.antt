@@ -14,4 +14,5 @@ returns c = record {
   bodies = c.flag_is_set-2.ensures;
   whole = c.flag_is_set-3.ensures;
   changes = c.requires.changes;
+  dialect = c.get_str-4.ensures ∙ first_value-rows (found_of c.args.found.now) (codes "dialect");
 }

@@ -1,10 +1,9 @@
-use Rattle.std.proofs.Common.{[], Err, ap}
+use Rattle.std.proofs.Common.{[]}
 use Rattle.ngc_canonical.specs.Interpreter.{setup_of}
 use Rattle.ngc_line_reader.specs.ProgramView.{text_in}
 use Rattle.ngc_simulator.specs.Drawing.{DrawsProgram, IsMadeRefusal}
-use Rattle.ngc_inputs.specs.Faults.{of_picture}
 use Rattle.ngc_inputs.specs.declared.fault.AnswerFault.TheVariants as answers
-use Rattle.ngc_simulator.proofs.DrawLaws.{drawing_stopped, drawn, in_force, no_memory, refused_program}
+use Rattle.ngc_simulator.proofs.DrawLaws.{drawn_file, refused_program}
 use Rattle.ngc_report.proofs.Converted.{turned}
 use Rattle.ngc_inputs.proofs.JobLaws.{keeps_same}
 use Rattle.ngc_simulator.proofs.drawing.draw_program.Goals as goal
@@ -19,31 +18,10 @@ returns-in_err-framed-clause-draws g c = λ bytes is_text have.
       keeps_same _,
     )
 
-pub returns-in_err-refusal-clause-draws : goal.returns-in_err-refusal-clause-draws
-returns-in_err-refusal-clause-draws g c = λ bytes is_text have.
-    turned _ (of_picture c.in_err-refusal.field-0.0)
-    (DrawsProgram (setup_of c.args.machine.now c.args.tools.now) bytes c.args.block_delete c.args.look (g.W.Sink.written c.args.output.now)
-    (g.W.Sink.written c.args.output.now)) c.from_residual-in_err-refusal.ensures.1
-    (no_memory (setup_of c.args.machine.now c.args.tools.now) bytes c.args.block_delete c.args.look [] _ _ c.in_err-refusal.field-0.0 c.in_err-refusal.ensures)
-
-pub returns-in_err-write_svg-clause-draws : goal.returns-in_err-write_svg-clause-draws
-returns-in_err-write_svg-clause-draws g c = λ bytes is_text have.
-    let setup = setup_of c.args.machine.now c.args.tools.now in
-    turned _ (of_picture c.in_err-write_svg.field-0.0)
-    (DrawsProgram (setup_of c.args.machine.now c.args.tools.now) bytes c.args.block_delete c.args.look (g.W.Sink.written c.args.output.now)
-    (g.W.Sink.written c.write_svg.new.sink)) c.from_residual-in_err-write_svg.ensures.1
-    (drawing_stopped setup bytes c.args.block_delete c.args.look [] (IsMadeRefusal setup.machine) _ _
-    (text_in c.args.program.now) c.in_ok-framed.framed.commands.items c.as_slice-commands.result.now c.new-none.result _ _
-    c.in_err-write_svg.field-0.0
-    c.as_slice-commands.ensures.value c.new-none.ensures is_text have c.in_ok-framed.ensures.commands c.in_ok-refusal.ensures (in_force setup (text_in c.args.program.now) c.args.block_delete c.in_ok-framed.framed.frames.start c.in_ok-framed.framed.frames.changes.items
-    c.as_slice-commands.result.now c.in_ok-refusal.refusal c.work_origin-work.result c.in_ok-framed.ensures.start c.in_ok-framed.ensures.changes c.work_origin-work.ensures)
-    c.in_err-write_svg.ensures.fault (λ is. c.in_err-write_svg.ensures.memory (ap Err is)))
-
 pub returns-clause-draws : goal.returns-clause-draws
 returns-clause-draws g c = λ bytes is_text have.
     let setup = setup_of c.args.machine.now c.args.tools.now in
-    drawn setup bytes c.args.block_delete c.args.look [] (IsMadeRefusal setup.machine) _ _
-    (text_in c.args.program.now) c.in_ok-framed.framed.commands.items c.as_slice-commands.result.now c.new-none.result _ _
-    c.as_slice-commands.ensures.value c.new-none.ensures is_text have c.in_ok-framed.ensures.commands c.in_ok-refusal.ensures (in_force setup (text_in c.args.program.now) c.args.block_delete c.in_ok-framed.framed.frames.start c.in_ok-framed.framed.frames.changes.items
-    c.as_slice-commands.result.now c.in_ok-refusal.refusal c.work_origin-work.result c.in_ok-framed.ensures.start c.in_ok-framed.ensures.changes c.work_origin-work.ensures)
-    c.in_ok-write_svg.ensures.ok
+    let framed = c.in_ok-framed.framed in
+    drawn_file setup bytes c.args.block_delete c.args.look [] (IsMadeRefusal setup.machine) (text_in c.args.program.now) framed.commands.items framed.frames.start
+    framed.frames.changes.items _ _ c.draw_commands.result is_text have c.in_ok-framed.ensures.commands
+    (c.in_ok-framed.ensures.start, c.in_ok-framed.ensures.changes) c.draw_commands.ensures.draws

@@ -1,0 +1,21 @@
+use Rattle.std.proofs.Common.{length, arith, ◌∙◌, ◌-◌}
+use Rattle.ngc_material.proofs.Reports.{kept_found, all_found, later_reached}
+use Rattle.ngc_material.proofs.walk.find_touches.Goals as goal
+
+pub loop-command-preserved : goal.loop-command-preserved
+loop-command-preserved g c =
+    let v = c.loop-command.invariant in
+    let e = c.in-Some.ensures.cases.0 in record {
+      stock = c.in-Ok-follow.ensures.stock ∙ v.stock;
+      near = later_reached c.loop-command.left.now c.in-Some.later.now c.in-Some.command.now e v.near;
+      few = omega (arith, v.few, c.in-Some.ensures.cases.1);
+      found = kept_found c.args.stock.now c.args.start.now c.loop-command.reached c.after-reached.result c.args.commands.now c.loop-command.left.now c.in-Some.later.now c.in-Some.command.now
+          c.loop-command.material.heights.items c.follow.new.material.heights.items c.loop-command.found.items c.follow.new.found.items
+          e v.few c.after-reached.ensures (rw v.stock at c.in-Ok-follow.ensures.found) v.found;
+    }
+
+pub returns-clause-found : goal.returns-clause-found
+returns-clause-found g c =
+    let v = c.loop-command.invariant in
+    all_found c.args.stock.now c.args.start.now c.loop-command.reached c.args.commands.now c.loop-command.left.now c.loop-command.material.heights.items
+    (length c.args.commands.now - length c.loop-command.left.now) c.loop-command.found.items c.in_default-split_first.ensures.cases v.found

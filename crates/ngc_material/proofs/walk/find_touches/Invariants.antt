@@ -1,0 +1,19 @@
+-- What is found in the remaining commands, after what is found so far, is what is found in all.
+use Rattle.std.proofs.Common.{◌≡◌, ◌≤◌, ◌-◌, ◌++◌, List, length, true}
+use Rattle.ngc_stock.specs.Walk.{uncut}
+use Rattle.ngc_material.specs.Heights.{are_reached}
+use Rattle.ngc_material.specs.Walks.{AreFound}
+use Rattle.ngc_material.specs.declared.walk.Found.{Found}
+use Rattle.ngc_material.proofs.walk.find_touches.Given as goal
+
+abbrev pub invariant-loop-command : goal.invariant-loop-command
+invariant-loop-command g l = record {
+  stock : l.material.stock ≡ l.stock;
+  near : are_reached l.left ≡ true;
+  few : length l.left ≤ length l.commands;
+  found : (rest : List Found) → AreFound l.stock l.reached l.material.heights.items (length l.commands - length l.left) l.left rest →
+      AreFound l.stock l.start (uncut l.stock) 0 l.commands (l.found.items ++ rest);
+}
+
+abbrev pub decreases-loop-command : goal.decreases-loop-command
+decreases-loop-command g l = length l.left

@@ -1,0 +1,4 @@
+pub mod Heights
+pub mod Touches
+pub mod Walks
+pub mod Silences

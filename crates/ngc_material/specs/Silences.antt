@@ -1,0 +1,31 @@
+-- What it means that a walk reports some traverses, and not the others. Our own.
+use Rattle.std.specs.Prelude.{◌≡◌, ℕ, ◌↔◌, List, [], ◌∷◌, ◌++◌}
+use Rattle.ngc_fixed_length.specs.declared.points.Point3.{Point3}
+use Rattle.ngc_machine_files.specs.declared.tools.Tool.{Tool}
+use Rattle.ngc_commands.specs.declared.command.Command.{Command}
+use Rattle.ngc_commands.specs.declared.reached.Reached.{Reached}
+use Rattle.ngc_commands.specs.Reached.{after_all}
+use Rattle.ngc_cells.specs.Grids.{IsGrid}
+use Rattle.ngc_stock.specs.declared.stock.Stock.{Stock}
+use Rattle.ngc_stock.specs.Walk.{IsClear, IsSilent, IsSafe, IsLeft, uncut}
+use Rattle.ngc_material.specs.Touches.{IsInWay}
+use Rattle.ngc_material.specs.Walks.{AreFound, with_feeds}
+use Rattle.ngc_material.specs.declared.walk.Found.{Found}
+
+-- a traverse is clear exactly if no cell is in its way
+abbrev pub Clearness : Type 0
+Clearness = (s : Stock) (t : Tool) (a b : Point3) (heights : List ℕ) →
+    IsClear s t a b heights ↔ ((k d : ℕ) → ¬ (IsInWay s t a b heights k d))
+
+-- a walk that reports nothing: no traverse of the program may touch material
+abbrev pub Nothing : Type 0
+Nothing = (s : Stock) (r : Reached) (commands : List Command) →
+    AreFound s r (uncut s) 0 commands [] → IsSilent s r (uncut s) commands
+
+-- each straight traverse that a walk doesn't report meets nothing that the straight feeds and the
+-- reported traverses before it have left, for a cutter smaller by the margin and raised
+abbrev pub Unreported : Type 0
+Unreported = (s : Stock) (r : Reached) (commands : List Command) (found : List Found)
+    (before after : List Command) (c : Command) → IsGrid s.grid →
+    AreFound s r (uncut s) 0 commands found → with_feeds 0 commands found ≡ before ++ c ∷ after →
+    IsSafe s (IsLeft s r before) (after_all r before).tool c.action

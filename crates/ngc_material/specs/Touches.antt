@@ -1,0 +1,53 @@
+-- Where a straight traverse may touch material, and how deep at most. Our own.
+use Rattle.std.specs.Prelude.{◌≡◌, ℕ, ◌+◌, ◌*◌, ◌-◌, ◌<◌, ◌≤◌, ◌⊎◌, pos, ◌+ℤ◌, List, length, slice_index, Option, Some, None, if◌then◌else◌, nat_lt}
+use Rattle.ngc_fixed_length.specs.declared.points.Point3.{Point3}
+use Rattle.ngc_machine_files.specs.declared.tools.Tool.{Tool}
+use Rattle.ngc_cells.specs.declared.grid.Grid.{Grid}
+use Rattle.ngc_cells.specs.declared.stretch.Stretch.{Stretch}
+use Rattle.ngc_cells.specs.Stretches.{IsNear}
+use Rattle.ngc_cells.specs.Grids.{centre}
+use Rattle.ngc_stock.specs.declared.stock.Stock.{Stock}
+use Rattle.ngc_stock.specs.Stocks.{reduction, tolerance, radius, rise, pieces, piece, point_at, lowest_tip, level_of}
+use Rattle.ngc_material.specs.declared.touch.Touch.{Touch}
+
+-- cell k is near a stretch and higher than a limit, and a tip is d deep in it
+pub record IsDeep (g : Grid) (stretch : Stretch) (r limit tip : ℕ) (heights : List ℕ) (k d : ℕ) : Type 0 where
+  pub within : k < length heights
+  pub near : IsNear stretch r (centre g k)
+  pub above : limit < slice_index heights k
+  pub depth : d ≡ slice_index heights k - tip
+
+-- cell k is in the way at the end of a traverse to b, and the tip is d deep in it at most
+abbrev pub IsAtEnd : Stock → Tool → Point3 → List ℕ → ℕ → ℕ → Type 0
+IsAtEnd s t b heights k d =
+    IsDeep s.grid (point_at b) (radius t - reduction s.grid)
+    (level_of s ((b.z +ℤ t.bottom) +ℤ pos (tolerance s.grid))) (level_of s (b.z +ℤ t.bottom)) heights k d
+
+-- the same at a piece of a traverse from a to b
+abbrev pub IsAtPiece : Stock → Tool → Point3 → Point3 → ℕ → List ℕ → ℕ → ℕ → Type 0
+IsAtPiece s t a b i heights k d =
+    IsDeep s.grid (piece a b i) (radius t - reduction s.grid)
+    (level_of s (lowest_tip t a b i +ℤ pos (tolerance s.grid + 2 * rise a b))) (level_of s (lowest_tip t a b i)) heights k d
+
+-- at the end, or at one of the first n pieces
+abbrev pub IsAtFirst : Stock → Tool → Point3 → Point3 → ℕ → List ℕ → ℕ → ℕ → Type 0
+IsAtFirst s t a b n heights k d =
+    IsAtEnd s t b heights k d ⊎ ((i : ℕ) × (i < n) × IsAtPiece s t a b i heights k d)
+
+-- cell k is in the way of a traverse; a cutter thinner than the reduction isn't tested
+pub record IsInWay (s : Stock) (t : Tool) (a b : Point3) (heights : List ℕ) (k d : ℕ) : Type 0 where
+  pub thick : reduction s.grid ≤ radius t
+  pub part : IsAtFirst s t a b (pieces a b) heights k d
+
+-- a touch names the centre of a deepest one of the cells in the way
+pub record IsDeepest (g : Grid) (In : ℕ → ℕ → Type 0) (touch : Touch) : Type 0 where
+  pub cell : ℕ
+  pub found : In cell touch.depth
+  pub place : touch.place ≡ centre g cell
+  pub greatest : (k d : ℕ) → In k d → d ≤ touch.depth
+
+-- the deeper of two touches; of equal ones the first
+abbrev pub deeper : Option Touch → Option Touch → Option Touch
+deeper None other = other
+deeper (Some one) None = Some one
+deeper (Some one) (Some other) = if nat_lt one.depth other.depth then Some other else Some one

@@ -1,0 +1,68 @@
+-- Following a program's commands through the material. Our own.
+use Rattle.std.specs.Prelude.{◌≡◌, ℕ, ◌+◌, ◌⊎◌, List, [], ◌∷◌, ◌++◌, Option, Some, None, if◌then◌else◌, ◌==◌}
+use Rattle.ngc_machine_files.specs.declared.tools.Tool.{Tool}
+use Rattle.ngc_commands.specs.declared.command.Action.{Action}
+use Rattle.ngc_commands.specs.declared.command.Action.TheVariants.{Move}
+use Rattle.ngc_commands.specs.declared.command.Command.{Command}
+use Rattle.ngc_commands.specs.declared.movement.Feed.TheVariants.{PerMinute}
+use Rattle.ngc_commands.specs.declared.movement.Way.{Way}
+use Rattle.ngc_commands.specs.declared.movement.Way.TheVariants.{Line, Arc}
+use Rattle.ngc_commands.specs.declared.movement.Pace.{Pace}
+use Rattle.ngc_commands.specs.declared.movement.Pace.TheVariants.{Rapid, Feed}
+use Rattle.ngc_commands.specs.declared.reached.Reached.{Reached}
+use Rattle.ngc_commands.specs.Reached.{after}
+use Rattle.ngc_stock.specs.declared.stock.Stock.{Stock}
+use Rattle.ngc_stock.specs.Walk.{IsStep, AreCut}
+use Rattle.ngc_material.specs.Touches.{IsInWay, IsDeepest}
+use Rattle.ngc_material.specs.declared.touch.Touch.{Touch}
+use Rattle.ngc_material.specs.declared.walk.Found.{Found}
+
+-- a straight traverse that may touch material; it then counts as a feed
+abbrev pub IsTouchedOn : Stock → Tool → Way → Pace → List ℕ → List ℕ → Touch → Type 0
+IsTouchedOn s t (Line a b) Rapid old new touch = IsDeepest s.grid (IsInWay s t a b old) touch × AreCut s t a b old new
+IsTouchedOn s t (Line a b) (Feed f) old new touch = ⊥
+IsTouchedOn s t (Arc arc) pace old new touch = ⊥
+
+abbrev pub IsTouched : Stock → Option Tool → Action → List ℕ → List ℕ → Touch → Type 0
+IsTouched s None action old new touch = ⊥
+IsTouched s (Some t) (Move m) old new touch = IsTouchedOn s t m.way m.pace old new touch
+IsTouched s (Some t) _ old new touch = ⊥
+
+abbrev pub number_of : Option Tool → ℕ
+number_of None = 0
+number_of (Some t) = t.number
+
+-- a command with this index may touch material
+pub record IsFound (s : Stock) (mounted : Option Tool) (index : ℕ) (c : Command) (old new : List ℕ) (f : Found) : Type 0 where
+  pub command : f.command ≡ index
+  pub line : f.line ≡ c.line
+  pub tool : f.tool ≡ number_of mounted
+  pub touch : IsTouched s mounted c.action old new f.touch
+
+-- a command is silent, or it is added to what is found
+abbrev pub IsFollowed : Stock → Option Tool → ℕ → Command → List ℕ → List ℕ → List Found → List Found → Type 0
+IsFollowed s tool index c old new before later =
+    (IsStep s tool c.action old new × (later ≡ before))
+    ⊎ ((f : Found) × (later ≡ before ++ f ∷ []) × IsFound s tool index c old new f)
+
+-- what a walk reports: each command is silent, or it is the next one that is reported
+abbrev pub AreFound : Stock → Reached → List ℕ → ℕ → List Command → List Found → Type 0
+AreFound s r heights index [] found = found ≡ []
+AreFound s r heights index (c ∷ cs) found =
+    (next : List ℕ) ×
+    ((IsStep s r.tool c.action heights next × AreFound s (after r c.action) next (index + 1) cs found)
+    ⊎ ((f : Found) × (rest : List Found) × (found ≡ f ∷ rest) × IsFound s r.tool index c heights next f ×
+    AreFound s (after r c.action) next (index + 1) cs rest))
+
+-- ---- the program in which each traverse that is reported is a feed
+
+abbrev pub as_feed : Action → Action
+as_feed (Move m) = Move (record m { pace = Feed (PerMinute 0) })
+as_feed action = action
+
+abbrev pub with_feeds : ℕ → List Command → List Found → List Command
+with_feeds index [] found = []
+with_feeds index (c ∷ cs) [] = c ∷ with_feeds (index + 1) cs []
+with_feeds index (c ∷ cs) (f ∷ fs) =
+    if f.command == index then record c { action = as_feed c.action } ∷ with_feeds (index + 1) cs fs
+    else c ∷ with_feeds (index + 1) cs (f ∷ fs)

@@ -1,0 +1,16 @@
+//! A walk over the commands of a machine that keeps the heights of the material that straight feeds
+//! leave, and finds straight traverses that may touch it.
+#![tactic(auto)]
+
+mod cutter;
+mod cutting;
+pub mod laws;
+mod line;
+mod material;
+mod reach;
+mod touch;
+mod walk;
+
+pub use cutter::{is_thin, margin};
+pub use touch::Touch;
+pub use walk::{Found, WalkFault, find_touches};

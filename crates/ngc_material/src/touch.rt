@@ -1,0 +1,174 @@
+//! Where a traverse may touch material.
+ghost use Rattle.std.specs.Prelude.{◌≡◌, ◌≤◌, ◌<◌, ◌+◌, ◌*◌, ◌-◌, pos, ◌+ℤ◌, IfNone, IfSome, IsTrue, length, unsigned_abs};
+ghost use Rattle.ngc_cells.specs.Stretches.{RADIUS_LIMIT, IsStretch};
+ghost use Rattle.ngc_cells.specs.Grids.{IsGrid, AreBelow};
+ghost use Rattle.ngc_stock.specs.Stocks.{level_of, lowest_tip, piece, point_at, radius, reduction, rise, tolerance};
+ghost use Rattle.ngc_stock.specs.Walk.{IsClear};
+ghost use Rattle.ngc_material.specs.Heights.{AreHeights, is_reached};
+ghost use Rattle.ngc_material.specs.Touches.{IsDeep, IsDeepest, IsInWay, deeper};
+
+use crate::cutter::{level_of, radius, reduction, sigma};
+use crate::line::Line;
+use ngc_cells::{Grid, Spot, Stretch, highest_above};
+use ngc_machine_files::Tool;
+use ngc_stock::Stock;
+
+/// Where a traverse may touch material: the centre of a cell, and how far below its height the tool's
+/// tip is at most, in nanometres.
+#[derive(Clone, Copy)]
+pub struct Touch {
+    pub place: Spot,
+    pub depth: u32,
+}
+
+/// What is tested at once: the cells near a stretch that are higher than a limit, and the height of
+/// the tip there. Both heights are above the stock's bottom.
+#[derive(Clone, Copy)]
+pub(crate) struct Probe {
+    pub(crate) stretch: Stretch,
+    pub(crate) radius: u32,
+    pub(crate) limit: u32,
+    pub(crate) tip: u32,
+}
+
+/// Returns the deeper of two touches, or the one that there is.
+fn deeper(first: Option<Touch>, second: Option<Touch>) -> Option<Touch>
+    ensures { result ≡ deeper first second }
+{
+    match (first, second) {
+        (Some(one), Some(other)) => {
+            if one.depth < other.depth {
+                Some(other)
+            } else {
+                Some(one)
+            }
+        }
+        (Some(one), None) => Some(one),
+        (None, _) => second,
+    }
+}
+
+/// Returns a deepest cell of those that a probe finds, or `None` if it finds none.
+fn touch_at(grid: &Grid, heights: &[u32], probe: &Probe) -> Option<Touch>
+    requires grid { IsGrid grid.now }
+    requires count { length heights.now ≡ grid.now.columns * grid.now.rows }
+    requires stretch { IsStretch probe.now.stretch }
+    requires radius { probe.now.radius ≤ RADIUS_LIMIT }
+    ensures none { IfNone result (AreBelow grid.now probe.now.stretch probe.now.radius probe.now.limit heights.now) }
+    ensures some { IfSome result (IsDeepest grid.now
+        (IsDeep grid.now probe.now.stretch probe.now.radius probe.now.limit probe.now.tip heights.now)) }
+{
+    match highest_above(grid, heights, &probe.stretch, probe.radius, probe.limit) {
+        Some(peak) => Some(Touch {
+            place: grid.centre(peak.cell),
+            depth: peak.height.saturating_sub(probe.tip),
+        }),
+        None => None,
+    }
+}
+
+// Returns how far material may be above a tip and isn't reported.
+fn tolerance(grid: &Grid) -> i64
+    ensures value { result ≡ pos (tolerance grid.now) }
+    ensures bound { tolerance grid.now ≤ 700000000 }
+{
+    10_000 + 2 * sigma(grid) as i64
+}
+
+// Returns the same for the pieces of a line.
+fn room(grid: &Grid, line: &Line) -> i64
+    ensures value { result ≡ pos (tolerance grid.now + 2 * rise line.now.start line.now.end) }
+    ensures bound { tolerance grid.now + 2 * rise line.now.start line.now.end ≤ 500000000000 }
+{
+    tolerance(grid) + 2 * line.rise() as i64
+}
+
+// Returns a level at this distance above a height.
+fn level_above(stock: &Stock, height: i64, room: i64) -> u32
+    requires height { unsigned_abs height ≤ 400000000000000 }
+    requires room { unsigned_abs room ≤ 500000000000 }
+    ensures { result ≡ level_of stock.now (height +ℤ room) }
+{
+    level_of(stock, height + room)
+}
+
+// Returns the radius of the cutter that is tested, or `None` for a thinner cutter than the reduction.
+fn tested_radius(grid: &Grid, tool: &Tool) -> Option<u32>
+    requires { IsGrid grid.now }
+    ensures none { IfNone result (radius tool.now < reduction grid.now) }
+    ensures some { IfSome result (λ r. r ≡ radius tool.now - reduction grid.now) }
+    ensures thick { IfSome result (λ r. reduction grid.now ≤ radius tool.now) }
+    ensures bound { IfSome result (λ r. r ≤ RADIUS_LIMIT) }
+{
+    let reduction = reduction(grid);
+    let whole = u64::from(radius(tool));
+    if whole < reduction {
+        return None;
+    }
+    Some((whole - reduction) as u32)
+}
+
+// Returns what is tested at the end of a traverse.
+fn end_probe(stock: &Stock, tool: &Tool, line: &Line, tested: u32) -> Probe
+    ensures { result ≡ record {
+      stretch = point_at line.now.end;
+      radius = tested;
+      limit = level_of stock.now ((line.now.end.z +ℤ tool.now.bottom) +ℤ pos (tolerance stock.now.grid));
+      tip = level_of stock.now (line.now.end.z +ℤ tool.now.bottom);
+    } }
+{
+    let tip = line.last_tip(tool);
+    Probe {
+        stretch: line.end_point(),
+        radius: tested,
+        limit: level_above(stock, tip, tolerance(&stock.grid)),
+        tip: level_of(stock, tip),
+    }
+}
+
+// Returns what is tested at a piece of a traverse.
+fn piece_probe(stock: &Stock, tool: &Tool, line: &Line, part: u32, tested: u32) -> Probe
+    requires { part < 1000 }
+    ensures { result ≡ record {
+      stretch = piece line.now.start line.now.end part;
+      radius = tested;
+      limit = level_of stock.now (lowest_tip tool.now line.now.start line.now.end part
+          +ℤ pos (tolerance stock.now.grid + 2 * rise line.now.start line.now.end));
+      tip = level_of stock.now (lowest_tip tool.now line.now.start line.now.end part);
+    } }
+{
+    let tip = line.lowest_tip(tool, part);
+    Probe {
+        stretch: line.piece(part),
+        radius: tested,
+        limit: level_above(stock, tip, room(&stock.grid, line)),
+        tip: level_of(stock, tip),
+    }
+}
+
+/// Returns where a traverse may touch material deepest, or `None` if it touches none.
+pub(crate) fn deepest_touch(
+    stock: &Stock,
+    heights: &[u32],
+    tool: &Tool,
+    line: &Line,
+) -> Option<Touch>
+    requires heights { AreHeights stock.now heights.now }
+    requires start { IsTrue (is_reached line.now.start) }
+    requires end { IsTrue (is_reached line.now.end) }
+    ensures none { IfNone result (IsClear stock.now tool.now line.now.start line.now.end heights.now) }
+    ensures some { IfSome result (IsDeepest stock.now.grid
+        (IsInWay stock.now tool.now line.now.start line.now.end heights.now)) }
+{
+    let grid = &stock.grid;
+    let Some(tested) = tested_radius(grid, tool) else {
+        return None;
+    };
+    let probe = end_probe(stock, tool, line, tested);
+    let mut deepest = touch_at(grid, heights, &probe);
+    for part in 0..line.pieces() {
+        let probe = piece_probe(stock, tool, line, part, tested);
+        deepest = deeper(deepest, touch_at(grid, heights, &probe));
+    }
+    deepest
+}

@@ -1,0 +1,106 @@
+//! A walk over the commands of a program.
+ghost use Rattle.std.specs.Prelude.{◌≡◌, ◌↔◌, IfOk, IfErr, OnOk, IsTrue};
+ghost use Rattle.ngc_cells.specs.Grids.{IsGrid};
+ghost use Rattle.ngc_stock.specs.Walk.{uncut};
+ghost use Rattle.ngc_material.specs.Heights.{are_reached, is_action_reached};
+ghost use Rattle.ngc_material.specs.Walks.{AreFound, IsFollowed, number_of};
+
+use crate::material::Material;
+use crate::reach::are_reached;
+use crate::touch::Touch;
+use ngc_commands::{Command, Reached};
+use ngc_machine_files::Tool;
+use ngc_stock::Stock;
+use std::alloc::{AllocError, Allocator};
+
+/// A straight traverse that may touch material.
+#[derive(Clone, Copy)]
+pub struct Found {
+    /// The index of its command.
+    pub command: usize,
+    /// The number of the line in the file, from 1.
+    pub line: u32,
+    /// The number of the mounted tool.
+    pub tool: u32,
+    pub touch: Touch,
+}
+
+/// Why a walk isn't made.
+#[derive(Clone, Copy, PartialEq, Eq)]
+pub enum WalkFault {
+    /// Memory was refused.
+    Memory,
+    /// A straight motion is more than two metres from the machine's zero, in the plane.
+    Far,
+}
+
+fn number_of(tool: &Option<Tool>) -> u32
+    ensures { result ≡ number_of tool.now }
+{
+    match tool {
+        Some(tool) => tool.number,
+        None => 0,
+    }
+}
+
+// Follows a command with its index and the mounted tool. If it may touch material, it is added to what
+// is found.
+fn follow<A: Allocator>(
+    material: &mut Material<A>,
+    found: &mut Vec<Found, A>,
+    tool: &Option<Tool>,
+    index: usize,
+    command: &Command,
+) -> Result<(), AllocError>
+    requires { IsTrue (is_action_reached command.now.action) }
+    ensures stock { OnOk result (material.new.stock ≡ material.old.stock) }
+    ensures found { OnOk result (IsFollowed material.old.stock tool.now index command.now
+        material.old.heights.items material.new.heights.items found.old.items found.new.items) }
+{
+    if let Some(touch) = material.follow(tool, &command.action) {
+        found.push(Found {
+            command: index,
+            line: command.line,
+            tool: number_of(tool),
+            touch,
+        })?;
+    }
+    Ok(())
+}
+
+/// Returns the straight traverses of a program that may touch material, in order: `commands` are the
+/// program's commands at a setting of block delete, from a state with the material uncut. A traverse
+/// that is found then counts as a feed. Arcs are left out, and so are motions without a tool.
+///
+/// It fails if memory is refused, or if a straight motion is far from the machine's zero.
+pub fn find_touches<A: Allocator + Copy>(
+    alloc: A,
+    stock: &Stock,
+    start: &Reached,
+    commands: &[Command],
+) -> Result<Vec<Found, A>, WalkFault>
+    requires { IsGrid stock.now.grid }
+    ensures found { IfOk result (λ v. AreFound stock.now start.now (uncut stock.now) 0 commands.now v.items) }
+    ensures near { IfOk result (λ v. IsTrue (are_reached commands.now)) }
+    ensures far { IfErr result (λ e. (e ≡ WalkFault.Far) ↔ ¬ (IsTrue (are_reached commands.now))) }
+{
+    if !are_reached(commands) {
+        return Err(WalkFault::Far);
+    }
+    let Ok(mut material) = Material::new(alloc, stock) else {
+        return Err(WalkFault::Memory);
+    };
+    let mut found = Vec::new(alloc);
+    let mut reached = *start;
+    let mut left = commands;
+    while let Some((command, later)) = left.split_first() {
+        let index = commands.len() - left.len();
+        match follow(&mut material, &mut found, &reached.tool, index, command) {
+            Ok(()) => {}
+            Err(_) => return Err(WalkFault::Memory),
+        }
+        reached = reached.after(&command.action);
+        left = later;
+    }
+    Ok(found)
+}

@@ -1,0 +1,50 @@
+//! The stocks and the tools.
+ghost use Rattle.ngc_cells.specs.Grids.{IsGrid};
+
+use ngc_cells::{Grid, Spot};
+use ngc_machine_files::Tools;
+use ngc_stock::Stock;
+use std::alloc::Global;
+
+const TOOLS: &str = "version = 2\n
+[[tool]]\nnumber = 1\noffset = 0\nbottom = 0\nparts = [{ length = 20000000, radius = 3000000 }]\n
+[[tool]]\nnumber = 2\noffset = 0\nbottom = -20000000\nparts = [{ length = 20000000, radius = 1500000 }, { length = 9000000, radius = 9000000 }]\n
+[[tool]]\nnumber = 3\noffset = 0\nbottom = 0\nparts = [{ length = 20000000, radius = 500000 }]\n
+[[tool]]\nnumber = 4\noffset = 0\nbottom = -3\nparts = [{ length = 20000000, radius = 700007 }]\n";
+
+/// Returns four tools: 6 mm wide; 3 mm wide, 20 mm long and with a holder; 1 mm wide; 1.4 mm wide.
+pub(crate) fn tools(alloc: Global) -> Option<Tools<Global>> {
+    Tools::read(alloc, TOOLS.as_bytes()).ok()
+}
+
+/// Returns the stock of a number. Number 2 has cells of 0.6 mm, and odd numbers of nanometres. Any
+/// other is X 0 to 40 mm, Y 0 to 20 mm, Z -15 to -5 mm, in cells of 1 mm.
+pub(crate) fn numbered(number: i64) -> Stock
+    ensures { IsGrid result.grid }
+{
+    match number {
+        2 => Stock {
+            grid: Grid {
+                corner: Spot {
+                    x: -7_300_001,
+                    y: -3_000_007,
+                },
+                half: 300_001,
+                columns: 31,
+                rows: 17,
+            },
+            bottom: -9_000_003,
+            height: 4_000_001,
+        },
+        _ => Stock {
+            grid: Grid {
+                corner: Spot { x: 0, y: 0 },
+                half: 500_000,
+                columns: 40,
+                rows: 20,
+            },
+            bottom: -15_000_000,
+            height: 10_000_000,
+        },
+    }
+}
