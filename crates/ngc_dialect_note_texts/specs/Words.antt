@@ -1,13 +1,12 @@
 -- What notes say, and the remark after it. Our own.
 use Rattle.std.specs.Prelude.{ℕ, List, codes}
 use Rattle.ngc_dialect_notes.specs.declared.kind.Class.{Class}
-use Rattle.ngc_dialect_notes.specs.declared.kind.Class.TheVariants.{Exact, Bound, Told, Chosen}
+use Rattle.ngc_dialect_notes.specs.declared.kind.Class.TheVariants.{Exact, Told, Chosen}
 use Rattle.ngc_dialect_notes.specs.declared.kind.Kind.{Kind}
 use Rattle.ngc_dialect_notes.specs.declared.kind.Kind.TheVariants as kinds
 
 abbrev pub class_text : Class → List ℕ
 class_text Exact = codes "exact"
-class_text Bound = codes "bound"
 class_text Told = codes "told"
 class_text Chosen = codes "chosen"
 
@@ -50,7 +49,6 @@ kind_text kinds.NoPoint = codes "numbers without a point"
 kind_text kinds.FirstTraverse = codes "motions before the first motion code"
 kind_text kinds.FullCircle = codes "arcs without an axis word of their plane"
 kind_text kinds.CentreMode = codes "I, J and K before G90.1 or G91.1"
-kind_text kinds.MovedCentre = codes "arcs whose radii at start and end differ"
 kind_text kinds.CycleInGrbl = codes "canned cycles for Grbl"
 kind_text kinds.StartRetract = codes "canned cycles before G98 or G99"
 kind_text kinds.NoDwell = codes "G82, G86 or G89 without P"
@@ -62,7 +60,6 @@ kind_text kinds.Homing = codes "$H left out"
 kind_text kinds.DeleteLevel = codes "/2 to /9"
 kind_text kinds.FirstTool = codes "a tool mounted before the first line"
 kind_text kinds.ProgramEnd = codes "a program without M2 and M30"
-kind_text kinds.ReturnAsEnd = codes "M99 outside of a subprogram"
 
 -- what execution does
 unfoldable pub remark_text : Kind → List ℕ
@@ -104,7 +101,6 @@ remark_text kinds.NoPoint =
 remark_text kinds.FirstTraverse = codes "they are executed as G0"
 remark_text kinds.FullCircle = codes "each is a full circle"
 remark_text kinds.CentreMode = codes "they lead from the start of the arc to its centre"
-remark_text kinds.MovedCentre = codes "the centre moves by at most 0.025 mm along an axis"
 remark_text kinds.CycleInGrbl = codes "Grbl 1.1 has none; here they move as in LinuxCNC"
 remark_text kinds.StartRetract = codes "the tool clears holes to the initial level"
 remark_text kinds.NoDwell = codes "they don't wait"
@@ -117,4 +113,3 @@ remark_text kinds.Homing = codes "the axes don't go home"
 remark_text kinds.DeleteLevel = codes "each is executed as /"
 remark_text kinds.FirstTool = codes "it is the only tool of the tool table"
 remark_text kinds.ProgramEnd = codes "it ends after its last line, as by M2"
-remark_text kinds.ReturnAsEnd = codes "it ends the program"

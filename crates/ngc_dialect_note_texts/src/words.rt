@@ -9,7 +9,6 @@ pub(crate) fn class_text(class: Class) -> &'static [u8]
 {
     match class {
         Class::Exact => b"exact",
-        Class::Bound => b"bound",
         Class::Told => b"told",
         Class::Chosen => b"chosen",
     }
@@ -58,7 +57,6 @@ pub(crate) fn kind_text(kind: Kind) -> &'static [u8]
         Kind::FirstTraverse => b"motions before the first motion code",
         Kind::FullCircle => b"arcs without an axis word of their plane",
         Kind::CentreMode => b"I, J and K before G90.1 or G91.1",
-        Kind::MovedCentre => b"arcs whose radii at start and end differ",
         Kind::CycleInGrbl => b"canned cycles for Grbl",
         Kind::StartRetract => b"canned cycles before G98 or G99",
         Kind::NoDwell => b"G82, G86 or G89 without P",
@@ -70,7 +68,6 @@ pub(crate) fn kind_text(kind: Kind) -> &'static [u8]
         Kind::DeleteLevel => b"/2 to /9",
         Kind::FirstTool => b"a tool mounted before the first line",
         Kind::ProgramEnd => b"a program without M2 and M30",
-        Kind::ReturnAsEnd => b"M99 outside of a subprogram",
     }
 }
 
@@ -117,7 +114,6 @@ pub(crate) fn remark_text(kind: Kind) -> &'static [u8]
         Kind::FirstTraverse => b"they are executed as G0",
         Kind::FullCircle => b"each is a full circle",
         Kind::CentreMode => b"they lead from the start of the arc to its centre",
-        Kind::MovedCentre => b"the centre moves by at most 0.025 mm along an axis",
         Kind::CycleInGrbl => b"Grbl 1.1 has none; here they move as in LinuxCNC",
         Kind::StartRetract => b"the tool clears holes to the initial level",
         Kind::NoDwell => b"they don't wait",
@@ -130,6 +126,5 @@ pub(crate) fn remark_text(kind: Kind) -> &'static [u8]
         Kind::DeleteLevel => b"each is executed as /",
         Kind::FirstTool => b"it is the only tool of the tool table",
         Kind::ProgramEnd => b"it ends after its last line, as by M2",
-        Kind::ReturnAsEnd => b"it ends the program",
     }
 }

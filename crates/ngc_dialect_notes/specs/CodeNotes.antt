@@ -8,23 +8,24 @@ use Rattle.ngc_dialect_parameters.specs.declared.statement.Word.{Word}
 use Rattle.ngc_dialect_rules.specs.declared.code.Code.{Code}
 use Rattle.ngc_dialect_rules.specs.declared.front.Known.{Known}
 use Rattle.ngc_dialect_rules.specs.Bytes as bytes
+use Rattle.ngc_dialect_rules.specs.Moves.{dwells_by_axis, has_axes}
 use Rattle.ngc_dialect_rules.specs.Tables.{has, is_empty, is_fanuc, is_linuxcnc}
 use Rattle.ngc_dialect_rules.specs.Words.{has_letter, value_of, word_of}
-use Rattle.ngc_dialect_notes.specs.declared.codes.TheConstants as codes
+use Rattle.ngc_dialect_rules.specs.declared.codes.TheConstants as codes
+use Rattle.ngc_dialect_notes.specs.declared.noted.TheConstants as noted
 use Rattle.ngc_dialect_notes.specs.declared.kind.Kind.{Kind}
 use Rattle.ngc_dialect_notes.specs.declared.kind.Kind.TheVariants as kinds
 use Rattle.ngc_dialect_notes.specs.declared.notes.Notes.{Notes}
 use Rattle.ngc_dialect_notes.specs.Dialects.{is_grbl}
 use Rattle.ngc_dialect_notes.specs.InForce.{changes_units, ends_inverse_time, is_incremental}
 use Rattle.ngc_dialect_notes.specs.InForce.{is_per_minute}
-use Rattle.ngc_dialect_notes.specs.Motions.{dwells_by_axis, has_axes}
 use Rattle.ngc_dialect_notes.specs.Notes.{all_noted}
 
 -- ---- left out, or taken as another code
 
 abbrev pub has_tolerance : List Code → List Word → Bool
 has_tolerance line words =
-    has codes.BLENDING line && (has_letter bytes.P words || has_letter bytes.Q words)
+    has noted.BLENDING line && (has_letter bytes.P words || has_letter bytes.Q words)
 
 -- a code without axis words
 abbrev pub is_lone : List Code → Dialect → List Code → List Word → Bool
@@ -32,14 +33,14 @@ is_lone table d line words = has table line && not (has_axes d line words)
 
 unfoldable pub by_left_out : Known → List Code → List Word → List (Bool × Kind)
 by_left_out k line words =
-    (has codes.SWITCHES line, kinds.Switch)
-    ∷ (has codes.LOOK_AHEAD line, kinds.LookAhead)
+    (has noted.SWITCHES line, kinds.Switch)
+    ∷ (has noted.LOOK_AHEAD line, kinds.LookAhead)
     ∷ (has codes.IDLE line, kinds.IdleCode)
     ∷ (has_tolerance line words, kinds.PathTolerance)
     ∷ (is_lone codes.MACHINE_PLACE k.dialect line words, kinds.LoneMachinePlace)
     ∷ (is_lone codes.CYCLES k.dialect line words, kinds.LoneCycle)
-    ∷ (has codes.OLD_UNITS line, kinds.OldUnits)
-    ∷ (has codes.TOOL_CENTRE line, kinds.ToolCentre) ∷ []
+    ∷ (has noted.OLD_UNITS line, kinds.OldUnits)
+    ∷ (has noted.TOOL_CENTRE line, kinds.ToolCentre) ∷ []
 
 -- ---- tools
 

@@ -11,12 +11,6 @@ abbrev pub is_mach3 : Dialect → Bool
 is_mach3 dialects.Mach3 = true
 is_mach3 _ = false
 
--- P of an arc counts its turns
-abbrev pub counts_turns : Dialect → Bool
-counts_turns dialects.LinuxCnc = true
-counts_turns dialects.Grbl = true
-counts_turns _ = false
-
 -- a cycle's line may leave out words of another cycle's code
 abbrev pub keeps_words : Dialect → Bool
 keeps_words dialects.Mach3 = true

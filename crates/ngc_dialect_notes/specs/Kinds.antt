@@ -1,6 +1,6 @@
 -- What execution keeps of a construct, by its kind of note. Our own.
 use Rattle.ngc_dialect_notes.specs.declared.kind.Class.{Class}
-use Rattle.ngc_dialect_notes.specs.declared.kind.Class.TheVariants.{Exact, Bound, Told, Chosen}
+use Rattle.ngc_dialect_notes.specs.declared.kind.Class.TheVariants.{Exact, Told, Chosen}
 use Rattle.ngc_dialect_notes.specs.declared.kind.Kind.{Kind}
 use Rattle.ngc_dialect_notes.specs.declared.kind.Kind.TheVariants as kinds
 
@@ -42,7 +42,6 @@ class_of kinds.NoPoint = Chosen
 class_of kinds.FirstTraverse = Exact
 class_of kinds.FullCircle = Exact
 class_of kinds.CentreMode = Chosen
-class_of kinds.MovedCentre = Bound
 class_of kinds.CycleInGrbl = Chosen
 class_of kinds.StartRetract = Chosen
 class_of kinds.NoDwell = Told
@@ -54,4 +53,3 @@ class_of kinds.Homing = Told
 class_of kinds.DeleteLevel = Told
 class_of kinds.FirstTool = Told
 class_of kinds.ProgramEnd = Told
-class_of kinds.ReturnAsEnd = Told

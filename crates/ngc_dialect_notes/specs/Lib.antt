@@ -1,7 +1,6 @@
 pub mod Kinds
 pub mod KindNumbers
 pub mod Dialects
-pub mod LineCodes
 pub mod InForce
 pub mod Motions
 pub mod Notes
@@ -9,4 +8,3 @@ pub mod CodeNotes
 pub mod WordNotes
 pub mod MotionNotes
 pub mod Noted
-pub mod Laws

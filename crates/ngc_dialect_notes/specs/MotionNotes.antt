@@ -9,9 +9,11 @@ use Rattle.ngc_dialect_rules.specs.declared.front.KeptSeries.{KeptSeries}
 use Rattle.ngc_dialect_rules.specs.declared.front.Known.{Known}
 use Rattle.ngc_dialect_rules.specs.Bytes as bytes
 use Rattle.ngc_dialect_rules.specs.Codes.{is_code}
+use Rattle.ngc_dialect_rules.specs.Moves.{has_offsets}
 use Rattle.ngc_dialect_rules.specs.Tables.{is_among, is_fanuc, is_linuxcnc}
 use Rattle.ngc_dialect_rules.specs.Words.{has_letter, word_of}
-use Rattle.ngc_dialect_notes.specs.declared.codes.TheConstants as tables
+use Rattle.ngc_dialect_rules.specs.declared.codes.TheConstants as tables
+use Rattle.ngc_dialect_notes.specs.declared.noted.TheConstants as noted
 use Rattle.ngc_dialect_notes.specs.declared.kind.Kind.{Kind}
 use Rattle.ngc_dialect_notes.specs.declared.kind.Kind.TheVariants as kinds
 use Rattle.ngc_dialect_notes.specs.declared.notes.Notes.{Notes}
@@ -19,7 +21,6 @@ use Rattle.ngc_dialect_notes.specs.declared.notes.Said.{Said}
 use Rattle.ngc_dialect_notes.specs.CodeNotes.{is_in_milliseconds}
 use Rattle.ngc_dialect_notes.specs.Dialects.{is_grbl, is_mach3, keeps_words}
 use Rattle.ngc_dialect_notes.specs.InForce.{depth_letter, plane_on, u_letter, v_letter}
-use Rattle.ngc_dialect_notes.specs.Motions.{has_offsets}
 use Rattle.ngc_dialect_notes.specs.Notes.{all_noted, note_if}
 
 -- ---- arcs
@@ -47,7 +48,7 @@ has_kept_dwell d code (Some s) = is_some s.dwell && (is_code s.code code || keep
 
 abbrev pub has_no_dwell : Known → Code → List Word → Bool
 has_no_dwell k code words =
-    is_among tables.DWELLING code && not (has_letter bytes.P words)
+    is_among noted.DWELLING code && not (has_letter bytes.P words)
     && not (has_kept_dwell k.dialect code k.front.series)
 
 -- a line lacks R, the depth, the P of a cycle that dwells, or the Q of one that pecks
@@ -55,8 +56,8 @@ abbrev pub lacks_word : Known → List Code → Code → List Word → Bool
 lacks_word k line code words =
     not (has_letter bytes.R words)
     || not (has_letter (depth_letter (plane_on k.modes.plane line)) words)
-    || (is_among tables.DWELLING code && not (has_letter bytes.P words))
-    || (is_among tables.PECKS code && not (has_letter bytes.Q words))
+    || (is_among noted.DWELLING code && not (has_letter bytes.P words))
+    || (is_among noted.PECKS code && not (has_letter bytes.Q words))
 
 -- the series before has another code
 abbrev pub follows_other : Code → Option KeptSeries → Bool
@@ -72,7 +73,7 @@ counts_holes d words = is_fanuc d && (has_letter bytes.K words || has_letter byt
 
 abbrev pub dwells_in_milliseconds : Dialect → Code → List Word → Bool
 dwells_in_milliseconds d code words =
-    is_fanuc d && is_among tables.DWELLING code && is_in_milliseconds (word_of bytes.P words)
+    is_fanuc d && is_among noted.DWELLING code && is_in_milliseconds (word_of bytes.P words)
 
 unfoldable pub by_cycle : Known → Said → List Code → Code → List Word → List (Bool × Kind)
 by_cycle k said line code words =
@@ -80,8 +81,8 @@ by_cycle k said line code words =
     ∷ (not said.retract, kinds.StartRetract)
     ∷ (has_no_dwell k code words, kinds.NoDwell)
     ∷ (dwells_in_milliseconds k.dialect code words, kinds.Milliseconds)
-    ∷ (is_among tables.CLEARING code, kinds.PeckClearance)
-    ∷ (is_among tables.CHIP_BREAKING code, kinds.ChipBreaking)
+    ∷ (is_among noted.CLEARING code, kinds.PeckClearance)
+    ∷ (is_among noted.CHIP_BREAKING code, kinds.ChipBreaking)
     ∷ (takes_kept_words k line code words, kinds.KeptWords)
     ∷ (counts_holes k.dialect words, kinds.HoleCount) ∷ []
 

@@ -3,7 +3,7 @@ use Rattle.std.specs.Prelude.{ℕ, ◌+◌, ◌==◌, min, Bool, false, ◌||◌
 use Rattle.std.specs.Prelude.{Option, Some, None, if◌then◌else◌}
 use Rattle.ngc_dialect_rules.specs.declared.code.Code.{Code}
 use Rattle.ngc_dialect_rules.specs.Tables.{has}
-use Rattle.ngc_dialect_notes.specs.declared.codes.TheConstants as codes
+use Rattle.ngc_dialect_rules.specs.declared.codes.TheConstants as codes
 use Rattle.ngc_dialect_notes.specs.declared.kind.Kind.{Kind}
 use Rattle.ngc_dialect_notes.specs.declared.notes.Note.{Note}
 use Rattle.ngc_dialect_notes.specs.declared.notes.Notes.{Notes}
@@ -59,4 +59,4 @@ abbrev pub hearing : List Code → Notes → Notes
 hearing line n = record n { said = said_with line n.said }
 
 abbrev pub no_notes : Notes
-no_notes = record { places = replicate 50 None; said = nothing_said }
+no_notes = record { places = replicate 48 None; said = nothing_said }

@@ -8,15 +8,15 @@ use Rattle.ngc_dialect_parameters.specs.declared.statement.Word.{Word}
 use Rattle.ngc_dialect_rules.specs.declared.code.Code.{Code}
 use Rattle.ngc_dialect_rules.specs.declared.front.Known.{Known}
 use Rattle.ngc_dialect_rules.specs.Bytes as bytes
+use Rattle.ngc_dialect_rules.specs.Moves.{counts_turns, is_one_of}
 use Rattle.ngc_dialect_rules.specs.Tables.{has, is_fanuc, or_else}
 use Rattle.ngc_dialect_rules.specs.Words.{is_other_axis}
-use Rattle.ngc_dialect_notes.specs.declared.codes.TheConstants as codes
+use Rattle.ngc_dialect_rules.specs.declared.codes.TheConstants as codes
+use Rattle.ngc_dialect_notes.specs.declared.noted.TheConstants as noted
 use Rattle.ngc_dialect_notes.specs.declared.kind.Kind.{Kind}
 use Rattle.ngc_dialect_notes.specs.declared.kind.Kind.TheVariants as kinds
 use Rattle.ngc_dialect_notes.specs.declared.notes.Notes.{Notes}
-use Rattle.ngc_dialect_notes.specs.Dialects.{counts_turns}
 use Rattle.ngc_dialect_notes.specs.InForce.{plane_on, third_offset}
-use Rattle.ngc_dialect_notes.specs.LineCodes.{is_one_of}
 use Rattle.ngc_dialect_notes.specs.Notes.{counted}
 
 -- ---- words that nothing uses
@@ -39,14 +39,14 @@ idle_kind letter =
 unfoldable pub users_of : Dialect → ℕ → List Code
 users_of d letter =
     if letter == bytes.D then codes.D_USERS else (
-    if letter == bytes.E then codes.E_USERS else (
+    if letter == bytes.E then noted.E_USERS else (
     if letter == bytes.H then codes.H_USERS else (
-    if letter == bytes.K then (if is_fanuc d then codes.K_USERS_WITH_HOLES else codes.ARCS) else (
+    if letter == bytes.K then (if is_fanuc d then noted.ARCS_AND_CYCLES else codes.ARCS) else (
     if letter == bytes.L then codes.L_USERS else (
     if letter == bytes.P
-    then (if counts_turns d then codes.P_USERS_WITH_TURNS else codes.P_USERS) else (
-    if letter == bytes.Q then codes.Q_USERS else (
-    if letter == bytes.R then codes.R_USERS else codes.ARCS)))))))
+    then (if counts_turns d then noted.P_USERS_WITH_TURNS else noted.P_USERS) else (
+    if letter == bytes.Q then noted.Q_USERS else (
+    if letter == bytes.R then noted.ARCS_AND_CYCLES else codes.ARCS)))))))
 
 abbrev pub is_used : Dialect → List Code → Option Code → ℕ → Bool
 is_used d line motion letter =

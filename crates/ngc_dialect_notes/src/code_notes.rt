@@ -3,21 +3,23 @@ ghost use Rattle.std.specs.Prelude.{◌≡◌};
 ghost use Rattle.ngc_dialect_notes.specs.CodeNotes as spec;
 ghost use Rattle.ngc_dialect_notes.specs.Notes.{all_noted};
 
-use crate::codes;
+use crate::dialect::is_grbl;
 use crate::in_force::{changes_units, ends_inverse_time, is_incremental, is_per_minute};
 use crate::kind::Kind;
 use crate::motion::{dwells_by_axis, has_axes};
+use crate::noted;
 use crate::notes::Notes;
-use crate::table::{has, is_grbl};
 use ngc_dialect_numbers::Number;
 use ngc_dialect_parameters::Word;
 use ngc_dialect_reader::Dialect;
-use ngc_dialect_rules::{Code, Known, has_letter, is_fanuc, is_linuxcnc, value_of, word_of};
+use ngc_dialect_rules::{
+    Code, Known, codes, has, has_letter, is_fanuc, is_linuxcnc, value_of, word_of,
+};
 
 fn has_tolerance(line: &[Code], words: &[Word]) -> bool
     ensures { result ≡ spec.has_tolerance line.now words.now }
 {
-    has(&codes::BLENDING, line) && (has_letter(b'P', words) || has_letter(b'Q', words))
+    has(&noted::BLENDING, line) && (has_letter(b'P', words) || has_letter(b'Q', words))
 }
 
 // Returns whether a line has a code of a table and no axis words.
@@ -156,16 +158,16 @@ impl Notes {
             ≡ all_noted line (spec.by_left_out known.now codes.now words.now) self.old }
     {
         let dialect = known.dialect;
-        self.note_if(has(&codes::SWITCHES, codes), line, Kind::Switch);
-        self.note_if(has(&codes::LOOK_AHEAD, codes), line, Kind::LookAhead);
+        self.note_if(has(&noted::SWITCHES, codes), line, Kind::Switch);
+        self.note_if(has(&noted::LOOK_AHEAD, codes), line, Kind::LookAhead);
         self.note_if(has(&codes::IDLE, codes), line, Kind::IdleCode);
         self.note_if(has_tolerance(codes, words), line, Kind::PathTolerance);
         let lone_place = is_lone(&codes::MACHINE_PLACE, dialect, codes, words);
         self.note_if(lone_place, line, Kind::LoneMachinePlace);
         let lone_cycle = is_lone(&codes::CYCLES, dialect, codes, words);
         self.note_if(lone_cycle, line, Kind::LoneCycle);
-        self.note_if(has(&codes::OLD_UNITS, codes), line, Kind::OldUnits);
-        self.note_if(has(&codes::TOOL_CENTRE, codes), line, Kind::ToolCentre);
+        self.note_if(has(&noted::OLD_UNITS, codes), line, Kind::OldUnits);
+        self.note_if(has(&noted::TOOL_CENTRE, codes), line, Kind::ToolCentre);
     }
 
     #[tactic(auto, unfolding(crate::specs::Notes::all_noted, crate::specs::CodeNotes::by_tool))]

@@ -2,35 +2,48 @@
 ghost use Rattle.std.specs.Prelude.{◌≡◌};
 ghost use Rattle.ngc_dialect_notes.specs.InForce as spec;
 
-use crate::codes;
-use crate::table::has;
-use ngc_dialect_rules::Code;
+use ngc_dialect_rules::{Code, code_in, codes, is_among};
 use ngc_fixed_length::{Distance, FeedMode, Plane, Units};
+
+fn units_on(before: Units, line: &[Code]) -> Units
+    ensures { result ≡ spec.units_on before line.now }
+{
+    match code_in(&codes::UNITS, line) {
+        None => before,
+        Some(code) => {
+            if is_among(&codes::INCHES, code) {
+                Units::Inches
+            } else {
+                Units::Millimetres
+            }
+        }
+    }
+}
 
 pub(crate) fn changes_units(before: Units, line: &[Code]) -> bool
     ensures { result ≡ spec.changes_units before line.now }
 {
     match before {
-        Units::Millimetres => has(&codes::INCHES, line),
-        Units::Inches => has(&codes::MILLIMETRES, line),
+        Units::Millimetres => matches!(units_on(before, line), Units::Inches),
+        Units::Inches => matches!(units_on(before, line), Units::Millimetres),
     }
 }
 
 pub(crate) fn is_incremental(before: Distance, line: &[Code]) -> bool
     ensures { result ≡ spec.is_incremental before line.now }
 {
-    match before {
-        Distance::Absolute => has(&codes::INCREMENTAL, line),
-        Distance::Incremental => !has(&codes::ABSOLUTE, line),
+    match code_in(&codes::DISTANCES, line) {
+        None => matches!(before, Distance::Incremental),
+        Some(code) => is_among(&codes::INCREMENTAL, code),
     }
 }
 
 pub(crate) fn is_per_minute(before: FeedMode, line: &[Code]) -> bool
     ensures { result ≡ spec.is_per_minute before line.now }
 {
-    match before {
-        FeedMode::PerMinute => !has(&codes::INVERSE_TIME, line),
-        FeedMode::InverseTime => has(&codes::PER_MINUTE, line),
+    match code_in(&codes::FEED_MODES, line) {
+        None => matches!(before, FeedMode::PerMinute),
+        Some(code) => !is_among(&codes::INVERSE_TIME, code),
     }
 }
 
@@ -40,21 +53,24 @@ pub(crate) fn ends_inverse_time(before: FeedMode, line: &[Code]) -> bool
 {
     match before {
         FeedMode::PerMinute => false,
-        FeedMode::InverseTime => has(&codes::PER_MINUTE, line),
+        FeedMode::InverseTime => is_per_minute(before, line),
     }
 }
 
 pub(crate) fn plane_on(before: Plane, line: &[Code]) -> Plane
     ensures { result ≡ spec.plane_on before line.now }
 {
-    if has(&codes::PLANE_XY, line) {
-        Plane::XY
-    } else if has(&codes::PLANE_ZX, line) {
-        Plane::ZX
-    } else if has(&codes::PLANE_YZ, line) {
-        Plane::YZ
-    } else {
-        before
+    match code_in(&codes::PLANES, line) {
+        None => before,
+        Some(code) => {
+            if is_among(&codes::PLANE_ZX, code) {
+                Plane::ZX
+            } else if is_among(&codes::PLANE_YZ, code) {
+                Plane::YZ
+            } else {
+                Plane::XY
+            }
+        }
     }
 }
 

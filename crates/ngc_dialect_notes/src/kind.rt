@@ -8,8 +8,6 @@ ghost use Rattle.ngc_dialect_notes.specs.Kinds as spec;
 pub enum Class {
     /// The commands are the same.
     Exact,
-    /// The commands are the same within the length that the note names.
-    Bound,
     /// The motions are the same, and the note says what else is left out.
     Told,
     /// Controls differ, or a setting decides. The note says which meaning is executed.
@@ -96,8 +94,6 @@ pub enum Kind {
     FullCircle,
     /// Mach3's I, J and K before G90.1 and G91.1.
     CentreMode,
-    /// An arc whose centre is moved.
-    MovedCentre,
 
     // Canned cycles.
     /// A canned cycle for Grbl.
@@ -124,8 +120,6 @@ pub enum Kind {
     FirstTool,
     /// A program without M2 and M30.
     ProgramEnd,
-    /// M99 outside of a subprogram.
-    ReturnAsEnd,
 }
 
 impl Kind {
@@ -154,8 +148,7 @@ impl Kind {
             | Kind::Homing
             | Kind::DeleteLevel
             | Kind::FirstTool
-            | Kind::ProgramEnd
-            | Kind::ReturnAsEnd => Class::Told,
+            | Kind::ProgramEnd => Class::Told,
             Kind::IdleCode
             | Kind::PathTolerance
             | Kind::LoneMachinePlace
@@ -171,7 +164,6 @@ impl Kind {
             | Kind::FirstTraverse
             | Kind::FullCircle
             | Kind::HoleCount => Class::Exact,
-            Kind::MovedCentre => Class::Bound,
             Kind::ToolChange
             | Kind::MachinePlaceInG91
             | Kind::OriginAdded
@@ -231,19 +223,17 @@ impl Kind {
             Kind::FirstTraverse => 34,
             Kind::FullCircle => 35,
             Kind::CentreMode => 36,
-            Kind::MovedCentre => 37,
-            Kind::CycleInGrbl => 38,
-            Kind::StartRetract => 39,
-            Kind::NoDwell => 40,
-            Kind::PeckClearance => 41,
-            Kind::ChipBreaking => 42,
-            Kind::KeptWords => 43,
-            Kind::HoleCount => 44,
-            Kind::Homing => 45,
-            Kind::DeleteLevel => 46,
-            Kind::FirstTool => 47,
-            Kind::ProgramEnd => 48,
-            Kind::ReturnAsEnd => 49,
+            Kind::CycleInGrbl => 37,
+            Kind::StartRetract => 38,
+            Kind::NoDwell => 39,
+            Kind::PeckClearance => 40,
+            Kind::ChipBreaking => 41,
+            Kind::KeptWords => 42,
+            Kind::HoleCount => 43,
+            Kind::Homing => 44,
+            Kind::DeleteLevel => 45,
+            Kind::FirstTool => 46,
+            Kind::ProgramEnd => 47,
         }
     }
 }

@@ -3,15 +3,13 @@
 #![tactic(auto)]
 
 mod code_notes;
-mod codes;
+mod dialect;
 mod in_force;
 mod kind;
-pub mod laws;
-mod line_codes;
 mod motion;
 mod motion_notes;
+mod noted;
 mod notes;
-mod table;
 mod word_notes;
 
 pub use kind::{Class, Kind};

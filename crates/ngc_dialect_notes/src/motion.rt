@@ -1,15 +1,25 @@
 //! The motion that a line makes.
-ghost use Rattle.std.specs.Prelude.{◌≡◌};
+ghost use Rattle.std.specs.Prelude.{◌≡◌, ◌||◌};
+ghost use Rattle.ngc_dialect_rules.specs.declared.codes.TheConstants as codes;
+ghost use Rattle.ngc_dialect_rules.specs.Moves as moves;
+ghost use Rattle.ngc_dialect_rules.specs.Tables.{has};
 ghost use Rattle.ngc_dialect_notes.specs.Motions as spec;
 
-use crate::codes;
-use crate::table::{code_in, has, is_among};
 use ngc_dialect_parameters::Word;
 use ngc_dialect_reader::Dialect;
-use ngc_dialect_rules::{Code, Known, has_letter, is_fanuc};
+use ngc_dialect_rules::{Code, Known, code_in, codes, has, has_letter, is_among, is_fanuc};
+
+pub(crate) fn is_one_of(table: &[Code], code: Option<Code>) -> bool
+    ensures { result ≡ moves.is_one_of table.now code }
+{
+    match code {
+        None => false,
+        Some(code) => is_among(table, code),
+    }
+}
 
 pub(crate) fn dwells_by_axis(dialect: Dialect, line: &[Code], words: &[Word]) -> bool
-    ensures { result ≡ spec.dwells_by_axis dialect line.now words.now }
+    ensures { result ≡ moves.dwells_by_axis dialect line.now words.now }
 {
     is_fanuc(dialect)
         && has(&codes::DWELL, line)
@@ -17,77 +27,67 @@ pub(crate) fn dwells_by_axis(dialect: Dialect, line: &[Code], words: &[Word]) ->
 }
 
 /// Returns whether a line has axis words that aren't a dwell's.
-#[tactic(auto, unfolding(crate::specs::Motions::has_axes))]
+#[tactic(auto, unfolding(ngc_dialect_rules::specs::Moves::has_axes))]
 pub(crate) fn has_axes(dialect: Dialect, line: &[Code], words: &[Word]) -> bool
-    ensures { result ≡ spec.has_axes dialect line.now words.now }
+    ensures { result ≡ moves.has_axes dialect line.now words.now }
 {
     !dwells_by_axis(dialect, line, words)
         && (has_letter(b'X', words) || has_letter(b'Y', words) || has_letter(b'Z', words))
 }
 
 pub(crate) fn has_offsets(words: &[Word]) -> bool
-    ensures { result ≡ spec.has_offsets words.now }
+    ensures { result ≡ moves.has_offsets words.now }
 {
     has_letter(b'I', words) || has_letter(b'J', words) || has_letter(b'K', words)
 }
 
-fn moves_by(known: &Known, line: &[Code], words: &[Word], code: Code) -> bool
-    ensures { result ≡ spec.moves_by known.now line.now words.now code }
+fn has_arc_words(code: Code, words: &[Word]) -> bool
+    ensures { result ≡ moves.has_arc_words code words.now }
 {
-    has_axes(known.dialect, line, words)
-        || (is_among(&codes::ARCS, code) && (has_offsets(words) || has_letter(b'R', words)))
+    is_among(&codes::ARCS, code) && (has_offsets(words) || has_letter(b'R', words))
 }
 
-fn goes_on_by(known: &Known, line: &[Code], words: &[Word], code: Code) -> bool
-    ensures { result ≡ spec.goes_on_by known.now line.now words.now code }
+#[tactic(auto, unfolding(ngc_dialect_rules::specs::Moves::goes_on))]
+fn goes_on(known: &Known, line: &[Code], words: &[Word]) -> bool
+    ensures { result ≡ moves.goes_on known.now line.now words.now }
 {
-    has_axes(known.dialect, line, words) || (is_among(&codes::ARCS, code) && has_offsets(words))
+    is_one_of(&codes::ARCS, known.front.motion)
+        && has_offsets(words)
+        && !has(&codes::MOTION_END, line)
+        && !has(&codes::TAKE_AXES, line)
 }
 
-fn going_on(known: &Known, line: &[Code], words: &[Word], mode: Option<Code>) -> Option<Code>
-    ensures { result ≡ spec.going_on known.now line.now words.now mode }
+fn takes_axes(line: &[Code]) -> bool
+    ensures { result ≡ (has codes.TAKE_AXES line.now || has codes.WORD_LENGTH line.now) }
 {
-    match mode {
-        Some(code) if goes_on_by(known, line, words, code) => Some(code),
-        _ => None,
+    has(&codes::TAKE_AXES, line) || has(&codes::WORD_LENGTH, line)
+}
+
+// Returns the motion by the mode, where there are words for it.
+fn moved_by_mode(known: &Known, line: &[Code], words: &[Word], axes: bool) -> Option<Code>
+    ensures { result
+        ≡ spec.accepted (moves.moved_without_code known.now line.now words.now axes) }
+{
+    if !axes || takes_axes(line) || has(&codes::MOTION_END, line) {
+        return None;
     }
+    known.front.motion
 }
 
-fn motion_by(known: &Known, line: &[Code], words: &[Word], code: Option<Code>) -> Option<Code>
-    ensures { result ≡ spec.motion_by known.now line.now words.now code }
+/// Returns the code of the motion that a line makes, if it makes one.
+#[tactic(auto, unfolding(ngc_dialect_rules::specs::Moves::motion_of))]
+pub(crate) fn motion_on(known: &Known, line: &[Code], words: &[Word]) -> Option<Code>
+    ensures { result ≡ spec.motion_on known.now line.now words.now }
 {
-    match code {
-        None => {
-            if has(&codes::MOTION_END, line) {
-                None
-            } else {
-                going_on(known, line, words, known.front.motion)
-            }
-        }
+    let axes = has_axes(known.dialect, line, words);
+    match code_in(&codes::MOTIONS, line) {
+        None => moved_by_mode(known, line, words, axes || goes_on(known, line, words)),
         Some(code) => {
-            if moves_by(known, line, words, code) {
+            if (axes || has_arc_words(code, words)) && !takes_axes(line) {
                 Some(code)
             } else {
                 None
             }
         }
-    }
-}
-
-fn takes_axes(line: &[Code]) -> bool
-    ensures { result ≡ spec.takes_axes line.now }
-{
-    has(&codes::TAKE_AXES, line) || has(&codes::WORD_LENGTH, line)
-}
-
-/// Returns the code of the motion that a line makes, if it makes one.
-#[tactic(auto, unfolding(crate::specs::Motions::motion_on))]
-pub(crate) fn motion_on(known: &Known, line: &[Code], words: &[Word]) -> Option<Code>
-    ensures { result ≡ spec.motion_on known.now line.now words.now }
-{
-    if takes_axes(line) {
-        None
-    } else {
-        motion_by(known, line, words, code_in(&codes::MOTIONS, line))
     }
 }

@@ -4,15 +4,17 @@ ghost use Rattle.ngc_dialect_notes.specs.MotionNotes as spec;
 ghost use Rattle.ngc_dialect_notes.specs.Notes.{all_noted};
 
 use crate::code_notes::is_in_milliseconds;
-use crate::codes;
+use crate::dialect::{is_grbl, is_mach3, keeps_words};
 use crate::in_force::{depth_letter, plane_on, u_letter, v_letter};
 use crate::kind::Kind;
 use crate::motion::has_offsets;
+use crate::noted;
 use crate::notes::{Notes, Said};
-use crate::table::{is_among, is_grbl, is_mach3, keeps_words};
 use ngc_dialect_parameters::Word;
 use ngc_dialect_reader::Dialect;
-use ngc_dialect_rules::{Code, KeptSeries, Known, has_letter, is_fanuc, is_linuxcnc, word_of};
+use ngc_dialect_rules::{
+    Code, KeptSeries, Known, codes, has_letter, is_among, is_fanuc, is_linuxcnc, word_of,
+};
 
 // Returns whether an arc has no axis word of its plane.
 fn has_no_end(known: &Known, line: &[Code], words: &[Word]) -> bool
@@ -40,7 +42,7 @@ fn has_kept_dwell(dialect: Dialect, code: Code, series: &Option<KeptSeries>) -> 
 fn has_no_dwell(known: &Known, code: Code, words: &[Word]) -> bool
     ensures { result ≡ spec.has_no_dwell known.now code words.now }
 {
-    is_among(&codes::DWELLING, code)
+    is_among(&noted::DWELLING, code)
         && !has_letter(b'P', words)
         && !has_kept_dwell(known.dialect, code, &known.front.series)
 }
@@ -50,8 +52,8 @@ fn lacks_word(known: &Known, line: &[Code], code: Code, words: &[Word]) -> bool
 {
     !has_letter(b'R', words)
         || !has_letter(depth_letter(plane_on(known.modes.plane, line)), words)
-        || (is_among(&codes::DWELLING, code) && !has_letter(b'P', words))
-        || (is_among(&codes::PECKS, code) && !has_letter(b'Q', words))
+        || (is_among(&noted::DWELLING, code) && !has_letter(b'P', words))
+        || (is_among(&noted::PECKS, code) && !has_letter(b'Q', words))
 }
 
 fn follows_other(code: Code, series: &Option<KeptSeries>) -> bool
@@ -81,7 +83,7 @@ fn dwells_in_milliseconds(dialect: Dialect, code: Code, words: &[Word]) -> bool
     ensures { result ≡ spec.dwells_in_milliseconds dialect code words.now }
 {
     is_fanuc(dialect)
-        && is_among(&codes::DWELLING, code)
+        && is_among(&noted::DWELLING, code)
         && is_in_milliseconds(word_of(b'P', words))
 }
 
@@ -115,9 +117,9 @@ impl Notes {
         self.note_if(has_no_dwell(known, code, words), line, Kind::NoDwell);
         let milliseconds = dwells_in_milliseconds(dialect, code, words);
         self.note_if(milliseconds, line, Kind::Milliseconds);
-        self.note_if(is_among(&codes::CLEARING, code), line, Kind::PeckClearance);
+        self.note_if(is_among(&noted::CLEARING, code), line, Kind::PeckClearance);
         self.note_if(
-            is_among(&codes::CHIP_BREAKING, code),
+            is_among(&noted::CHIP_BREAKING, code),
             line,
             Kind::ChipBreaking,
         );

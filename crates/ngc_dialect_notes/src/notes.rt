@@ -3,16 +3,14 @@ ghost use Rattle.std.specs.Prelude.{◌≡◌};
 ghost use Rattle.ngc_dialect_notes.specs.Noted.{noted, noted_by, statements_noted};
 ghost use Rattle.ngc_dialect_notes.specs.Notes as spec;
 
-use crate::codes;
 use crate::kind::Kind;
-use crate::line_codes::codes_on;
 use crate::motion::motion_on;
-use crate::table::has;
+use arrayvec::ArrayVec;
 use ngc_dialect_parameters::{Statement, Word};
-use ngc_dialect_rules::{Code, Known};
+use ngc_dialect_rules::{Code, Known, add_codes, codes, has};
 
 /// The number of kinds.
-pub const KIND_COUNT: usize = 50;
+pub const KIND_COUNT: usize = 48;
 
 /// A kind that occurred.
 #[derive(Clone, Copy)]
@@ -151,14 +149,16 @@ impl Notes {
     }
 
     /// Adds the notes on a line that the rules accept, by its number, what is known before it, and
-    /// its words.
+    /// its words. If the rules refuse a code of it, there are none.
     #[tactic(auto, unfolding(crate::specs::Noted::noted))]
     pub fn add(&mut self, line: u32, known: &Known, words: &[Word])
         ensures { self.new ≡ noted line known.now words.now self.old }
     {
-        let codes = codes_on(words);
-        let motion = motion_on(known, codes.as_slice(), words);
-        self.add_by(line, known, codes.as_slice(), motion, words);
+        let mut codes: ArrayVec<Code, 24> = ArrayVec::new();
+        if add_codes(known.dialect, words, &mut codes).is_ok() {
+            let motion = motion_on(known, codes.as_slice(), words);
+            self.add_by(line, known, codes.as_slice(), motion, words);
+        }
     }
 
     /// Adds the notes on what a line says besides words: `$H`, and levels of block delete.

@@ -3,14 +3,15 @@ ghost use Rattle.std.specs.Prelude.{◌≡◌};
 ghost use Rattle.ngc_dialect_rules.specs.Words.{is_other_axis};
 ghost use Rattle.ngc_dialect_notes.specs.WordNotes as spec;
 
-use crate::codes;
+use crate::dialect::counts_turns;
 use crate::in_force::{plane_on, third_offset};
 use crate::kind::Kind;
+use crate::motion::is_one_of;
+use crate::noted;
 use crate::notes::Notes;
-use crate::table::{counts_turns, has, is_one_of};
 use ngc_dialect_parameters::Word;
 use ngc_dialect_reader::Dialect;
-use ngc_dialect_rules::{Code, Known, is_fanuc};
+use ngc_dialect_rules::{Code, Known, codes, has, is_fanuc};
 
 // Returns the kind of a letter that may have no use.
 #[tactic(auto, unfolding(crate::specs::WordNotes::idle_kind))]
@@ -39,11 +40,11 @@ fn users_of(dialect: Dialect, letter: u8) -> &'static [Code]
 {
     match letter {
         b'D' => &codes::D_USERS,
-        b'E' => &codes::E_USERS,
+        b'E' => &noted::E_USERS,
         b'H' => &codes::H_USERS,
         b'K' => {
             if is_fanuc(dialect) {
-                &codes::K_USERS_WITH_HOLES
+                &noted::ARCS_AND_CYCLES
             } else {
                 &codes::ARCS
             }
@@ -51,13 +52,13 @@ fn users_of(dialect: Dialect, letter: u8) -> &'static [Code]
         b'L' => &codes::L_USERS,
         b'P' => {
             if counts_turns(dialect) {
-                &codes::P_USERS_WITH_TURNS
+                &noted::P_USERS_WITH_TURNS
             } else {
-                &codes::P_USERS
+                &noted::P_USERS
             }
         }
-        b'Q' => &codes::Q_USERS,
-        b'R' => &codes::R_USERS,
+        b'Q' => &noted::Q_USERS,
+        b'R' => &noted::ARCS_AND_CYCLES,
         _ => &codes::ARCS,
     }
 }
