@@ -1,0 +1,2 @@
+-- A place of a list is set.
+pub mod Places

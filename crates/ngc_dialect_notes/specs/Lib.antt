@@ -1,0 +1,10 @@
+pub mod Kinds
+pub mod KindNumbers
+pub mod Dialects
+pub mod InForce
+pub mod Motions
+pub mod Notes
+pub mod CodeNotes
+pub mod WordNotes
+pub mod MotionNotes
+pub mod Noted
