@@ -276,7 +276,6 @@ SAVES = {
     "list": (".list.txt", ["list"]), "certificate": (".cert", ["certify", "--format", "2"]), "certificate_1": (".1.cert", ["certify", "--format", "1"]),
     "drawing": (".iso.svg", ["draw", "--view", "iso"]), "drawing_bodies": (".iso.bodies.svg", ["draw", "--view", "iso", "--bodies"]), "drawing_whole": (".iso.whole.svg", ["draw", "--view", "iso", "--whole"]),
 }
-WRONG_WORDS = 2   # the status of a `draw` that takes no dialect
 
 
 def dialect_files(checks, page):
@@ -294,8 +293,6 @@ def dialect_files(checks, page):
             page.wait("document.getElementById('notices').textContent !== ''")
             if made.stdout:
                 checks.equal(f"{stem}{end} is saved with the {len(made.stdout)} bytes of {what}", saved_file(page, save, f"{stem}{end}", len(made.stdout)), made.stdout)
-            elif made.returncode == WRONG_WORDS:
-                checks.begins(f"{stem}{end}: a plain sentence says that there is no drawing yet", page.notices, f"There is nothing to save: programs for {NAMES[control]} can't be drawn yet. Save the picture as it is shown.")
             else:
                 checks.begins(f"there is nothing to save of {what}, and why", page.notices, f"There is nothing to save. {made.stderr.decode().strip()}")
     page.give({"loop.ngc": LOOP})
@@ -329,16 +326,14 @@ def dialect_files(checks, page):
 
 
 def without_webgl(checks, page):
-    """Without WebGL the page shows the drawing of `ngc draw`, or says that there is none."""
+    """Without WebGL the page shows the drawing of `ngc draw`."""
     script = page.browser.call("Page.addScriptToEvaluateOnNewDocument", source="HTMLCanvasElement.prototype.getContext = () => null")["identifier"]
     page.open()
     page.browser.call("Page.removeScriptToEvaluateOnNewDocument", identifier=script)
     page.give({"loop.ngc": LOOP})
     page.do(click("LinuxCNC"))
-    drawn = native(page, LOOP, "draw", "--dialect", "linuxcnc").returncode != WRONG_WORDS
-    page.wait("document.querySelector('#labels img, #labels p') !== null")
-    said = page.value("document.querySelector('#labels p')?.textContent ?? 'a drawing'")
-    checks.equal("without WebGL the drawing is shown, or a plain sentence", said, "a drawing" if drawn else "There is no drawing: programs for LinuxCNC can't be drawn yet.")
+    page.wait("document.querySelector('#labels img') !== null")
+    checks.expect("without WebGL the drawing is shown", page.value("document.querySelector('#labels img.drawing') !== null"))
     page.do("ngc.actions.example('slot.ngc')")
     checks.expect("an example has its drawing", page.value("document.querySelector('#labels img.drawing') !== null"))
 

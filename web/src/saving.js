@@ -2,7 +2,6 @@
 // meanwhile, nothing is saved.
 
 import { changesOf } from './core/changes.js';
-import { noDrawingOf } from './core/controls.js';
 import { shownKey } from './core/store.js';
 import { sentenceOfFailure } from './core/jobs.js';
 import { size } from './core/units.js';
@@ -45,8 +44,6 @@ export function makeSaving(store, getJobs, parts, notice) {
       const got = await getJobs().run('save', 'save', job, { words, factor, changes });
       const notes = `${got.text.trim()}${got.isCut ? ' .. (the notes are longer, and end here)' : ''}`;
       if (key !== shownKey(store.state)) return notice('What is shown changed in the meantime: nothing was saved. Save again.', 'bad');
-      const noDrawing = words[0] === 'draw' ? noDrawingOf(changes.dialect, got.status) : null;
-      if (noDrawing) return notice(`There is nothing to save: ${noDrawing}. Save the picture as it is shown.`, 'bad');
       if (!got.output.length) return notice(`There is nothing to save. ${notes}`, 'bad');
       download(name, new Blob([got.output]));
       notice(`Saved as ${name}, ${size(got.output.length)}. ${notes}`.trim());

@@ -33,7 +33,3 @@ const MOST_OF_PROGRAM = 299;   // the greatest fault number of a program; greate
 export const isRefusal = report => Boolean(report?.fault) && report.fault <= MOST_OF_PROGRAM && !report.refusedFile;
 // Whether a program that is refused in our own language looks as if it were for a control.
 export const looksForeign = (program, report) => isRefusal(report) && !report.dialect && (program.sign !== null || FAULTS_OF_OTHERS.includes(report.fault));
-
-const WRONG_WORDS = 2;   // the status of a command line that is refused
-// What is said where a module's `draw` takes no dialect, or null if it made a drawing or refused the program itself.
-export const noDrawingOf = (dialect, status) => (dialect !== null && status === WRONG_WORDS ? `programs for ${CONTROLS[dialect]} can't be drawn yet` : null);

@@ -1,6 +1,6 @@
 // The picture: travel, fixtures, path, tool and labels. It draws only when something changed.
 
-import { dialectNow, noDrawingOf } from '../core/controls.js';
+import { dialectNow } from '../core/controls.js';
 import { AXES } from '../core/systems.js';
 import { isMotion, KIND_NAMES, momentAt, passesOf, tipAt } from '../core/motion.js';
 import { current, failureOf, isRunning } from '../core/store.js';
@@ -313,8 +313,6 @@ export function makeDrawing(store) {
   let url = '';
   store.watch(state => [current(state, 'drawing')], drawing => {
     URL.revokeObjectURL(url);
-    const noDrawing = drawing ? noDrawingOf(dialectNow(store.state), drawing.status) : null;
-    if (noDrawing) return fill(id('labels'), h('p', { class: 'no-drawing' }, `There is no drawing: ${noDrawing}.`));
     if (!drawing?.output.length) return fill(id('labels'));
     const { output } = drawing;
     url = URL.createObjectURL(new Blob([output], { type: 'image/svg+xml' }));
