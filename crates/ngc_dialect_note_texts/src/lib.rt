@@ -9,7 +9,7 @@
 //! ```
 #![tactic(auto)]
 
-mod spelling;
+mod saying;
 mod words;
 mod written;
 

@@ -4,9 +4,9 @@ ghost use Rattle.std.specs.Io.KnownBytes.{Appends};
 ghost use Rattle.ngc_text.specs.Failures.{CountsFailure};
 ghost use Rattle.ngc_text.specs.Written.{AppendsPrefix};
 ghost use Rattle.ngc_sentences.specs.Saying.{Says};
-ghost use Rattle.ngc_dialect_note_texts.specs.Spelling.{notes_text, spelled};
+ghost use Rattle.ngc_dialect_note_texts.specs.Texts.{notes_text, note_text};
 
-use crate::spelling::say_note;
+use crate::saying::say_note;
 use ngc_dialect_notes::{Note, Notes};
 use ngc_report::Form;
 use ngc_sentences::Page;
@@ -15,7 +15,7 @@ use ngc_text::{Sink, WriteFault};
 fn say_all<W: Sink>(form: Form, places: &[Option<Note>], page: &mut Page, output: &mut W)
     ensures { Says (W.written output.old) (W.written output.new)
         (W.failures output.old) (W.failures output.new) page.old page.new
-        (flat_map (spelled form) places.now) }
+        (flat_map (note_text form) places.now) }
 {
     for note in places {
         say_note(form, note, page, output);

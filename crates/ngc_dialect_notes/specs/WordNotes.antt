@@ -43,14 +43,19 @@ users_of d letter =
     if letter == bytes.H then codes.H_USERS else (
     if letter == bytes.K then (if is_fanuc d then noted.ARCS_AND_CYCLES else codes.ARCS) else (
     if letter == bytes.L then codes.L_USERS else (
-    if letter == bytes.P
-    then (if counts_turns d then noted.P_USERS_WITH_TURNS else noted.P_USERS) else (
+    if letter == bytes.P then noted.P_USERS else (
     if letter == bytes.Q then noted.Q_USERS else (
     if letter == bytes.R then noted.ARCS_AND_CYCLES else codes.ARCS)))))))
 
+-- whether the line has a code of a table, or makes a motion by one
+abbrev pub is_on : List Code → List Code → Option Code → Bool
+is_on table line motion = has table line || is_one_of table motion
+
+-- P also counts the turns of an arc, in some dialects
 abbrev pub is_used : Dialect → List Code → Option Code → ℕ → Bool
 is_used d line motion letter =
-    has (users_of d letter) line || is_one_of (users_of d letter) motion
+    is_on (users_of d letter) line motion
+    || ((letter == bytes.P) && counts_turns d && is_on codes.ARCS line motion)
 
 -- H and D name offsets, also at 0
 abbrev pub names_offset : ℕ → Bool

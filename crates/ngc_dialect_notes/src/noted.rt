@@ -29,30 +29,8 @@ pub const OLD_UNITS: [Code; 2] = [G(700), G(710)];
 /// G43.4, which follows rotary axes.
 pub const TOOL_CENTRE: [Code; 1] = [G(434)];
 
-/// Users of P. A series of cycles keeps it.
+/// Users of P, besides arcs whose turns it counts. A series of cycles keeps it.
 pub const P_USERS: [Code; 16] = [
-    G(40),
-    G(51),
-    G(100),
-    G(640),
-    G(730),
-    G(810),
-    G(820),
-    G(830),
-    G(850),
-    G(860),
-    G(890),
-    G(1870),
-    M(50),
-    M(51),
-    M(52),
-    M(53),
-];
-
-/// Users of P where it counts the turns of an arc.
-pub const P_USERS_WITH_TURNS: [Code; 18] = [
-    G(20),
-    G(30),
     G(40),
     G(51),
     G(100),

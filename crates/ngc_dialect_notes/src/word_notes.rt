@@ -50,24 +50,26 @@ fn users_of(dialect: Dialect, letter: u8) -> &'static [Code]
             }
         }
         b'L' => &codes::L_USERS,
-        b'P' => {
-            if counts_turns(dialect) {
-                &noted::P_USERS_WITH_TURNS
-            } else {
-                &noted::P_USERS
-            }
-        }
+        b'P' => &noted::P_USERS,
         b'Q' => &noted::Q_USERS,
         b'R' => &noted::ARCS_AND_CYCLES,
         _ => &codes::ARCS,
     }
 }
 
+// Returns whether the line has a code of a table, or makes a motion by one.
+fn is_on(table: &[Code], line: &[Code], motion: Option<Code>) -> bool
+    ensures { result ≡ spec.is_on table.now line.now motion }
+{
+    has(table, line) || is_one_of(table, motion)
+}
+
 fn is_used(dialect: Dialect, line: &[Code], motion: Option<Code>, letter: u8) -> bool
     ensures { result ≡ spec.is_used dialect line.now motion letter }
 {
     let users = users_of(dialect, letter);
-    has(users, line) || is_one_of(users, motion)
+    is_on(users, line, motion)
+        || letter == b'P' && counts_turns(dialect) && is_on(&codes::ARCS, line, motion)
 }
 
 fn names_offset(letter: u8) -> bool

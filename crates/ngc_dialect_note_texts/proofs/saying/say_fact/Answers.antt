@@ -1,5 +1,5 @@
-use Rattle.ngc_dialect_note_texts.specs.Spelling.{note_fact}
-use Rattle.ngc_dialect_note_texts.proofs.spelling.say_fact.Goals as goal
+use Rattle.ngc_dialect_note_texts.specs.Texts.{note_fact}
+use Rattle.ngc_dialect_note_texts.proofs.saying.say_fact.Goals as goal
 
 pub returns : goal.returns
 unfolding note_fact

@@ -19,11 +19,11 @@ note_fact n =
     ++ codes "\",\"text\":\"" ++ kind_text n.kind ++ codes "\",\"count\":" ++ decimal n.count
     ++ codes ",\"line\":" ++ decimal n.line ++ codes "}"
 
-abbrev pub spelled : Form → Option Note → List ℕ
-spelled form None = []
-spelled Words (Some n) = note_words n
-spelled Json (Some n) = note_fact n
+abbrev pub note_text : Form → Option Note → List ℕ
+note_text form None = []
+note_text Words (Some n) = note_words n
+note_text Json (Some n) = note_fact n
 
 -- the notes in the order in which their kinds occurred first
 abbrev pub notes_text : Form → Notes → List ℕ
-notes_text form n = flat_map (spelled form) n.places
+notes_text form n = flat_map (note_text form) n.places
