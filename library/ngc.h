@@ -45,9 +45,9 @@ uint32_t ngc_check(NGC_TEXT(program), NGC_TEXT(machine), NGC_TEXT(tools), NGC_TE
 uint32_t ngc_pulses(NGC_TEXT(program), NGC_TEXT(machine), NGC_TEXT(tools), NGC_TEXT(certificate), bool block_delete, NGC_WRITTEN);
 /* What a machine file and a tool table say, in millimetres, with warnings. */
 uint32_t ngc_show(NGC_TEXT(machine), NGC_TEXT(tools), NGC_WRITTEN);
-/* A program for another control as one for this: `control` is 0 for LinuxCNC, 1 for GRBL, 2 for Mach3, 3 for Fanuc; `tool` is mounted
-   first where it isn't 0; `drop` has M codes separated by commas, or nothing. */
-uint32_t ngc_adapt(NGC_TEXT(program), NGC_TEXT(machine), NGC_TEXT(drop), uint32_t control, uint16_t tool, NGC_WRITTEN);
+/* A program for another control, printed in ngc's own language as it is executed, at a setting of block delete: `control` is 0 for
+   LinuxCNC, 1 for GRBL, 2 for Mach3, 3 for Fanuc. The errors are the notes on it. */
+uint32_t ngc_adapt(NGC_TEXT(program), NGC_TEXT(machine), NGC_TEXT(tools), uint32_t control, bool block_delete, NGC_WRITTEN);
 /* A machine file from a dump of GRBL's settings. */
 uint32_t ngc_machine(NGC_TEXT(settings), NGC_WRITTEN);
 /* What a fault's number means. */

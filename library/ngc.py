@@ -123,10 +123,10 @@ def show(machine, tools):
     return _call("ngc_show", [_bytes(machine), _bytes(tools)])
 
 
-def adapt(program, machine, control, tool=0, drop=""):
-    """Rewrites a program for another control; `errors` has a line for each change. `drop` has M codes separated by commas."""
-    texts = [_bytes(program), _bytes(machine), drop.encode()]
-    return _call("ngc_adapt", texts, ctypes.c_uint32(CONTROLS.index(control)), ctypes.c_uint16(tool))
+def adapt(program, machine, tools, control, block_delete=False):
+    """Prints a program for another control in ngc's own language, as it is executed; `errors` has the notes on it."""
+    texts = [_bytes(program), _bytes(machine), _bytes(tools)]
+    return _call("ngc_adapt", texts, ctypes.c_uint32(CONTROLS.index(control)), ctypes.c_bool(block_delete))
 
 
 def machine(settings):

@@ -29,6 +29,8 @@ REFUSED = (["report", "--margin=two"], ["report", "--margin=100.000001"], ["repo
 # What GRBL prints for $$, of a small router.
 SETTINGS = b"$13=0\n$22=1\n$23=3\n$27=1.000\n$100=250.000\n$101=250.000\n$102=250.000\n$110=500.000\n$111=500.000\n$112=300.000\n" \
     b"$120=10.000\n$121=10.000\n$122=10.000\n$130=200.000\n$131=180.000\n$132=45.000\nok\n"
+# More plain lines than are printed.
+LOOP = b"#1 = 0\no1 while [#1 LT 60000]\nG0 X1\nG0 X0\n#1 = [#1 + 1]\no1 endwhile\nM2\n"
 HELPERS = """
 window.unpack = text => Uint8Array.from(atob(text), character => character.charCodeAt(0));
 window.pack = bytes => { let text = ''; for (let at = 0; at < bytes.length; at += 30000) text += String.fromCharCode(...bytes.subarray(at, at + 30000)); return btoa(text); };
@@ -90,11 +92,10 @@ class Comparison:
         if not is_same:
             print(f"differs: {what}", flush=True)
 
-    def adapt(self, program, control, tool, drop):
-        self.give("drop", drop.encode())
-        words = ["adapt", "--from", CONTROLS[control], "--machine", "clamped_mill.toml", "--program", program]
-        words += [*["--tool", str(tool)] * bool(tool), *["--drop", drop] * bool(drop)]
-        self.compare("ngc_adapt", [program, "clamped_mill.toml", "drop"], [control, tool], words)
+    def adapt(self, program, control, delete):
+        files = ["--program", program, "--machine", "clamped_mill.toml", "--tools", "tools.toml"]
+        words = ["adapt", "--from", CONTROLS[control], *files, *["--delete"] * delete]
+        self.compare("ngc_adapt", [program, "clamped_mill.toml", "tools.toml"], [control, delete], words)
 
     def run_job(self, program, machine, tools, has_pulses=False):
         names = [program, machine, tools]
@@ -167,8 +168,6 @@ def odd_files():
     yield "bad.toml", b"version = "
     yield "deep.toml", b"version = 1\nx = " + b"[" * 5000 + b"]" * 5000 + b"\n"
     yield "long.toml", b"# " + b"x" * 300000 + b"\n"
-    # Notes of more than 65,536 bytes.
-    yield "notes.ngc", b"G21\n" + b"M64 P1 (a code that is left out)\n" * 3000 + b"M2\n"
 
 
 def compare_all(comparison, examples, count):
@@ -196,13 +195,11 @@ def compare_all(comparison, examples, count):
         reads = words[0] in ("report", "certify", "draw", "list", "check") and words[-1] != "--help"
         files = {"program": "slot.ngc", "machine": "clamped_mill.toml", "tools": "tools.toml", **({"certificate": "made.cert"} if words[0] == "check" else {})}
         comparison.compare_command(words, files if reads else {})
-    for file in sorted((examples / "cam").iterdir()):
+    comparison.give("loop.ngc", LOOP)
+    for name in (*DIALECTS, "loop.ngc", *(it.name for it in sorted((examples / "cam").iterdir()))):
         for control in range(4):
-            comparison.adapt(file.name, control, 0, "")
-            comparison.adapt(file.name, control, 7, "M64,M65")
-    for control in range(4):
-        comparison.adapt("notes.ngc", control, 0, "")
-        comparison.adapt("notes.ngc", control, 0, "M64")
+            for delete in (0, 1):
+                comparison.adapt(name, control, delete)
     for name, data in (("settings", SETTINGS), ("no_settings", b"$100=\n"), ("short", SETTINGS[:60])):
         comparison.give(name, data)
         comparison.compare("ngc_machine", [name], [], ["machine", "--grbl", name])

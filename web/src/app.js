@@ -25,7 +25,6 @@ import { withFixture, withoutFixture, wordsOfFigures } from './machine_text.js';
 
 const NOTICE_TIME = 10_000, ACTION_TIME = 30_000; // ms that a notice stays
 const DRAWING_OF_VIEW = { top: 0, front: 1, right: 2, iso: 3 };
-const encoder = new TextEncoder();
 const store = makeStore(reduce, firstState), parts = {};
 let jobs = null, checks = null;
 const getJobs = () => jobs;
@@ -75,12 +74,11 @@ const actions = {
     id('adapt').showModal();
   },
   async rewrite() {
-    const { control, tool, drop } = id('adapt-form').elements, { program } = store.state.files, out = id('adapt-notes');
-    const number = Math.min(9999, Math.max(0, Math.trunc(Number(tool.value)) || 0));
+    const { control } = id('adapt-form').elements, { files: { program }, blockDelete } = store.state, out = id('adapt-notes');
     try {
-      const got = await jobs.run('side', 'adapt', 'output', { name: 'ngc_adapt', given: ['program', 'machine', encoder.encode(drop.value)], options: [Number(control.value), number] });
+      const got = await jobs.run('side', 'adapt', 'output', { name: 'ngc_adapt', options: [Number(control.value), Number(blockDelete)] });
       if (store.state.files.program !== program) return;
-      fill(out, h('pre', { tabindex: '0' }, got.text || 'Nothing had to be changed.'), got.isCut ? h('p', { class: 'bad' }, 'The notes are longer than 65,536 bytes, and end here.') : null);
+      fill(out, h('pre', { tabindex: '0' }, got.text || 'Nothing is left out or means otherwise.'));
       if (!got.output.length) return;
       const name = `${program.name.replace(/\.[^.]*$/, '')}.rewritten.ngc`;
       files.use('program', name, got.output, 'made');

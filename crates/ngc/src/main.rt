@@ -1,4 +1,4 @@
-//! The program `ngc`: it starts `answer` on the real files, standard output and standard error.
+//! The program `ngc`: it starts `answer_by_machine` on the real files, standard output and standard error.
 #![tactic(auto)]
 
 mod host;
@@ -6,7 +6,8 @@ mod output;
 
 use crate::host::HostFiles;
 use crate::output::Output;
-use ngc_simulator::{UsageFault, answer, read_options};
+use ngc_dialect_choice::answer_by_machine;
+use ngc_simulator::{UsageFault, read_options};
 use ngc_text::{Device, write_all};
 use std::process::ExitCode;
 use std::{env, io};
@@ -43,7 +44,7 @@ fn answer_words(rt: &HostRuntime) -> Result<u8, UsageFault> {
     // beginning, also if memory runs out.
     let room = Vec::with_capacity(rt.alloc(), 512).map_err(|_| UsageFault::Memory)?;
     let mut told = Device::new(room);
-    let status = answer(rt.alloc(), &options, &mut files, &mut output, &mut told);
+    let status = answer_by_machine(rt.alloc(), &options, &mut files, &mut output, &mut told);
     if !output.is_closed() {
         let _ = write_all(&mut Device::new(rt.stderr()), told.into_inner().as_slice());
     }

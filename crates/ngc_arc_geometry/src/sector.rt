@@ -168,9 +168,13 @@ impl Arc {
     fn quadrants_in_turn(&self) -> [Point2; 4]
         ensures { result ≡ quadrants_in_turn self.now }
     {
-        let mut points = self.quadrant_points();
-        points.rotate_left(self.first_quadrant());
-        points
+        let [first, second, third, fourth] = self.quadrant_points();
+        match self.first_quadrant() {
+            0 => [first, second, third, fourth],
+            1 => [second, third, fourth, first],
+            2 => [third, fourth, first, second],
+            _ => [fourth, first, second, third],
+        }
     }
 
     /// Returns the quadrant points at the outer radius that lie in the sector, in the arc's order

@@ -8,7 +8,7 @@ use Rattle.std.specs.Fmt.{decimal}
 use Rattle.std.specs.Str.Parse.{IsNumeral, digits_value, without_leading_plus}
 use Rattle.std.proofs.lemmas.Fmt.{decimal_is_IsNumeral}
 use Rattle.std.proofs.lemmas.Option.{same_Some}
-use Rattle.clap.specs.Words.{Row, Text, all_of, first_of, subcommand_of}
+use Rattle.clap.specs.Words.{Row, Text, first_of, subcommand_of}
 use Rattle.clap.proofs.OnLiterals.{clap_on_literals}
 use Rattle.clap.specs.Values.{IsUnsignedIn}
 use Rattle.clap.specs.ValueTests.{accepts}
@@ -24,7 +24,7 @@ use Rattle.ngc_command_line.specs.CommandLine.{run_words, show_words}
 use Rattle.ngc_command_line.specs.Meant.{AreCommands, AreCuts, AreCutsInRange, AreOptions, IsCertifyRequest, IsCheckRequest, IsDrawRequest, IsHelpRequest, IsListRequest}
 use Rattle.ngc_command_line.specs.Meant.{IsAdaptRequest, IsLiveRequest, IsMachineRequest, acceleration_in, feed_in, grbl_in, steps_in, travel_in}
 use Rattle.ngc_command_line.specs.Meant.{ChangeTexts, HaveChanges, change_texts, changes_in, changes_written, no_texts}
-use Rattle.ngc_command_line.specs.Meant.{IsPlaceRequest, IsReportRequest, IsRunRequest, IsShowRequest, IsFormat, IsMask, IsTaken, IsTool, IsToolInRange, is_set}
+use Rattle.ngc_command_line.specs.Meant.{IsPlaceRequest, IsReportRequest, IsRunRequest, IsShowRequest, IsFormat, IsMask, IsTaken, is_set}
 use Rattle.ngc_command_line.specs.declared.options.Format.{Format}
 use Rattle.ngc_command_line.specs.declared.options.Format.TheVariants.{One, Two}
 use Rattle.ngc_command_line.specs.declared.options.Options.{Options}
@@ -1068,133 +1068,92 @@ place_read words machine tools program system cuts json options range spelled ar
     requested_place machine tools program system cuts json _ options range (place_finds machine tools program system cuts json) (subst Are spelled are)
 
 -- the values of `adapt` that were found are these
-abbrev FindsAdapt : Text → Option Text → Option Text → Option Text → Option Text → Option (Text × List Row) → Type 0
-FindsAdapt from machine tool drop program None = ⊥
-FindsAdapt from machine tool drop program (Some found) = (found.0 ≡ codes "adapt") × (first_of (codes "from") found.1 ≡ Some from)
-    × (first_of (codes "machine") found.1 ≡ machine) × (first_of (codes "tool") found.1 ≡ tool) × (first_of (codes "drop") found.1 ≡ drop)
-    × (first_of (codes "program") found.1 ≡ program)
+abbrev FindsAdapt : Text → Option Text → Option Text → Option Text → Bool → Option (Text × List Row) → Type 0
+FindsAdapt from machine tools program delete None = ⊥
+FindsAdapt from machine tools program delete (Some found) = (found.0 ≡ codes "adapt") × (first_of (codes "from") found.1 ≡ Some from)
+    × (first_of (codes "machine") found.1 ≡ machine) × (first_of (codes "tools") found.1 ≡ tools) × (first_of (codes "program") found.1 ≡ program)
+    × (is_set (codes "delete") found.1 ≡ delete)
     × (change_texts found.1 ≡ no_texts)
 
-adapt_finds : (from : Text) (machine : Option Text) (tool : Option ℕ) (drop program : Option Text)
-    → FindsAdapt from machine (text_of tool) drop program (subcommand_of ngc_app (adapt_words from machine tool drop program))
+adapt_spells : (from : Text) (machine tools program : Option Text) (delete : Bool) →
+    Spells (adapt_words from machine tools program delete) (FindsAdapt from machine tools program delete)
 unfolding clap_on_literals
-adapt_finds from None None None None = (refl, refl, refl, refl, refl, refl, refl)
-adapt_finds from None None None (Some program) = (refl, refl, refl, refl, refl, refl, refl)
-adapt_finds from None None (Some drop) None = (refl, refl, refl, refl, refl, refl, refl)
-adapt_finds from None None (Some drop) (Some program) = (refl, refl, refl, refl, refl, refl, refl)
-adapt_finds from None (Some tool) None None = (refl, refl, refl, refl, refl, refl, refl)
-adapt_finds from None (Some tool) None (Some program) = (refl, refl, refl, refl, refl, refl, refl)
-adapt_finds from None (Some tool) (Some drop) None = (refl, refl, refl, refl, refl, refl, refl)
-adapt_finds from None (Some tool) (Some drop) (Some program) = (refl, refl, refl, refl, refl, refl, refl)
-adapt_finds from (Some machine) None None None = (refl, refl, refl, refl, refl, refl, refl)
-adapt_finds from (Some machine) None None (Some program) = (refl, refl, refl, refl, refl, refl, refl)
-adapt_finds from (Some machine) None (Some drop) None = (refl, refl, refl, refl, refl, refl, refl)
-adapt_finds from (Some machine) None (Some drop) (Some program) = (refl, refl, refl, refl, refl, refl, refl)
-adapt_finds from (Some machine) (Some tool) None None = (refl, refl, refl, refl, refl, refl, refl)
-adapt_finds from (Some machine) (Some tool) None (Some program) = (refl, refl, refl, refl, refl, refl, refl)
-adapt_finds from (Some machine) (Some tool) (Some drop) None = (refl, refl, refl, refl, refl, refl, refl)
-adapt_finds from (Some machine) (Some tool) (Some drop) (Some program) = (refl, refl, refl, refl, refl, refl, refl)
+adapt_spells from None None None false = (refl, (refl, refl, refl, refl, refl, refl, refl))
+adapt_spells from None None None true = (refl, (refl, refl, refl, refl, refl, refl, refl))
+adapt_spells from None None (Some program) false = (refl, (refl, refl, refl, refl, refl, refl, refl))
+adapt_spells from None None (Some program) true = (refl, (refl, refl, refl, refl, refl, refl, refl))
+adapt_spells from None (Some tools) None false = (refl, (refl, refl, refl, refl, refl, refl, refl))
+adapt_spells from None (Some tools) None true = (refl, (refl, refl, refl, refl, refl, refl, refl))
+adapt_spells from None (Some tools) (Some program) false = (refl, (refl, refl, refl, refl, refl, refl, refl))
+adapt_spells from None (Some tools) (Some program) true = (refl, (refl, refl, refl, refl, refl, refl, refl))
+adapt_spells from (Some machine) None None false = (refl, (refl, refl, refl, refl, refl, refl, refl))
+adapt_spells from (Some machine) None None true = (refl, (refl, refl, refl, refl, refl, refl, refl))
+adapt_spells from (Some machine) None (Some program) false = (refl, (refl, refl, refl, refl, refl, refl, refl))
+adapt_spells from (Some machine) None (Some program) true = (refl, (refl, refl, refl, refl, refl, refl, refl))
+adapt_spells from (Some machine) (Some tools) None false = (refl, (refl, refl, refl, refl, refl, refl, refl))
+adapt_spells from (Some machine) (Some tools) None true = (refl, (refl, refl, refl, refl, refl, refl, refl))
+adapt_spells from (Some machine) (Some tools) (Some program) false = (refl, (refl, refl, refl, refl, refl, refl, refl))
+adapt_spells from (Some machine) (Some tools) (Some program) true = (refl, (refl, refl, refl, refl, refl, refl, refl))
 
-adapt_tool_taken : (from : Text) (machine : Option Text) (tool : ℕ) (drop program : Option Text) → value_kinds false (Unsigned 1 9999) (decimal tool) ≡ []
-    → IsTaken (adapt_words from machine (Some tool) drop program)
-unfolding clap_on_literals
-adapt_tool_taken from None tool None None takes = both (both (both (both (both takes refl) refl) refl) refl) refl
-adapt_tool_taken from None tool None (Some program) takes = both (both (both (both (both takes refl) refl) refl) refl) refl
-adapt_tool_taken from None tool (Some drop) None takes = both (both (both (both (both takes refl) refl) refl) refl) refl
-adapt_tool_taken from None tool (Some drop) (Some program) takes = both (both (both (both (both takes refl) refl) refl) refl) refl
-adapt_tool_taken from (Some machine) tool None None takes = both (both (both (both (both takes refl) refl) refl) refl) refl
-adapt_tool_taken from (Some machine) tool None (Some program) takes = both (both (both (both (both takes refl) refl) refl) refl) refl
-adapt_tool_taken from (Some machine) tool (Some drop) None takes = both (both (both (both (both takes refl) refl) refl) refl) refl
-adapt_tool_taken from (Some machine) tool (Some drop) (Some program) takes = both (both (both (both (both takes refl) refl) refl) refl) refl
-
-tool_in_range : (tool : ℕ) → 1 ≤ tool → tool ≤ 9999 → IsUnsignedIn 1 9999 (decimal tool)
-tool_in_range tool low high =
-    let (digits, few, least, most) = decimal_in_range tool low (omega arith) in
-    let is = sym (decimal_value tool (omega arith)) in
-    (digits, few, least, subst (λ (n : ℕ). n ≤ 9999) is high)
-
-adapt_spells : (from : Text) (machine : Option Text) (tool : Option ℕ) (drop program : Option Text) → IsToolInRange tool →
-    IsTaken (adapt_words from machine tool drop program)
-unfolding clap_on_literals
-adapt_spells from None None None None range = refl
-adapt_spells from None None None (Some program) range = refl
-adapt_spells from None None (Some drop) None range = refl
-adapt_spells from None None (Some drop) (Some program) range = refl
-adapt_spells from (Some machine) None None None range = refl
-adapt_spells from (Some machine) None None (Some program) range = refl
-adapt_spells from (Some machine) None (Some drop) None range = refl
-adapt_spells from (Some machine) None (Some drop) (Some program) range = refl
-adapt_spells from machine (Some tool) drop program range =
-    let text = Accepts-accepts false (Unsigned 1 9999) (decimal tool) (tool_in_range tool range.0 range.1) in
-    adapt_tool_taken from machine tool drop program (passes (accepts false (Unsigned 1 9999) (decimal tool)) _ text)
-
--- the number that is read from its decimal
-tool_read : (tool read : Option ℕ) → IsToolInRange tool → IsTool (text_of tool) read → read ≡ tool
-tool_read None None range is = refl
-tool_read None (Some read) range is = absurd is
-tool_read (Some tool) None range is = absurd is
-tool_read (Some tool) (Some read) range is = ap Some (is.1 ∙ decimal_value tool (omega (arith, range.1)))
-
-requested_adapt : (from : Text) (machine : Option Text) (tool : Option ℕ) (drop program : Option Text) (found : Option (Text × List Row)) (options : Options) →
-    IsToolInRange tool → FindsAdapt from machine (text_of tool) drop program found → AreOptions found options →
-    IsAdaptRequest from machine tool drop program options
-requested_adapt from machine tool drop program None options range finds are = absurd finds
-requested_adapt from machine tool drop program (Some found) (ToAdapt adapt) range finds are =
-    let read = subst (λ (text : Option Text). IsTool text adapt.tool) finds.3 are.1.tool in (
-      same_text _ _ _ are.1.from finds.1,
-      are.1.machine ∙ finds.2,
-      tool_read tool adapt.tool range read,
-      are.1.drop ∙ finds.4,
-      are.1.program ∙ finds.5,
-    )
-requested_adapt from machine tool drop program (Some found) (ToList list) range finds are =
+requested_adapt : (from : Text) (machine tools program : Option Text) (delete : Bool) (found : Option (Text × List Row)) (options : Options) →
+    FindsAdapt from machine tools program delete found → AreOptions found options →
+    IsAdaptRequest from machine tools program delete options
+requested_adapt from machine tools program delete None options finds are = absurd finds
+requested_adapt from machine tools program delete (Some found) (ToAdapt adapt) finds are = (
+  same_text _ _ _ are.1.from finds.1,
+  are.1.machine ∙ finds.2,
+  are.1.tools ∙ finds.3,
+  are.1.program ∙ finds.4,
+  are.1.delete ∙ finds.5,
+)
+requested_adapt from machine tools program delete (Some found) (ToList list) finds are =
     other_letter (codes "adapt") (codes "list") (sym finds.0 ∙ are.0) (λ letters. omega (arith, letters))
-requested_adapt from machine tool drop program (Some found) (ToCertify certify) range finds are =
+requested_adapt from machine tools program delete (Some found) (ToCertify certify) finds are =
     other_letter (codes "adapt") (codes "certify") (sym finds.0 ∙ are.0) (λ letters. omega (arith, letters))
-requested_adapt from machine tool drop program (Some found) (ToCheck check) range finds are =
+requested_adapt from machine tools program delete (Some found) (ToCheck check) finds are =
     other_letter (codes "adapt") (codes "check") (sym finds.0 ∙ are.0) (λ letters. omega (arith, letters))
-requested_adapt from machine tool drop program (Some found) (ToLive live) range finds are =
+requested_adapt from machine tools program delete (Some found) (ToLive live) finds are =
     other_letter (codes "adapt") (codes "live") (sym finds.0 ∙ are.0) (λ letters. omega (arith, letters))
-requested_adapt from machine tool drop program (Some found) (ToDraw draw) range finds are =
+requested_adapt from machine tools program delete (Some found) (ToDraw draw) finds are =
     other_letter (codes "adapt") (codes "draw") (sym finds.0 ∙ are.0) (λ letters. omega (arith, letters))
-requested_adapt from machine tool drop program (Some found) (ToShow show) range finds are =
+requested_adapt from machine tools program delete (Some found) (ToShow show) finds are =
     other_letter (codes "adapt") (codes "show") (sym finds.0 ∙ are.0) (λ letters. omega (arith, letters))
-requested_adapt from machine tool drop program (Some found) (ToReport report) range finds are =
+requested_adapt from machine tools program delete (Some found) (ToReport report) finds are =
     other_letter (codes "adapt") (codes "report") (sym finds.0 ∙ are.0) (λ letters. omega (arith, letters))
-requested_adapt from machine tool drop program (Some found) (ToPlace place) range finds are =
+requested_adapt from machine tools program delete (Some found) (ToPlace place) finds are =
     other_letter (codes "adapt") (codes "place") (sym finds.0 ∙ are.0) (λ letters. omega (arith, letters))
-requested_adapt from machine tool drop program (Some found) (ToMachine made) range finds are =
+requested_adapt from machine tools program delete (Some found) (ToMachine made) finds are =
     other_letter (codes "adapt") (codes "machine") (sym finds.0 ∙ are.0) (λ letters. omega (arith, letters))
-requested_adapt from machine tool drop program (Some found) (ToExplain number) range finds are =
+requested_adapt from machine tools program delete (Some found) (ToExplain number) finds are =
     other_letter (codes "adapt") (codes "explain") (sym finds.0 ∙ are.0) (λ letters. omega (arith, letters))
-requested_adapt from machine tool drop program (Some found) (ToHelp command) range finds are =
+requested_adapt from machine tools program delete (Some found) (ToHelp command) finds are =
     other_letter (codes "adapt") (codes "help") (sym finds.0 ∙ are.0) (λ letters. omega (arith, letters))
-requested_adapt from machine tool drop program (Some found) (ToRun run) range finds are =
+requested_adapt from machine tools program delete (Some found) (ToRun run) finds are =
     no_run (codes "adapt") run.recording (sym finds.0 ∙ are.0) (λ three. omega (arith, three)) (λ six. omega (arith, six))
-requested_adapt from machine tool drop program (Some found) (ToRunThrough run) range finds are =
+requested_adapt from machine tools program delete (Some found) (ToRunThrough run) finds are =
     no_run (codes "adapt") run.recording (sym finds.0 ∙ are.0) (λ three. omega (arith, three)) (λ six. omega (arith, six))
-requested_adapt from machine tool drop program (Some found) ToVersion range finds are =
+requested_adapt from machine tools program delete (Some found) ToVersion finds are =
     other_letter (codes "adapt") (codes "version") (sym finds.0 ∙ are) (λ letters. omega (arith, letters))
 
-pub adapt_taken : (words : List Text) (from : Text) (machine : Option Text) (tool : Option ℕ) (drop program : Option Text) → IsToolInRange tool
-    → words ≡ adapt_words from machine tool drop program → IsTaken words
-adapt_taken words from machine tool drop program range spelled = subst IsTaken (sym spelled) (adapt_spells from machine tool drop program range)
+pub adapt_taken : (words : List Text) (from : Text) (machine tools program : Option Text) (delete : Bool)
+    → words ≡ adapt_words from machine tools program delete → IsTaken words
+adapt_taken words from machine tools program delete spelled = subst IsTaken (sym spelled) (adapt_spells from machine tools program delete).0
 
-adapt_have : (found : Option (Text × List Row)) (from : Text) (machine : Option Text) (tool : Option Text) (drop : Option Text) (program : Option Text) → FindsAdapt from machine tool drop program found → HaveChanges found
-adapt_have None from machine tool drop program finds = absurd finds
-adapt_have (Some found) from machine tool drop program finds = none_wrong found finds.6
+adapt_have : (found : Option (Text × List Row)) (from : Text) (machine tools program : Option Text) (delete : Bool) → FindsAdapt from machine tools program delete found → HaveChanges found
+adapt_have None from machine tools program delete finds = absurd finds
+adapt_have (Some found) from machine tools program delete finds = none_wrong found finds.6
 
-pub adapt_changes : (words : List Text) (from : Text) (machine : Option Text) (tool : Option ℕ) (drop program : Option Text) → IsToolInRange tool → words ≡ adapt_words from machine tool drop program → HaveChanges (subcommand_of ngc_app words)
-adapt_changes words from machine tool drop program range spelled =
+pub adapt_changes : (words : List Text) (from : Text) (machine tools program : Option Text) (delete : Bool) → words ≡ adapt_words from machine tools program delete → HaveChanges (subcommand_of ngc_app words)
+adapt_changes words from machine tools program delete spelled =
     let Have : List Text → Type 0 = λ ws. HaveChanges (subcommand_of ngc_app ws) in
-    subst Have (sym spelled) (adapt_have _ from machine (text_of tool) drop program (adapt_finds from machine tool drop program))
+    subst Have (sym spelled) (adapt_have _ from machine tools program delete (adapt_spells from machine tools program delete).1)
 
-pub adapt_read : (words : List Text) (from : Text) (machine : Option Text) (tool : Option ℕ) (drop program : Option Text) (options : Options) →
-    IsToolInRange tool → words ≡ adapt_words from machine tool drop program
-    → AreOptions (subcommand_of ngc_app words) options → IsAdaptRequest from machine tool drop program options
-adapt_read words from machine tool drop program options range spelled are =
+pub adapt_read : (words : List Text) (from : Text) (machine tools program : Option Text) (delete : Bool) (options : Options) →
+    words ≡ adapt_words from machine tools program delete
+    → AreOptions (subcommand_of ngc_app words) options → IsAdaptRequest from machine tools program delete options
+adapt_read words from machine tools program delete options spelled are =
     let Are : List Text → Type 0 = λ ws. AreOptions (subcommand_of ngc_app ws) options in
-    requested_adapt from machine tool drop program _ options range (adapt_finds from machine tool drop program) (subst Are spelled are)
+    requested_adapt from machine tools program delete _ options (adapt_spells from machine tools program delete).1 (subst Are spelled are)
 
 -- the values of `machine` that were found are these
 abbrev FindsMachine : MachineSource → Option Text → Option Text → Option Text → Option (Text × List Row) → Type 0

@@ -18,8 +18,8 @@ use Rattle.ngc_command_line.specs.Meant.{IsTaken, IsWhole}
 use Rattle.ngc_command_line.specs.declared.options.Recording.{Recording}
 use Rattle.ngc_command_line.specs.declared.options.Recording.TheVariants.{Log, Pulses}
 use Rattle.ngc_command_line.proofs.FoundValues.{AreSound}
-use Rattle.ngc_command_line.proofs.Rules.{Fits, FitsCuts, FitsFormat, FitsMask, FitsNumber, FitsTool, append_is_sound, below_passes, cuts_fit, flag_is_sound, format_fits, found_fits}
-use Rattle.ngc_command_line.proofs.Rules.{given_has_value, help_is_sound, is_true, level_is_filled, mask_fits, neither_true, number_fits, set_is_sound, tool_fits}
+use Rattle.ngc_command_line.proofs.Rules.{Fits, FitsCuts, FitsFormat, FitsMask, FitsNumber, append_is_sound, below_passes, cuts_fit, flag_is_sound, format_fits, found_fits}
+use Rattle.ngc_command_line.proofs.Rules.{given_has_value, help_is_sound, is_true, level_is_filled, mask_fits, neither_true, number_fits, set_is_sound}
 
 -- what was found are the rows of one of these, at words in which it finds no fault
 abbrev IsOneOf : List Shape → Text × List Row → Type 0
@@ -330,24 +330,21 @@ place_values words none =
       found_fits (codes "cuts") (IsUnsignedIn 1 65535) rows filled,
     )
 
-no_tool : (id text : Text) → bytes_eq id (codes "tool") ≡ false → FitsTool id text
-no_tool = other_fits (codes "tool") (IsUnsignedIn 1 9999)
-
-adapt_sound : AreSound FitsTool adapt_shape.rules
+adapt_sound : AreSound FitsCuts adapt_shape.rules
 adapt_sound =
-    let from = set_is_sound FitsTool _ refl refl refl (λ v none. no_tool (codes "from") v refl) in
-    let machine = set_is_sound FitsTool _ refl refl refl (λ v none. no_tool (codes "machine") v refl) in
-    let tool = set_is_sound FitsTool _ refl refl refl (λ v none same. tool_fits v none) in
-    let drop = set_is_sound FitsTool _ refl refl refl (λ v none. no_tool (codes "drop") v refl) in
-    let program = set_is_sound FitsTool _ refl refl refl (λ v none. no_tool (codes "program") v refl) in
-    (from, (machine, (tool, (drop, (program, (help_is_sound FitsTool _ refl refl, tt))))))
+    let from = set_is_sound FitsCuts _ refl refl refl (λ v none. no_cuts (codes "from") v refl) in
+    let machine = set_is_sound FitsCuts _ refl refl refl (λ v none. no_cuts (codes "machine") v refl) in
+    let tools = set_is_sound FitsCuts _ refl refl refl (λ v none. no_cuts (codes "tools") v refl) in
+    let program = set_is_sound FitsCuts _ refl refl refl (λ v none. no_cuts (codes "program") v refl) in
+    let delete = flag_is_sound FitsCuts _ (codes "true") (codes "false") refl refl refl (λ v. no_cuts (codes "delete") v refl) in
+    (from, (machine, (tools, (program, (delete, (help_is_sound FitsCuts _ refl refl, tt))))))
 
 adapt_values : (words : List Text) → level_fault adapt_shape [] nothing_held words false [] ≡ [] → HasAdaptValues (rows_after adapt_shape.rules [] words)
 adapt_values words none =
     let rows = rows_after adapt_shape.rules [] words in
-    let (filled, required) = level_is_filled FitsTool adapt_shape adapt_sound words none in
+    let (filled, required) = level_is_filled FitsCuts adapt_shape adapt_sound words none in
     let (from, rest) = neither_true _ _ required in
-    (given_has_value FitsTool (codes "from") rows filled (is_true _ from), found_fits (codes "tool") (IsUnsignedIn 1 9999) rows filled)
+    given_has_value FitsCuts (codes "from") rows filled (is_true _ from)
 
 explain_values : (words : List Text) → level_fault explain_shape [] nothing_held words false [] ≡ [] →
     HasExplainValues (rows_after explain_shape.rules [] words)

@@ -122,13 +122,6 @@ mask_fits text none = accepts-Accepts false (Unsigned 0 255) text (accepted _ _ 
 pub format_fits : (text : Text) → value_kinds false (Unsigned 1 2) text ≡ [] → IsUnsignedIn 1 2 text
 format_fits text none = accepts-Accepts false (Unsigned 1 2) text (accepted _ _ none)
 
--- and one of `--tool` is in its own
-abbrev pub FitsTool : Text → Text → Type 0
-FitsTool = Fits (codes "tool") (IsUnsignedIn 1 9999)
-
-pub tool_fits : (text : Text) → value_kinds false (Unsigned 1 9999) text ≡ [] → IsUnsignedIn 1 9999 text
-tool_fits text none = accepts-Accepts false (Unsigned 1 9999) text (accepted _ _ none)
-
 -- and the number of a fault in its own
 abbrev pub FitsNumber : Text → Text → Type 0
 FitsNumber = Fits (codes "number") (IsUnsignedIn 1 999)

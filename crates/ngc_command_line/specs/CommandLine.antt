@@ -145,14 +145,11 @@ place_app = fold with_rule (new_app (codes "place"))
     ∷ travel_margin_option ∷ rapids_option ∷ dialect_option ∷ [])
 
 -- `--tool N`, with a number from 1 to 9,999
-abbrev pub tool_option : Rule
-tool_option = record (file_option (codes "tool")) { parser = Some (Unsigned 1 9999) }
-
--- `adapt --from CONTROL [--machine FILE] [--tool N] [--drop CODES] [--program FILE]`
+-- `adapt --from CONTROL [--machine FILE] [--tools FILE] [--program FILE] [--delete]`
 abbrev pub adapt_app : App
 adapt_app = fold with_rule (new_app (codes "adapt"))
-    (required_file (codes "from") ∷ file_option (codes "machine") ∷ tool_option
-    ∷ file_option (codes "drop") ∷ file_option (codes "program") ∷ [])
+    (required_file (codes "from") ∷ file_option (codes "machine") ∷ file_option (codes "tools")
+    ∷ file_option (codes "program") ∷ flag (codes "delete") ∷ [])
 
 -- `machine [--grbl FILE] [--steps-per-mm N] [--travel X,Y,Z] [--feed X,Y,Z] [--acceleration X,Y,Z]`
 -- and `[--corner SPEED] [--ticks N] [--frame END] [--jump SPEED] [--turn ACCELERATION]
@@ -287,16 +284,11 @@ place_words machine tools program system cuts json = codes "place"
     ∷ (file_words (codes "--program=") program ++ file_words (codes "--system=") system
     ++ cuts_words cuts ++ flag_words (codes "--json") json)
 
--- the one word `--tool=N`, where there is a number
-abbrev pub tool_words : Option ℕ → List Text
-tool_words None = []
-tool_words (Some tool) = (codes "--tool=" ++ decimal tool) ∷ []
-
 -- the words of `ngc adapt` with these options, in one form
-abbrev pub adapt_words : Text → Option Text → Option ℕ → Option Text → Option Text → List Text
-adapt_words from machine tool drop program = codes "adapt" ∷ (codes "--from=" ++ from)
-    ∷ (file_words (codes "--machine=") machine ++ tool_words tool
-    ++ file_words (codes "--drop=") drop ++ file_words (codes "--program=") program)
+abbrev pub adapt_words : Text → Option Text → Option Text → Option Text → Bool → List Text
+adapt_words from machine tools program delete = codes "adapt" ∷ (codes "--from=" ++ from)
+    ∷ (file_words (codes "--machine=") machine ++ file_words (codes "--tools=") tools
+    ++ file_words (codes "--program=") program ++ flag_words (codes "--delete") delete)
 
 -- the source of a machine's figures: a dump of GRBL's settings, or steps, travel, feed and
 -- acceleration

@@ -246,22 +246,13 @@ pub record ArePlaceOptions (rows : List Row) (options : PlaceOptions) : Type 0 w
   pub changes : changes_in rows ≡ Some options.changes
   pub dialect : option_map (λ name. name.now) options.dialect ≡ first_of (codes "dialect") rows
 
--- the number of a tool: none without a text, otherwise the number from 1 to 9,999 whose decimal the
--- text is; a plus sign may precede it
-abbrev pub IsTool : Option Text → Option ℕ → Type 0
-IsTool None None = Unit {0}
-IsTool None (Some tool) = ⊥
-IsTool (Some text) None = ⊥
-IsTool (Some text) (Some tool) = IsNumeral 10 (without_leading_plus text)
-    × (tool ≡ digits_value 10 (without_leading_plus text)) × (1 ≤ tool) × (tool ≤ 9999)
-
 -- each option of `adapt` by the first value that was found under its own name
 pub record AreAdaptOptions (rows : List Row) (options : AdaptOptions) : Type 0 where
   pub from : Some options.from.now ≡ first_of (codes "from") rows
   pub machine : option_map (λ name. name.now) options.machine ≡ first_of (codes "machine") rows
-  pub tool : IsTool (first_of (codes "tool") rows) options.tool
-  pub drop : option_map (λ name. name.now) options.drop ≡ first_of (codes "drop") rows
+  pub tools : option_map (λ name. name.now) options.tools ≡ first_of (codes "tools") rows
   pub program : option_map (λ name. name.now) options.program ≡ first_of (codes "program") rows
+  pub delete : options.delete ≡ is_set (codes "delete") rows
 
 -- each option of `machine` by the first value that was found under its own name
 pub record AreMachineOptions (rows : List Row) (options : MachineOptions) : Type 0 where
@@ -329,7 +320,6 @@ HasPlaceValues rows = HasValue (codes "machine") rows × HasValue (codes "tools"
 -- the values that are found for `adapt` if the words are accepted
 abbrev pub HasAdaptValues : List Row → Type 0
 HasAdaptValues rows = HasValue (codes "from") rows
-    × IfSome (first_of (codes "tool") rows) (IsUnsignedIn 1 9999)
 
 -- the values that are found for `explain` if the words are accepted
 abbrev pub HasExplainValues : List Row → Type 0
@@ -478,13 +468,12 @@ IsPlaceRequest machine tools program system cuts json (ToPlace place) =
 IsPlaceRequest machine tools program system cuts json other = ⊥
 
 -- `adapt` is requested, with these options
-abbrev pub IsAdaptRequest : Text → Option Text → Option ℕ → Option Text → Option Text →
-    Options → Type 0
-IsAdaptRequest from machine tool drop program (ToAdapt adapt) =
+abbrev pub IsAdaptRequest : Text → Option Text → Option Text → Option Text → Bool → Options → Type 0
+IsAdaptRequest from machine tools program delete (ToAdapt adapt) =
     (adapt.from.now ≡ from) × (option_map (λ name. name.now) adapt.machine ≡ machine)
-    × (adapt.tool ≡ tool) × (option_map (λ name. name.now) adapt.drop ≡ drop)
-    × (option_map (λ name. name.now) adapt.program ≡ program)
-IsAdaptRequest from machine tool drop program other = ⊥
+    × (option_map (λ name. name.now) adapt.tools ≡ tools)
+    × (option_map (λ name. name.now) adapt.program ≡ program) × (adapt.delete ≡ delete)
+IsAdaptRequest from machine tools program delete other = ⊥
 
 abbrev pub grbl_in : MachineSource → Option Text
 grbl_in (FromGrbl file) = Some file
@@ -539,10 +528,6 @@ AreCommands command = IfSome command (IsNameAmong ngc_app.subs)
 -- the number of cuts, if there is one, is from 1 to 65,535
 abbrev pub AreCutsInRange : Option ℕ → Type 0
 AreCutsInRange cuts = IfSome cuts (λ number. (1 ≤ number) × (number ≤ 65535))
-
--- the number of a tool, if there is one, is from 1 to 9,999
-abbrev pub IsToolInRange : Option ℕ → Type 0
-IsToolInRange tool = IfSome tool (λ number. (1 ≤ number) × (number ≤ 9999))
 
 -- the table of numbers
 abbrev pub usage_fault_number : UsageFault → ℕ

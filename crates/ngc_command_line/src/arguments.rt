@@ -115,7 +115,7 @@ pub(crate) const DIALECT: Argument<'static> = Argument {
     is_named: true,
     is_required: false,
     takes: Takes::Text("NAME"),
-    help: "Language of the part program: linuxcnc, grbl, mach3\nor fanuc [default: our own]",
+    help: "Language of the part program: linuxcnc, grbl, mach3,\nfanuc or ngc [default: the machine file's, or ngc]",
 };
 
 pub(crate) fn flag_is_set(found: &ArgMatches<'_>, name: &str) -> bool

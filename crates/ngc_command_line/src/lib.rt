@@ -18,7 +18,7 @@ ghost use Rattle.ngc_command_line.specs.Meant.{IsCheckRequest, IsDrawRequest, Is
 ghost use Rattle.ngc_command_line.specs.Meant.{IsLiveRequest, IsShowRequest, IsHelpRequest};
 ghost use Rattle.ngc_command_line.specs.Meant.{AreCommands, IsPlaceRequest, IsReportRequest};
 ghost use Rattle.ngc_command_line.specs.Meant.{IsAdaptRequest, IsMachineRequest, HaveChanges, IsTaken};
-ghost use Rattle.ngc_command_line.specs.Meant.{IsToolInRange, IsWhole, changes_in};
+ghost use Rattle.ngc_command_line.specs.Meant.{IsWhole, changes_in};
 ghost use Rattle.ngc_command_line.specs.Meant.{help_fault_number, usage_fault_number};
 
 mod adapt;
@@ -236,13 +236,11 @@ pub fn read_options<'a>(alloc: Global, words: &'a [&'a str]) -> Result<Options<'
         → texts words.entry.now ≡ place_words machine tools program system cuts json
         → MatchResult result (IsPlaceRequest machine tools program system cuts json)
         (λ fault. fault ≡ UsageFault.Memory) }
-    // `adapt --from=CONTROL --machine=FILE --tool=N --drop=CODES --program=FILE` is read as it is
+    // `adapt --from=CONTROL --machine=FILE --tools=FILE --program=FILE --delete` is read as it is
     // written, where the last four may be left out.
-    ensures spelled_adapt { (from : Text) (machine : Option Text) (tool : Option ℕ)
-        (drop program : Option Text)
-        → IsToolInRange tool
-        → texts words.entry.now ≡ adapt_words from machine tool drop program
-        → MatchResult result (IsAdaptRequest from machine tool drop program)
+    ensures spelled_adapt { (from : Text) (machine tools program : Option Text) (delete : Bool)
+        → texts words.entry.now ≡ adapt_words from machine tools program delete
+        → MatchResult result (IsAdaptRequest from machine tools program delete)
         (λ fault. fault ≡ UsageFault.Memory) }
     // `machine --grbl=FILE --corner=SPEED --ticks=N --frame=END` is read as it is written, where
     // the last three may be left out, and so is `machine --steps-per-mm=N --travel=X,Y,Z

@@ -288,12 +288,12 @@ pub struct AdaptOptions<'a> {
     pub from: &'a str,
     /// The machine file. Without one a built-in small mill is used.
     pub machine: Option<&'a str>,
-    /// The number of the tool, 1 to 9,999, to mount in front of a program that mounts none.
-    pub tool: Option<u16>,
-    /// The M codes that the machine can do without.
-    pub drop: Option<&'a str>,
+    /// The file of the tool table. Without one there are no tools.
+    pub tools: Option<&'a str>,
     /// The file of the part program. Without one it is read from standard input.
     pub program: Option<&'a str>,
+    /// Whether block delete is on, so that lines that begin with `/` are left out.
+    pub delete: bool,
 }
 
 /// The options of `ngc machine`, as texts.

@@ -15,7 +15,7 @@ use Rattle.ngc_arc_geometry.specs.Shape.{ArcShape}
 use Rattle.ngc_arc_geometry.specs.Tolerance.{tolerance}
 use Rattle.ngc_arc_geometry.specs.declared.fault.ArcFault.{ArcFault}
 use Rattle.ngc_arc_geometry.specs.declared.given.Ends.{Ends}
-use Rattle.ngc_dialect_reader.specs.declared.dialect.Dialect.{Dialect}
+use Rattle.ngc_dialect_names.specs.declared.dialect.Dialect.{Dialect}
 use Rattle.ngc_dialect_arcs.specs.declared.refusal.ArcRefusal.{ArcRefusal}
 use Rattle.ngc_dialect_arcs.specs.declared.refusal.ArcRefusal.TheVariants as why
 use Rattle.ngc_dialect_arcs.specs.Limits.{least_radius, slack, may_differ}

@@ -12,8 +12,8 @@ use Rattle.ngc_fixed_length.specs.declared.points.Point2.{Point2}
 use Rattle.ngc_fixed_length.specs.declared.units.Units.{Units}
 use Rattle.ngc_fixed_length.specs.declared.points.Point3.{Point3}
 use Rattle.ngc_offsets.specs.declared.given.AxisLengths.{AxisLengths}
-use Rattle.ngc_dialect_reader.specs.declared.dialect.Dialect.{Dialect}
-use Rattle.ngc_dialect_reader.specs.declared.dialect.Dialect.TheVariants.{LinuxCnc, Grbl}
+use Rattle.ngc_dialect_names.specs.declared.dialect.Dialect.{Dialect}
+use Rattle.ngc_dialect_names.specs.declared.dialect.Dialect.TheVariants.{LinuxCnc, Grbl}
 use Rattle.ngc_dialect_arcs.specs.declared.line.ArcLine.{ArcLine}
 use Rattle.ngc_dialect_arcs.specs.declared.refusal.ArcRefusal.{ArcRefusal}
 use Rattle.ngc_dialect_arcs.specs.declared.refusal.ArcRefusal.TheVariants as why

@@ -6,7 +6,7 @@ ghost use Rattle.ngc_dialect_arcs.specs.Centre as spec;
 use crate::limits::{least_radius, may_differ, roots_are_within, slack, tolerance};
 use crate::refusal::{ArcRefusal, length};
 use ngc_arc_geometry::{Arc, Ends};
-use ngc_dialect_reader::Dialect;
+use ngc_dialect_names::Dialect;
 use ngc_fixed_length::{Nm, Plane, Point2, Point3, Turn, Units};
 
 // The square of the greatest radius, 2*10^9 nm.

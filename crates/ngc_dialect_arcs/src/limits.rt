@@ -4,7 +4,7 @@ ghost use Rattle.ngc_arc_geometry.specs.Radii.{roots_within};
 ghost use Rattle.ngc_arc_geometry.specs.Tolerance.{tolerance as tolerance_in};
 ghost use Rattle.ngc_dialect_arcs.specs.Limits as spec;
 
-use ngc_dialect_reader::Dialect;
+use ngc_dialect_names::Dialect;
 use ngc_fixed_length::Units;
 
 /// Returns the least radius in nanometres.

@@ -4,7 +4,7 @@ ghost use Rattle.ngc_dialect_arcs.specs.Lines as spec;
 
 use crate::centre::{by_radius, settled};
 use crate::refusal::{ArcRefusal, length};
-use ngc_dialect_reader::Dialect;
+use ngc_dialect_names::Dialect;
 use ngc_fixed_length::{Distance, Nm, Plane, Point2, Point3, Turn, Units, Value};
 use ngc_offsets::AxisLengths;
 

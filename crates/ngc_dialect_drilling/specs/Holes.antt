@@ -18,8 +18,8 @@ use Rattle.ngc_dialect_cycles.specs.declared.line.Series.{Series}
 use Rattle.ngc_dialect_cycles.specs.declared.refusal.CycleRefusal.{CycleRefusal}
 use Rattle.ngc_dialect_cycles.specs.declared.refusal.CycleRefusal.TheVariants as refusals
 use Rattle.ngc_dialect_cycles.specs.Refusals.{cycle}
-use Rattle.ngc_dialect_reader.specs.declared.dialect.Dialect.{Dialect}
-use Rattle.ngc_dialect_reader.specs.declared.dialect.Dialect.TheVariants as dialects
+use Rattle.ngc_dialect_names.specs.declared.dialect.Dialect.{Dialect}
+use Rattle.ngc_dialect_names.specs.declared.dialect.Dialect.TheVariants as dialects
 use Rattle.ngc_dialect_parameters.specs.declared.statement.Word.{Word}
 use Rattle.ngc_dialect_rules.specs.declared.code.Code.{Code}
 use Rattle.ngc_dialect_rules.specs.declared.code.Code.TheVariants.{G}

@@ -3,8 +3,8 @@
 -- another cycle's code.
 use Rattle.std.specs.Prelude.{ℤ, Bool, true, false, not, ◌||◌, List, Option, Some, None, Result}
 use Rattle.std.specs.Prelude.{Ok, Err, option_map, if◌then◌else◌}
-use Rattle.ngc_dialect_reader.specs.declared.dialect.Dialect.{Dialect}
-use Rattle.ngc_dialect_reader.specs.declared.dialect.Dialect.TheVariants as dialects
+use Rattle.ngc_dialect_names.specs.declared.dialect.Dialect.{Dialect}
+use Rattle.ngc_dialect_names.specs.declared.dialect.Dialect.TheVariants as dialects
 use Rattle.ngc_dialect_parameters.specs.declared.statement.Word.{Word}
 use Rattle.ngc_dialect_rules.specs.declared.code.Code.{Code}
 use Rattle.ngc_dialect_rules.specs.declared.fault.Cause.TheVariants as causes

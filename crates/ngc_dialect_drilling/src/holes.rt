@@ -7,9 +7,9 @@ use crate::heights::{added, cycle_height, machine_height};
 use crate::kept::kept_after;
 use crate::places::{depth_letter, letter_of, u_axis, v_axis, whole_shift};
 use ngc_dialect_cycles::{CycleLine, CycleMoves, CycleRefusal, HoleKind, Pecks, Series};
+use ngc_dialect_names::Dialect;
 use ngc_dialect_numbers::Number;
 use ngc_dialect_parameters::Word;
-use ngc_dialect_reader::Dialect;
 use ngc_dialect_rules::{
     Cause, Code, Fault, KeptSeries, Known, LeftOut, about_code, about_letter, count, has_letter,
     has_no_feed, is_fanuc, is_linuxcnc, length_in, value_of,

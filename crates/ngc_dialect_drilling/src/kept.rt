@@ -4,9 +4,9 @@ ghost use Rattle.ngc_dialect_drilling.specs.Kept as spec;
 
 use crate::heights::level_here;
 use crate::places::depth_letter;
+use ngc_dialect_names::Dialect;
 use ngc_dialect_numbers::Number;
 use ngc_dialect_parameters::Word;
-use ngc_dialect_reader::Dialect;
 use ngc_dialect_rules::{
     Cause, Code, Fault, KeptSeries, Known, about_code, seconds, value_of, word_of,
 };

@@ -18,3 +18,5 @@ pub mod StatementSteps
 pub mod ProgramSteps
 -- One line of a program's flow after another.
 pub mod FlowSteps
+-- What a program does doesn't depend on what is collected.
+pub mod Erasure

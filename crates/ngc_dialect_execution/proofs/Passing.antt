@@ -2,7 +2,7 @@
 use Rattle.std.proofs.Common.{◌≡◌, ℕ, List, [], ◌∷◌, Bool, true, false, Result, Ok, Err, refl, sym, ◌∙◌, ap, subst}
 use Rattle.std.specs.Prelude.{Option, is_some, if◌then◌else◌}
 use Rattle.ngc_canned_cycles.specs.declared.cycle.CycleMove.{CycleMove}
-use Rattle.ngc_canonical.specs.State.{Setup, State}
+use Rattle.ngc_canonical.specs.State.{Setup}
 use Rattle.ngc_dialect_parameters.specs.declared.statement.Word.{Word}
 use Rattle.ngc_dialect_drilling.specs.Holes.{cycle_of}
 use Rattle.ngc_dialect_drilling.specs.Moves.{move_lines, stop_lines}
@@ -17,9 +17,9 @@ use Rattle.ngc_dialect_execution.specs.declared.fault.Cause.{Cause}
 use Rattle.ngc_dialect_execution.specs.declared.fault.Cause.TheVariants as causes
 use Rattle.ngc_dialect_execution.specs.declared.fault.Refusal.{Refusal}
 use Rattle.ngc_dialect_execution.specs.declared.fault.Refusal.TheVariants.{Because, Memory}
-use Rattle.ngc_dialect_execution.specs.Executed.{executed, lines_at}
+use Rattle.ngc_dialect_execution.specs.Executed.{Run, lines_at, run}
 use Rattle.ngc_dialect_execution.specs.Faults.{◌>>=◌, caused, Says}
-use Rattle.ngc_dialect_execution.specs.Taken.{Between, known_of, with_state, with_series, plain_taken, move_taken, moves_taken, start_taken, cycle_taken, made_or_path, made_taken, path_taken, plain_words_taken}
+use Rattle.ngc_dialect_execution.specs.Taken.{Between, known_of, run_of, with_run, with_series, plain_taken, move_taken, moves_taken, start_taken, cycle_taken, made_or_path, made_taken, path_taken, plain_words_taken}
 
 -- a step that always succeeds after another
 pub goes_on : {X Y Z : Type 0} (view : X → Y) (seen : X → Z) (f : Y → Result Z Cause) (r : Result X Refusal) (says : Result Y Cause) →
@@ -41,12 +41,12 @@ follows seen f r says y e h = subst (λ s. Says seen r s) (sym (ap (λ s. s >>= 
 
 -- ---- plain lines, and moves
 
-pub plain_says : (setup : Setup) (line : ℕ) (ps : List Plain) (b : Between) (s : State) (r : Result (Unit {0}) Refusal) →
-    Says (λ (x : Unit {0}). s) r (caused causes.Plain (executed setup (lines_at line ps) b.state)) →
-    Says (λ (x : Unit {0}). with_state b b.front s) r (plain_taken setup line ps b)
+pub plain_says : (setup : Setup) (line : ℕ) (ps : List Plain) (b : Between) (s : Run) (r : Result (Unit {0}) Refusal) →
+    Says (λ (x : Unit {0}). s) r (caused causes.Plain (run setup (lines_at line ps) (run_of b))) →
+    Says (λ (x : Unit {0}). with_run b b.front s) r (plain_taken setup line ps b)
 plain_says setup line ps b s r e =
-    goes_on (λ (x : Unit {0}). s) (λ (x : Unit {0}). with_state b b.front s) (λ t. Ok (with_state b b.front t)) r
-    (caused causes.Plain (executed setup (lines_at line ps) b.state)) e (λ x. refl)
+    goes_on (λ (x : Unit {0}). s) (λ (x : Unit {0}). with_run b b.front s) (λ t. Ok (with_run b b.front t)) r
+    (caused causes.Plain (run setup (lines_at line ps) (run_of b))) e (λ x. refl)
 
 pub moves_next : (setup : Setup) (line : ℕ) (ms rest : List CycleMove) (m : CycleMove) (b c : Between) (whole : Result Between Cause) →
     ms ≡ m ∷ rest → move_taken setup line m b ≡ Ok c → moves_taken setup line ms b ≡ whole → moves_taken setup line rest c ≡ whole

@@ -4,9 +4,8 @@ use Rattle.std.proofs.lemmas.Bool.Decides.{nat_tests}
 use Rattle.ngc_line_reader.specs.Program.{split_lines}
 use Rattle.std.specs.Prelude.{◌==◌, if◌then◌else◌}
 use Rattle.ngc_canonical.specs.declared.fault.Fault.TheVariants.{NoEnd}
-use Rattle.ngc_dialect_reader.specs.declared.dialect.Dialect.{Dialect}
+use Rattle.ngc_dialect_names.specs.declared.dialect.Dialect.{Dialect}
 use Rattle.ngc_canonical.specs.State.{Setup}
-use Rattle.ngc_commands.specs.declared.command.Command.{Command}
 use Rattle.ngc_frames.specs.Changes.{change_at, frame_of}
 use Rattle.ngc_frames.specs.declared.change.FrameChange.{FrameChange}
 use Rattle.ngc_frames.specs.declared.frame.Frame.{Frame}
@@ -20,7 +19,7 @@ use Rattle.ngc_dialect_execution.specs.declared.lines.Taken.{Taken}
 use Rattle.ngc_dialect_execution.specs.declared.lines.Taken.TheVariants.{Done, HasFlow}
 use Rattle.ngc_dialect_execution.specs.declared.text.LinesBefore.{LinesBefore}
 use Rattle.ngc_dialect_execution.specs.declared.text.Mark.{Mark}
-use Rattle.ngc_dialect_execution.specs.Ending.{Outcome, at, changed_by, commands_of, finished, with_changes}
+use Rattle.ngc_dialect_execution.specs.Ending.{Outcome, at, changed_by, ended_only, finished, framed_by, Framed, with_changes}
 use Rattle.ngc_dialect_execution.specs.Faults.{◌>>=◌, FailsBy, ProgramSays, Says, at_line}
 use Rattle.ngc_dialect_execution.specs.Flow.{flow_from}
 use Rattle.ngc_dialect_execution.specs.Program.{go_from, go_on, lines_taken, marked_taken}
@@ -96,18 +95,15 @@ goes_on setup block_delete program before now mark bytes line rest p q cs more h
     taken setup block_delete program before now mark bytes line rest p cs (Done, q) h on e ∙ no q.between.state.ended _ _ still
     ∙ ap (λ (l : List FrameChange). lines_taken setup block_delete program now rest q l) (sym are)
 
-abbrev made : List Command → List FrameChange → Outcome
-made commands changes = Ok (record { commands = commands; changes = changes })
-
 -- the line ends the program
 pub ends_there : (setup : Setup) (block_delete : Bool) (program : ProgramLines) (before now : LinesBefore) (mark : Mark) (bytes : List ℕ) (line : ℕ)
-    (rest : List (List ℕ)) (p q : Progress) (cs more : List FrameChange) (commands : List Command) →
+    (rest : List (List ℕ)) (p q : Progress) (cs more : List FrameChange) (made : Framed) →
     Passes before now p.between.dialect mark bytes line → is_end mark ≡ false → marked_taken setup block_delete line mark bytes p ≡ Ok (Done, q)
-    → q.between.state.ended ≡ true → more ≡ cs ++ changed_by line p q → commands ≡ q.between.state.commands
-    → lines_taken setup block_delete program before (bytes ∷ rest) p cs ≡ Ok (record { commands = commands; changes = more })
-ends_there setup block_delete program before now mark bytes line rest p q cs more commands h on e over are given =
+    → q.between.state.ended ≡ true → more ≡ cs ++ changed_by line p q → made ≡ framed_by q.between more
+    → lines_taken setup block_delete program before (bytes ∷ rest) p cs ≡ Ok made
+ends_there setup block_delete program before now mark bytes line rest p q cs more made h on e over are given =
     taken setup block_delete program before now mark bytes line rest p cs (Done, q) h on e ∙ yes q.between.state.ended _ _ over
-    ∙ ap (made q.between.state.commands) (sym are) ∙ ap (λ (l : List Command). made l more) (sym given)
+    ∙ ap (λ (l : List FrameChange). Ok (framed_by q.between l)) (sym are) ∙ ap (λ (f : Framed). Ok f) (sym given)
 
 -- the flow begins at the line
 pub flow_begins : (setup : Setup) (block_delete : Bool) (program : ProgramLines) (before now : LinesBefore) (mark : Mark) (bytes : List ℕ) (line : ℕ)
@@ -152,17 +148,17 @@ pub end_refused : {B : Type 0} (setup : Setup) (last : ℕ) (p : Progress) (view
     Says view (Err refusal) (ended_at setup last p.between)
     → FailsBy (at_line last refusal) (finished setup last p)
 unfolding finished
-end_refused setup last p view (Because cause) says = ap (λ (r : Result Between Cause). at last (r >>= λ b. commands_of b.state)) says
+end_refused setup last p view (Because cause) says = ap (λ (r : Result Between Cause). at last (r >>= λ b. ended_only b)) says
 end_refused setup last p view Memory says = tt
 
 finish_as : (setup : Setup) (last : ℕ) (p : Progress) (b : Between) → ended_at setup last p.between ≡ Ok b
-    → finished setup last p ≡ at last (commands_of b.state)
+    → finished setup last p ≡ at last (ended_only b)
 unfolding finished
-finish_as setup last p b e = ap (λ (r : Result Between Cause). at last (r >>= λ c. commands_of c.state)) e
+finish_as setup last p b e = ap (λ (r : Result Between Cause). at last (r >>= λ c. ended_only c)) e
 
 -- the end of a program
 pub finish_done : (setup : Setup) (last : ℕ) (p : Progress) (b : Between) → ended_at setup last p.between ≡ Ok b → b.state.ended ≡ true
-    → finished setup last p ≡ Ok b.state.commands
+    → finished setup last p ≡ Ok b
 finish_done setup last p b e over = finish_as setup last p b e ∙ ap (at last) (yes b.state.ended _ _ over)
 
 pub finish_lacks : (setup : Setup) (last : ℕ) (p : Progress) (b : Between) → ended_at setup last p.between ≡ Ok b → b.state.ended ≡ false

@@ -33,6 +33,13 @@ pub record IsReached (setup : Setup) (s : State) : Type 0 where
   pub lines : List PlainLine
   pub leads : executed setup lines (start_state setup.machine) ≡ Ok s
 
+-- plain lines, executed from the machine's start up to an end, have these commands
+pub record LeadTo (setup : Setup) (lines : List PlainLine) (commands : List Command) : Type 0 where
+  pub state : State
+  pub leads : executed setup lines (start_state setup.machine) ≡ Ok state
+  pub ended : state.ended ≡ true
+  pub are : commands ≡ state.commands
+
 -- the commands are those of plain lines, executed from the machine's start up to an end
 pub record AreExecuted (setup : Setup) (commands : List Command) : Type 0 where
   pub state : State

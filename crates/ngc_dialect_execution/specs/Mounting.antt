@@ -4,15 +4,18 @@ use Rattle.std.specs.Prelude.{ℕ, ◌*◌, pos, List, [], ◌∷◌, Option, So
 use Rattle.ngc_line_reader.specs.declared.letter.Letter.TheVariants as letters
 use Rattle.ngc_machine_files.specs.declared.tools.Tool.{Tool}
 use Rattle.ngc_canonical.specs.State.{Setup}
-use Rattle.ngc_dialect_reader.specs.declared.dialect.Dialect.{Dialect}
-use Rattle.ngc_dialect_reader.specs.declared.dialect.Dialect.TheVariants as dialects
+use Rattle.ngc_dialect_names.specs.declared.dialect.Dialect.{Dialect}
+use Rattle.ngc_dialect_names.specs.declared.dialect.Dialect.TheVariants as dialects
 use Rattle.ngc_dialect_rules.specs.declared.plain.Plain.{Plain}
 use Rattle.ngc_dialect_rules.specs.declared.plain.Plain.TheVariants as plain
+use Rattle.ngc_dialect_notes.specs.declared.kind.Kind.TheVariants as kinds
+use Rattle.ngc_dialect_notes.specs.Notes.{counted}
+use Rattle.ngc_dialect_execution.specs.declared.run.Wanted.{Wanted}
 use Rattle.ngc_dialect_execution.specs.declared.fault.Cause.{Cause}
 use Rattle.ngc_dialect_execution.specs.declared.fault.DialectFault.{DialectFault}
 use Rattle.ngc_dialect_execution.specs.Ending.{at}
 use Rattle.ngc_dialect_execution.specs.Faults.{◌>>=◌}
-use Rattle.ngc_dialect_execution.specs.Taken.{Between, Progress, plain_taken, start_progress}
+use Rattle.ngc_dialect_execution.specs.Taken.{Between, Progress, plain_taken, start_progress, with_notes}
 
 -- the number of the only tool
 abbrev pub only_number : List Tool → Option ℕ
@@ -35,7 +38,8 @@ mounting n =
 -- in the first line, before anything else
 abbrev pub mounted : Setup → Option ℕ → Between → Result Between Cause
 mounted setup None b = Ok b
-mounted setup (Some n) b = plain_taken setup 1 (mounting n) b
+mounted setup (Some n) b =
+    plain_taken setup 1 (mounting n) (with_notes (counted 1 kinds.FirstTool) b)
 
 abbrev pub with_between : Progress → Between → Progress
 with_between p b = record { values = p.values; between = b }
@@ -44,6 +48,6 @@ abbrev pub with_mounted : Setup → Option ℕ → Progress → Result Progress 
 with_mounted setup n p = mounted setup n p.between >>= λ b. Ok (with_between p b)
 
 -- what is known before the first line of a program
-abbrev pub before_lines : Dialect → Setup → Result Progress DialectFault
-before_lines d setup =
-    at 1 (with_mounted setup (first_number d setup.tools) (start_progress d setup.machine))
+abbrev pub before_lines : Wanted → Dialect → Setup → Result Progress DialectFault
+before_lines w d setup =
+    at 1 (with_mounted setup (first_number d setup.tools) (start_progress w d setup.machine))

@@ -1,10 +1,10 @@
 -- A program of another control: the lines of its text, in order, until its flow begins. Our own.
-use Rattle.std.specs.Prelude.{ℕ, List, [], ◌∷◌, ◌++◌, Bool, Result, Ok, Err, if◌then◌else◌}
+use Rattle.std.specs.Prelude.{ℕ, List, [], ◌∷◌, ◌++◌, Bool, Option, None, Result, Ok, Err, if◌then◌else◌}
 use Rattle.ngc_commands.specs.declared.command.Command.{Command}
 use Rattle.ngc_line_reader.specs.Program.{split_lines}
 use Rattle.ngc_canonical.specs.State.{Setup}
 use Rattle.ngc_frames.specs.declared.change.FrameChange.{FrameChange}
-use Rattle.ngc_dialect_reader.specs.declared.dialect.Dialect.{Dialect}
+use Rattle.ngc_dialect_names.specs.declared.dialect.Dialect.{Dialect}
 use Rattle.ngc_dialect_execution.specs.declared.fault.Cause.{Cause}
 use Rattle.ngc_dialect_execution.specs.declared.fault.DialectFault.{DialectFault}
 use Rattle.ngc_dialect_execution.specs.declared.lines.Taken.{Taken}
@@ -12,10 +12,13 @@ use Rattle.ngc_dialect_execution.specs.declared.lines.Taken.TheVariants.{Done, H
 use Rattle.ngc_dialect_execution.specs.declared.text.Mark.{Mark}
 use Rattle.ngc_dialect_execution.specs.declared.text.Mark.TheVariants.{Begins, Ends, IsLine}
 use Rattle.ngc_dialect_execution.specs.declared.text.LinesBefore.{LinesBefore}
-use Rattle.ngc_dialect_execution.specs.Ending.{Outcome, at, changed_by, finished, with_changes}
+use Rattle.ngc_dialect_notes.specs.declared.notes.Notes.{Notes}
+use Rattle.ngc_dialect_execution.specs.declared.run.Wanted.{Wanted}
+use Rattle.ngc_dialect_execution.specs.Executed.{PlainLine}
+use Rattle.ngc_dialect_execution.specs.Ending.{Outcome, at, changed_by, finished, framed_by, with_changes}
 use Rattle.ngc_dialect_execution.specs.Flow.{flow_from}
 use Rattle.ngc_dialect_execution.specs.Mounting.{before_lines}
-use Rattle.ngc_dialect_execution.specs.Taken.{Progress, line_taken}
+use Rattle.ngc_dialect_execution.specs.Taken.{Progress, line_taken, nothing_wanted}
 use Rattle.ngc_dialect_execution.specs.Text.{ProgramLines, first_byte, is_end, lines_after, mark_of, no_lines}
 use Rattle.ngc_dialect_execution.specs.Text.{number_of, program_of}
 
@@ -33,7 +36,7 @@ abbrev pub go_from : Taken → Progress → List FrameChange → (Progress → O
 go_from HasFlow p changes flow rest = flow p
 go_from Done p changes flow rest =
     if p.between.state.ended
-    then Ok (record { commands = p.between.state.commands; changes = changes })
+    then Ok (framed_by p.between changes)
     else rest p changes
 
 -- the same, with the changes before the line and the change that it makes
@@ -62,10 +65,13 @@ abbrev pub from_begun : Result Progress DialectFault → (Progress → Outcome) 
 from_begun (Ok p) rest = rest p
 from_begun (Err e) rest = Err e
 
--- what a program's text does, or its first fault
-abbrev pub executed_in : Dialect → Setup → Bool → List ℕ → Outcome
-executed_in d setup block_delete text = from_begun (before_lines d setup)
+-- what a program's text does, or its first fault, with what is collected besides
+abbrev pub traced_in : Wanted → Dialect → Setup → Bool → List ℕ → Outcome
+traced_in w d setup block_delete text = from_begun (before_lines w d setup)
     (λ p. lines_taken setup block_delete (program_of d text) no_lines (split_lines text) p [])
+
+abbrev pub executed_in : Dialect → Setup → Bool → List ℕ → Outcome
+executed_in d setup block_delete text = traced_in nothing_wanted d setup block_delete text
 
 abbrev pub commands_in : Outcome → Result (List Command) DialectFault
 commands_in (Ok f) = Ok f.commands
@@ -83,3 +89,19 @@ changes_of (Err e) = []
 -- each change of the frame by which the commands are executed, in the order of execution
 unfoldable pub changes_in : Dialect → Setup → Bool → List ℕ → List FrameChange
 changes_in d setup block_delete text = changes_of (executed_in d setup block_delete text)
+
+abbrev pub notes_of : Outcome → Option Notes
+notes_of (Ok f) = f.notes
+notes_of (Err e) = None
+
+-- the notes on a program that isn't refused, where they are wanted
+unfoldable pub notes_in : Wanted → Dialect → Setup → Bool → List ℕ → Option Notes
+notes_in w d setup block_delete text = notes_of (traced_in w d setup block_delete text)
+
+abbrev pub lines_of : Outcome → Option (List PlainLine)
+lines_of (Ok f) = f.lines
+lines_of (Err e) = None
+
+-- the plain lines that a program which isn't refused becomes, where they are wanted
+unfoldable pub plain_in : Wanted → Dialect → Setup → Bool → List ℕ → Option (List PlainLine)
+plain_in w d setup block_delete text = lines_of (traced_in w d setup block_delete text)

@@ -1,7 +1,7 @@
 -- A line of another control: its parts are read, its values computed, and its words become plain
 -- lines, which are executed. Our own.
 use Rattle.std.specs.Prelude.{ℕ, ◌*◌, ◌==◌, nat_le, ℤ, pos, ◌&&◌, ◌||◌, List, [], ◌∷◌, ◌++◌, length}
-use Rattle.std.specs.Prelude.{Bool, true, false, Option, Some, None, is_some, Result, Ok, Err}
+use Rattle.std.specs.Prelude.{Bool, true, false, Option, Some, None, is_some, option_map, Result, Ok, Err}
 use Rattle.std.specs.Prelude.{if◌then◌else◌}
 use Rattle.std.specs.List.{list_any}
 use Rattle.std.specs.Ordering.{int_eq}
@@ -9,7 +9,7 @@ use Rattle.ngc_machine_files.specs.Machine.{MachineFile}
 use Rattle.ngc_line_reader.specs.declared.letter.Letter.TheVariants as letters
 use Rattle.ngc_canned_cycles.specs.declared.cycle.CycleMove.{CycleMove}
 use Rattle.ngc_canonical.specs.State.{Setup, State, start_state}
-use Rattle.ngc_dialect_reader.specs.declared.dialect.Dialect.{Dialect}
+use Rattle.ngc_dialect_names.specs.declared.dialect.Dialect.{Dialect}
 use Rattle.ngc_dialect_reader.specs.declared.part.Part.{Part}
 use Rattle.ngc_dialect_reader.specs.declared.part.PartKind.{PartKind}
 use Rattle.ngc_dialect_reader.specs.declared.part.PartKind.TheVariants as kinds
@@ -27,7 +27,12 @@ use Rattle.ngc_dialect_parameters.specs.Stored.{Stored}
 use Rattle.ngc_dialect_parameters.specs.Storing.{none_stored, set_by_all}
 use Rattle.ngc_dialect_path.specs.declared.path.Path.{Path}
 use Rattle.ngc_dialect_path.specs.declared.step.PathStep.{PathStep}
-use Rattle.ngc_dialect_path.specs.Paths.{held_line}
+use Rattle.ngc_dialect_path.specs.Paths.{held_line, programmed}
+use Rattle.ngc_dialect_notes.specs.declared.kind.Kind.TheVariants as notes
+use Rattle.ngc_dialect_notes.specs.declared.notes.Notes.{Notes}
+use Rattle.ngc_dialect_notes.specs.Noted.{noted, statements_noted}
+use Rattle.ngc_dialect_notes.specs.Notes.{counted, no_notes}
+use Rattle.ngc_dialect_execution.specs.declared.run.Wanted.{Wanted}
 use Rattle.ngc_dialect_path.specs.Steps.{Written, path_end, path_step}
 use Rattle.ngc_dialect_drilling.specs.Holes.{cycle_of}
 use Rattle.ngc_dialect_drilling.specs.Moves.{move_lines, stop_lines}
@@ -50,7 +55,7 @@ use Rattle.ngc_dialect_execution.specs.declared.fault.Cause.{Cause}
 use Rattle.ngc_dialect_execution.specs.declared.fault.Cause.TheVariants as causes
 use Rattle.ngc_dialect_execution.specs.declared.lines.Taken.{Taken}
 use Rattle.ngc_dialect_execution.specs.declared.lines.Taken.TheVariants.{Done, HasFlow}
-use Rattle.ngc_dialect_execution.specs.Executed.{executed, lines_at}
+use Rattle.ngc_dialect_execution.specs.Executed.{PlainLine, Run, lines_at, run}
 use Rattle.ngc_dialect_execution.specs.Faults.{◌>>=◌, caused, stored_cause}
 
 -- what is known between two lines, besides the program's parameters
@@ -60,14 +65,29 @@ pub record Between : Type 0 where
   pub state : State
   pub path : Option Path
   pub waiting : List WaitingLine
+  pub notes : Option Notes
+  pub kept : Option (List PlainLine)
 
-abbrev pub start : Dialect → MachineFile → Between
-start d machine = record {
+abbrev pub nothing_wanted : Wanted
+nothing_wanted = record { notes = false; lines = false }
+
+-- what is collected while a program is executed begins empty
+abbrev pub start_kept : Bool → Option (List PlainLine)
+start_kept wanted = if wanted then Some [] else None
+
+abbrev pub start_notes : Bool → Option Notes
+start_notes wanted = if wanted then Some no_notes else None
+
+-- what is known before the first line
+abbrev pub start : Wanted → Dialect → MachineFile → Between
+start w d machine = record {
   dialect = d;
   front = start_front d machine.home28 machine.home30;
   state = start_state machine;
   path = None;
   waiting = [];
+  notes = start_notes w.notes;
+  kept = start_kept w.lines;
 }
 
 -- what is known between two lines of a program: also what it has set
@@ -75,8 +95,8 @@ pub record Progress : Type 0 where
   pub values : Stored
   pub between : Between
 
-abbrev pub start_progress : Dialect → MachineFile → Progress
-start_progress d machine = record { values = none_stored d; between = start d machine }
+abbrev pub start_progress : Wanted → Dialect → MachineFile → Progress
+start_progress w d machine = record { values = none_stored d; between = start w d machine }
 
 -- ---- words
 
@@ -90,15 +110,22 @@ known_of b = record {
   place = b.state.place;
 }
 
--- the state after plain lines, with what the dialect knows then
-abbrev pub with_state : Between → Front → State → Between
-with_state b front s = record b { front = front; state = s }
+-- our own interpreter's state, with the plain lines that are kept
+abbrev pub run_of : Between → Run
+run_of b = record { state = b.state; kept = b.kept }
+
+-- the same after plain lines, with what the dialect knows then
+abbrev pub with_run : Between → Front → Run → Between
+with_run b front r = record b { front = front; state = r.state; kept = r.kept }
+
+abbrev pub with_notes : (Notes → Notes) → Between → Between
+with_notes note b = record b { notes = option_map note b.notes }
 
 -- plain lines, executed
 abbrev pub plain_taken : Setup → ℕ → List Plain → Between → Result Between Cause
 plain_taken setup line ps b = do
-  s ← caused causes.Plain (executed setup (lines_at line ps) b.state)
-  Ok (with_state b b.front s)
+  r ← caused causes.Plain (run setup (lines_at line ps) (run_of b))
+  Ok (with_run b b.front r)
 
 -- a move of a canned cycle, by what is known before it
 abbrev pub move_taken : Setup → ℕ → CycleMove → Between → Result Between Cause
@@ -136,39 +163,39 @@ cycle_if setup line words (Some cycle) b = cycle_taken setup line words cycle b
 unfoldable pub made_taken :
     Setup → ℕ → List Word → LineResult → List Plain → Between → Result Between Cause
 made_taken setup line words made ps b = do
-  s ← caused causes.Plain (executed setup (lines_at line ps) b.state)
-  cycle_if setup line words made.cycle (with_state b made.front s)
+  r ← caused causes.Plain (run setup (lines_at line ps) (run_of b))
+  cycle_if setup line words made.cycle (with_run b made.front r)
 
 -- ---- beside a path: the end of a move waits for the next move, and plain lines wait with it
 
 -- what waits, in order
-unfoldable pub waiting_taken : Setup → List WaitingLine → State → Result State Cause
-waiting_taken setup [] s = Ok s
-waiting_taken setup (w ∷ ws) s =
-    caused causes.Plain (executed setup (lines_at w.line w.plain.items) s)
-    >>= λ t. waiting_taken setup ws t
+unfoldable pub waiting_taken : Setup → List WaitingLine → Run → Result Run Cause
+waiting_taken setup [] r = Ok r
+waiting_taken setup (w ∷ ws) r =
+    caused causes.Plain (run setup (lines_at w.line w.plain.items) r)
+    >>= λ u. waiting_taken setup ws u
 
 -- the held move, and then what waits for it
-abbrev pub released : Setup → ℕ → List Plain → List WaitingLine → State → Result State Cause
-released setup held made waiting s =
-    caused causes.Plain (executed setup (lines_at held made) s)
-    >>= λ t. waiting_taken setup waiting t
+abbrev pub released : Setup → ℕ → List Plain → List WaitingLine → Run → Result Run Cause
+released setup held made waiting r =
+    caused causes.Plain (run setup (lines_at held made) r)
+    >>= λ u. waiting_taken setup waiting u
 
 -- the line's own plain lines, unless they wait
-abbrev pub own_taken : Setup → Bool → ℕ → List Plain → State → Result State Cause
-own_taken setup true line own s = Ok s
-own_taken setup false line own s = caused causes.Plain (executed setup (lines_at line own) s)
+abbrev pub own_taken : Setup → Bool → ℕ → List Plain → Run → Result Run Cause
+own_taken setup true line own r = Ok r
+own_taken setup false line own r = caused causes.Plain (run setup (lines_at line own) r)
 
 abbrev pub released_if :
-    Setup → Bool → ℕ → List Plain → List WaitingLine → State → Result State Cause
-released_if setup false held made waiting s = Ok s
-released_if setup true held made waiting s = released setup held made waiting s
+    Setup → Bool → ℕ → List Plain → List WaitingLine → Run → Result Run Cause
+released_if setup false held made waiting r = Ok r
+released_if setup true held made waiting r = released setup held made waiting r
 
 abbrev pub step_taken :
-    Setup → StepLines → PathStep → Written → List WaitingLine → State → Result State Cause
-step_taken setup at step w waiting s =
-    released_if setup step.releases at.held w.made waiting s
-    >>= λ t. own_taken setup step.waits at.own w.own t
+    Setup → StepLines → PathStep → Written → List WaitingLine → Run → Result Run Cause
+step_taken setup at step w waiting r =
+    released_if setup step.releases at.held w.made waiting r
+    >>= λ u. own_taken setup step.waits at.own w.own u
 
 -- at most 1,000 lines wait
 abbrev pub with_waiting : ℕ → List Plain → List WaitingLine → Result (List WaitingLine) Cause
@@ -189,14 +216,15 @@ abbrev pub put_off : ℕ → PathStep → List Plain → List WaitingLine → Re
 put_off line step own ws =
     with_waiting line (what_waits step own) (still_waiting step.releases ws)
 
-abbrev pub with_step : Between → PathStep → State → List WaitingLine → Between
-with_step b step s ws = record b { front = step.front; state = s; path = step.path; waiting = ws }
+abbrev pub with_step : Between → PathStep → Run → List WaitingLine → Between
+with_step b step r ws =
+    record b { front = step.front; state = r.state; kept = r.kept; path = step.path; waiting = ws }
 
 unfoldable pub step_carried : Setup → StepLines → PathStep → Written → Between → Result Between Cause
 step_carried setup at step w b = do
-  s ← step_taken setup at step w b.waiting b.state
+  r ← step_taken setup at step w b.waiting (run_of b)
   ws ← put_off at.own step w.own b.waiting
-  Ok (with_step b step s ws)
+  Ok (with_step b step r ws)
 
 abbrev pub step_lines : Option Path → ℕ → StepLines
 step_lines path line = record { held = held_line path; own = line }
@@ -220,10 +248,17 @@ plain_words_taken setup line words b = do
   made ← caused causes.Rule (plain_lines (known_of b) words)
   made_or_path setup line words made b
 
-unfoldable pub words_taken : Setup → ℕ → List Word → Between → Result Between Cause
-words_taken setup line words b =
+unfoldable pub words_executed : Setup → ℕ → List Word → Between → Result Between Cause
+words_executed setup line words b =
     if is_some b.path then path_taken setup line words b
     else plain_words_taken setup line words b
+
+-- the notes on a line, by what its words are read by
+abbrev pub words_noted : ℕ → List Word → Between → Between
+words_noted line words b = with_notes (noted line (programmed (known_of b) b.path) words) b
+
+abbrev pub words_taken : Setup → ℕ → List Word → Between → Result Between Cause
+words_taken setup line words b = words_executed setup line words (words_noted line words b)
 
 -- M2, by which a program ends after its last line
 abbrev pub END : List Plain
@@ -232,17 +267,22 @@ END = plain.Word (record { letter = letters.M; value = pos 2000000 }) ∷ plain.
 -- a held move is made before the program ends
 abbrev pub ended_path : Setup → Bool × List Plain → Between → Result Between Cause
 ended_path setup e b =
-    released_if setup e.0 (held_line b.path) e.1 b.waiting b.state
-    >>= λ s. Ok (with_state b b.front s)
+    released_if setup e.0 (held_line b.path) e.1 b.waiting (run_of b)
+    >>= λ r. Ok (with_run b b.front r)
 
 unfoldable pub path_ended : Setup → Between → Result Between Cause
 path_ended setup b = do
   e ← caused causes.Rule (path_end (known_of b) b.path)
   ended_path setup e b
 
+-- the note on a program that hasn't ended before
+abbrev pub end_noted : ℕ → Between → Between
+end_noted line b =
+    if b.state.ended then b else with_notes (counted line notes.ProgramEnd) b
+
 unfoldable pub ended_at : Setup → ℕ → Between → Result Between Cause
 ended_at setup line b = do
-  c ← path_ended setup b
+  c ← path_ended setup (end_noted line b)
   plain_taken setup line END c
 
 -- ---- a line
@@ -303,7 +343,7 @@ unfoldable pub done_at : Setup → ℕ → List ℕ → List Statement → List 
     Result Progress Cause
 done_at setup line text said words p = do
   k ← caused stored_cause (set_by_all text said p.values)
-  b ← words_taken setup line words p.between
+  b ← words_taken setup line words (with_notes (statements_noted line said) p.between)
   Ok (record { values = k; between = b })
 
 -- what was done, and what is known then

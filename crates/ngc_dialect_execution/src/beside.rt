@@ -1,14 +1,15 @@
 //! Plain lines that wait for a held move of cutter compensation.
 ghost use Rattle.std.specs.Prelude.{◌≡◌};
-ghost use Rattle.ngc_canonical.specs.Interpreter.{setup_of, state_of};
+ghost use Rattle.ngc_canonical.specs.Interpreter.{setup_of};
 ghost use Rattle.ngc_dialect_path.specs.Steps.{written_in};
 ghost use Rattle.ngc_dialect_execution.specs.Faults.{Says};
 ghost use Rattle.ngc_dialect_execution.specs.Taken as spec;
+ghost use Rattle.ngc_dialect_execution.specs.Views.{run_in};
 
 use crate::fault::{Cause, Refusal};
-use crate::fold::execute_plain;
+use crate::run::PlainRun;
 use arrayvec::ArrayVec;
-use ngc_canonical::{Interpreter, Machine, Tools, Work};
+use ngc_canonical::{Machine, Tools};
 use ngc_dialect_drilling::write_stop;
 use ngc_dialect_path::{PathLines, PathStep};
 use ngc_dialect_rules::{Cause as RuleCause, Code, PlainLines, about_code};
@@ -25,18 +26,17 @@ pub(crate) struct WaitingLine {
 // Executes what waits, in order.
 #[tactic(auto, unfolding(crate::specs::Taken::waiting_taken))]
 fn execute_waiting<A: Allocator + Copy>(
-    interpreter: &mut Interpreter<A>,
+    run: &mut PlainRun<A>,
     machine: &Machine<A>,
     tools: &Tools<A>,
     waiting: &[WaitingLine],
-    work: &mut Work,
 ) -> Result<(), Refusal>
-    ensures { Says (λ _. state_of interpreter.new) result (spec.waiting_taken
-        (setup_of machine.now tools.now) waiting.now (state_of interpreter.old)) }
+    ensures { Says (λ _. run_in run.new) result (spec.waiting_taken
+        (setup_of machine.now tools.now) waiting.now (run_in run.old)) }
 {
     let mut rest = waiting;
     while let [first, after @ ..] = rest {
-        match execute_plain(interpreter, machine, tools, first.line, &first.plain, work) {
+        match run.execute(machine, tools, first.line, &first.plain) {
             Ok(()) => {}
             Err(refusal) => return Err(refusal),
         }
@@ -47,20 +47,19 @@ fn execute_waiting<A: Allocator + Copy>(
 
 /// Executes the held move, and then what waits for it.
 pub(crate) fn release<A: Allocator + Copy>(
-    interpreter: &mut Interpreter<A>,
+    run: &mut PlainRun<A>,
     machine: &Machine<A>,
     tools: &Tools<A>,
     held: u32,
     made: &PlainLines,
     waiting: &[WaitingLine],
-    work: &mut Work,
 ) -> Result<(), Refusal>
-    ensures { Says (λ _. state_of interpreter.new) result (spec.released
+    ensures { Says (λ _. run_in run.new) result (spec.released
         (setup_of machine.now tools.now) held made.now.items waiting.now
-        (state_of interpreter.old)) }
+        (run_in run.old)) }
 {
-    match execute_plain(interpreter, machine, tools, held, made, work) {
-        Ok(()) => execute_waiting(interpreter, machine, tools, waiting, work),
+    match run.execute(machine, tools, held, made) {
+        Ok(()) => execute_waiting(run, machine, tools, waiting),
         Err(refusal) => Err(refusal),
     }
 }
@@ -75,29 +74,20 @@ pub(crate) struct StepLines {
 /// Executes the plain lines of a line beside a path: the held move with what waits for it, if it is made,
 /// and the line's own, unless they wait.
 pub(crate) fn execute_step<A: Allocator + Copy>(
-    interpreter: &mut Interpreter<A>,
+    run: &mut PlainRun<A>,
     machine: &Machine<A>,
     tools: &Tools<A>,
     numbers: StepLines,
     step: &PathStep,
     lines: &PathLines,
     waiting: &[WaitingLine],
-    work: &mut Work,
 ) -> Result<(), Refusal>
-    ensures { Says (λ _. state_of interpreter.new) result (spec.step_taken
+    ensures { Says (λ _. run_in run.new) result (spec.step_taken
         (setup_of machine.now tools.now) numbers step.now (written_in lines.now) waiting.now
-        (state_of interpreter.old)) }
+        (run_in run.old)) }
 {
     if step.releases {
-        match release(
-            interpreter,
-            machine,
-            tools,
-            numbers.held,
-            &lines.made,
-            waiting,
-            work,
-        ) {
+        match release(run, machine, tools, numbers.held, &lines.made, waiting) {
             Ok(()) => {}
             Err(refusal) => return Err(refusal),
         }
@@ -105,7 +95,7 @@ pub(crate) fn execute_step<A: Allocator + Copy>(
     if step.waits {
         return Ok(());
     }
-    execute_plain(interpreter, machine, tools, numbers.own, &lines.own, work)
+    run.execute(machine, tools, numbers.own, &lines.own)
 }
 
 // Adds plain lines to those that wait.

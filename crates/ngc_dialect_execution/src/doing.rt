@@ -10,11 +10,13 @@ ghost use Rattle.ngc_dialect_execution.specs.Taken as spec;
 ghost use Rattle.ngc_dialect_execution.specs.Views.{progress_of, said_in};
 
 use crate::fault::{Cause, Refusal, stored};
+use crate::run::Wanted;
 use crate::words::WordInterpreter;
 use ngc_canonical::{Machine, Tools};
 use ngc_dialect_flow::{Effect, State, Table, leave_with};
+use ngc_dialect_names::Dialect;
 use ngc_dialect_parameters::{LineValues, Parameters, Word};
-use ngc_dialect_reader::{Dialect, DialectLine};
+use ngc_dialect_reader::DialectLine;
 use std::alloc::{AllocError, Allocator};
 
 /// What is known between two lines: what the words did, and the parameters.
@@ -28,12 +30,14 @@ impl<A: Allocator + Copy> Execution<A> {
     /// Returns what is known before the first line. No parameter is set.
     pub(crate) fn new(
         alloc: A,
+        wanted: Wanted,
         dialect: Dialect,
         machine: &Machine<A>,
     ) -> Result<Execution<A>, AllocError>
-        ensures { IfOk result (λ e. progress_of e ≡ spec.start_progress dialect (file_of machine.now)) }
+        ensures { IfOk result
+            (λ e. progress_of e ≡ spec.start_progress wanted dialect (file_of machine.now)) }
     {
-        let Ok(words) = WordInterpreter::new(alloc, dialect, machine) else {
+        let Ok(words) = WordInterpreter::new(alloc, wanted, dialect, machine) else {
             return Err(AllocError);
         };
         let Ok(parameters) = Parameters::new(alloc, dialect) else {
@@ -61,6 +65,8 @@ impl<A: Allocator + Copy> Execution<A> {
             Ok(()) => {}
             Err(refusal) => return Err(refusal),
         }
+        self.words
+            .note_statements(number, values.statements.as_slice());
         self.words.take_words(machine, tools, number, words)
     }
 

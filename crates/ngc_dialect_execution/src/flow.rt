@@ -16,7 +16,7 @@ use crate::text::{LinesBefore, first_line, number_of};
 use ngc_canonical::{Machine, Tools};
 use ngc_dialect_flow::Cause::TooManyLines;
 use ngc_dialect_flow::{Effect, State, Table};
-use ngc_dialect_reader::Dialect;
+use ngc_dialect_names::Dialect;
 use ngc_frames::FrameChange;
 use std::alloc::{AllocError, Allocator};
 

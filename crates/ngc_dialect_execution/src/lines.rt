@@ -10,15 +10,18 @@ ghost use Rattle.ngc_dialect_execution.specs.Flow as flow;
 ghost use Rattle.ngc_dialect_execution.specs.Mounting.{with_mounted};
 ghost use Rattle.ngc_dialect_execution.specs.Taken as spec;
 ghost use Rattle.ngc_dialect_execution.specs.Taken.{Progress};
-ghost use Rattle.ngc_dialect_execution.specs.Views.{progress_in, said_in};
+ghost use Rattle.ngc_dialect_execution.specs.Views.{kept_in, progress_in, said_in};
 
 use crate::doing::Execution;
 use crate::fault::{Cause, Refusal};
 use crate::reading::{find_others, find_words, has_flow, is_deleted, read_parts, said_at, said_if};
-use ngc_canonical::{Command, Machine, Tools};
+use crate::run::Wanted;
+use crate::words::Collected;
+use ngc_canonical::{Machine, Tools};
 use ngc_dialect_flow::{Effect, State, Table};
+use ngc_dialect_names::Dialect;
 use ngc_dialect_parameters::{LineValues, Word};
-use ngc_dialect_reader::{Dialect, DialectLine};
+use ngc_dialect_reader::DialectLine;
 use ngc_frames::Frame;
 use std::alloc::{AllocError, Allocator};
 
@@ -43,13 +46,14 @@ impl<A: Allocator + Copy> DialectInterpreter<A> {
     /// Returns what is known before the first line. No parameter is set.
     pub fn new(
         alloc: A,
+        wanted: Wanted,
         dialect: Dialect,
         machine: &Machine<A>,
     ) -> Result<DialectInterpreter<A>, AllocError>
         ensures { IfOk result (λ i.
-            progress_in i ≡ spec.start_progress dialect (file_of machine.now)) }
+            progress_in i ≡ spec.start_progress wanted dialect (file_of machine.now)) }
     {
-        let Ok(execution) = Execution::new(alloc, dialect, machine) else {
+        let Ok(execution) = Execution::new(alloc, wanted, dialect, machine) else {
             return Err(AllocError);
         };
         Ok(DialectInterpreter {
@@ -269,13 +273,15 @@ impl<A: Allocator + Copy> DialectInterpreter<A> {
         self.execution.words.end_at(machine, tools, line)
     }
 
-    /// Returns the commands that were executed so far.
-    pub fn into_commands(self) -> Vec<Command, A>
-        ensures { result.items ≡ (progress_in self).between.state.commands }
+    /// Returns the commands that were executed so far, and what was collected.
+    pub(crate) fn into_collected(self) -> Collected<A>
+        ensures commands { result.commands.items ≡ (progress_in self).between.state.commands }
+        ensures notes { result.notes ≡ (progress_in self).between.notes }
+        ensures lines { kept_in result.lines ≡ (progress_in self).between.kept }
     {
         let DialectInterpreter { execution, .. } = self;
         let Execution { words, .. } = execution;
-        words.into_commands()
+        words.into_collected()
     }
 }
 

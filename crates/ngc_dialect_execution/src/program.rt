@@ -7,23 +7,25 @@ ghost use Rattle.ngc_canonical.specs.Interpreter.{setup_of};
 ghost use Rattle.ngc_commands.specs.Movement.{actions_of, ways_of, AreJoined};
 ghost use Rattle.ngc_commands.specs.Sequence.{HaveEvenRadii, EndIsLast, HasEnd};
 ghost use Rattle.ngc_dialect_execution.specs.Faults.{ProgramSays, Says};
-ghost use Rattle.ngc_dialect_execution.specs.Laws.{AreExecuted};
+ghost use Rattle.ngc_dialect_execution.specs.Laws.{AreExecuted, LeadTo};
 ghost use Rattle.ngc_dialect_execution.specs.Ending.{finished};
-ghost use Rattle.ngc_dialect_execution.specs.Program.{changes_in, executed_in, lines_taken, marked_taken};
+ghost use Rattle.ngc_dialect_execution.specs.Program.{changes_in, lines_taken, marked_taken, notes_in, plain_in, traced_in};
 ghost use Rattle.ngc_dialect_execution.specs.Mounting.{first_number};
 ghost use Rattle.ngc_dialect_execution.specs.Program.{meaning_in};
 ghost use Rattle.ngc_frames.specs.Changes.{start_frame};
-ghost use Rattle.ngc_dialect_execution.specs.Views.{framed_in, progress_in};
+ghost use Rattle.ngc_dialect_execution.specs.Views.{framed_in, kept_in, progress_in, traced};
 ghost use Rattle.ngc_dialect_execution.specs.Text as spec;
 
 use crate::fault::{Cause, DialectFault, Refusal, at_line};
 use crate::flow::take_flow;
-use crate::framing::{Executed, add_change, framed};
+use crate::framing::{Executed, add_change, framed, framed_by};
 use crate::lines::{DialectInterpreter, Taken};
+use crate::run::{KeptLine, Wanted};
 use crate::text::{LinesBefore, Mark, first_line, number_of};
 use ngc_canonical::Fault::NoEnd;
 use ngc_canonical::{Command, Machine, Tools};
-use ngc_dialect_reader::Dialect;
+use ngc_dialect_names::Dialect;
+use ngc_dialect_notes::Notes;
 use ngc_frames::{FrameHistory, FramedCommands};
 use std::alloc::Allocator;
 
@@ -54,8 +56,8 @@ pub(crate) fn finish<A: Allocator + Copy>(
     machine: &Machine<A>,
     tools: &Tools<A>,
     line: u32,
-) -> Result<Vec<Command, A>, DialectFault>
-    ensures { ProgramSays (λ v. v.items) result
+) -> Result<DialectInterpreter<A>, DialectFault>
+    ensures { ProgramSays (λ i. (progress_in i).between) result
         (finished (setup_of machine.now tools.now) line (progress_in interpreter)) }
 {
     match interpreter.end_at(machine, tools, line) {
@@ -63,7 +65,7 @@ pub(crate) fn finish<A: Allocator + Copy>(
         Err(refusal) => return Err(at_line(line, refusal)),
     }
     if interpreter.is_ended() {
-        Ok(interpreter.into_commands())
+        Ok(interpreter)
     } else {
         Err(DialectFault::At {
             line,
@@ -130,10 +132,7 @@ fn take_lines<A: Allocator + Copy>(
             Err(_) => return Err(DialectFault::Memory),
         }
         if interpreter.is_ended() {
-            return Ok(Executed {
-                commands: interpreter.into_commands(),
-                changes,
-            });
+            return Ok(framed_by(interpreter, changes));
         }
         rest = after;
     }
@@ -154,21 +153,32 @@ fn first_number<A: Allocator>(dialect: Dialect, tools: &Tools<A>) -> Option<u32>
     }
 }
 
+/// A program that was executed: its commands with their frames, and what was wanted besides.
+#[derive(Drop)]
+pub struct Traced<A: Allocator> {
+    pub framed: FramedCommands<A>,
+    /// The notes on its lines, in the order of execution.
+    pub notes: Option<Notes>,
+    /// The plain lines that were executed, in order.
+    pub lines: Option<Vec<KeptLine<A>, A>>,
+}
+
 // Executes the program of a text.
 fn execute_text<A: Allocator + Copy>(
     alloc: A,
+    wanted: Wanted,
     dialect: Dialect,
     text: &[u8],
     machine: &Machine<A>,
     tools: &Tools<A>,
     block_delete: bool,
-) -> Result<FramedCommands<A>, DialectFault>
-    ensures says { ProgramSays (λ f. record { commands = f.commands.items; changes = f.frames.changes.items }) result
-        (executed_in dialect (setup_of machine.now tools.now) block_delete text.now) }
+) -> Result<Traced<A>, DialectFault>
+    ensures says { ProgramSays traced result
+        (traced_in wanted dialect (setup_of machine.now tools.now) block_delete text.now) }
     ensures start { IfOk result
-        (λ f. f.frames.start ≡ start_frame (setup_of machine.now tools.now)) }
+        (λ t. t.framed.frames.start ≡ start_frame (setup_of machine.now tools.now)) }
 {
-    let Ok(mut interpreter) = DialectInterpreter::new(alloc, dialect, machine) else {
+    let Ok(mut interpreter) = DialectInterpreter::new(alloc, wanted, dialect, machine) else {
         return Err(DialectFault::Memory);
     };
     let start = interpreter.frame();
@@ -186,15 +196,63 @@ fn execute_text<A: Allocator + Copy>(
         block_delete,
     ) {
         Ok(executed) => {
-            let Executed { commands, changes } = executed;
-            Ok(FramedCommands {
+            let Executed {
                 commands,
-                frames: FrameHistory { start, changes },
+                changes,
+                notes,
+                lines,
+            } = executed;
+            let frames = FrameHistory { start, changes };
+            Ok(Traced {
+                framed: FramedCommands { commands, frames },
+                notes,
+                lines,
             })
         }
         Err(fault) => Err(fault),
     }
 }
+
+/// Executes the program of a text as `interpret_dialect`, and also returns the frame in force at its
+/// start and each change of it, in the order of execution, and what is wanted besides.
+pub fn trace_dialect<A: Allocator + Copy>(
+    alloc: A,
+    wanted: Wanted,
+    dialect: Dialect,
+    text: &[u8],
+    machine: &Machine<A>,
+    tools: &Tools<A>,
+    block_delete: bool,
+) -> Result<Traced<A>, DialectFault>
+    ensures commands { ProgramSays (λ t. t.framed.commands.items) result
+        (meaning_in dialect (setup_of machine.now tools.now) block_delete text.now) }
+    ensures executed { IfOk result
+        (λ t. AreExecuted (setup_of machine.now tools.now) t.framed.commands.items) }
+    ensures joined { IfOk result
+        (λ t. AreJoined (file_of machine.now).start (ways_of (actions_of t.framed.commands.items))) }
+    ensures radii { IfOk result (λ t. HaveEvenRadii (ways_of (actions_of t.framed.commands.items))) }
+    ensures count { IfOk result (λ t. length t.framed.commands.items ≤ 1000000) }
+    ensures ended { IfOk result (λ t. EndIsLast t.framed.commands.items) }
+    ensures has_end { IfOk result (λ t. HasEnd t.framed.commands.items) }
+    ensures start { IfOk result
+        (λ t. t.framed.frames.start ≡ start_frame (setup_of machine.now tools.now)) }
+    ensures changes { IfOk result (λ t. t.framed.frames.changes.items ≡
+        changes_in dialect (setup_of machine.now tools.now) block_delete text.now) }
+    ensures notes { IfOk result (λ t. t.notes ≡
+        notes_in wanted dialect (setup_of machine.now tools.now) block_delete text.now) }
+    ensures lines { IfOk result (λ t. kept_in t.lines ≡
+        plain_in wanted dialect (setup_of machine.now tools.now) block_delete text.now) }
+    // The plain lines, executed from the machine's start on, are the program.
+    ensures lead { IfOk result (λ t. IfSome (kept_in t.lines)
+        (λ lines. LeadTo (setup_of machine.now tools.now) lines t.framed.commands.items)) }
+{
+    execute_text(alloc, wanted, dialect, text, machine, tools, block_delete)
+}
+
+const NOTHING: Wanted = Wanted {
+    notes: false,
+    lines: false,
+};
 
 /// Executes the program of a text as `interpret_dialect`, and also returns the frame in force at its
 /// start and each change of it, in the order of execution.
@@ -221,7 +279,10 @@ pub fn interpret_dialect_with_frames<A: Allocator + Copy>(
     ensures changes { IfOk result (λ f. f.frames.changes.items ≡
         changes_in dialect (setup_of machine.now tools.now) block_delete text.now) }
 {
-    execute_text(alloc, dialect, text, machine, tools, block_delete)
+    match trace_dialect(alloc, NOTHING, dialect, text, machine, tools, block_delete) {
+        Ok(traced) => Ok(traced.framed),
+        Err(fault) => Err(fault),
+    }
 }
 
 /// Executes the program of a text on a machine with its tools, and returns its commands in order of

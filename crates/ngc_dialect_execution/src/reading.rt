@@ -11,9 +11,10 @@ ghost use Rattle.ngc_dialect_execution.specs.Views.{said_in};
 ghost use Rattle.ngc_dialect_execution.specs.declared.fault.Cause.TheVariants as causes;
 
 use crate::fault::{Cause, Refusal};
+use ngc_dialect_names::Dialect;
 use ngc_dialect_numbers::Number;
 use ngc_dialect_parameters::{Control, LineValues, Parameters, Statement, Word};
-use ngc_dialect_reader::{Dialect, DialectLine, Part, PartKind};
+use ngc_dialect_reader::{DialectLine, Part, PartKind, Switches};
 use std::alloc::{AllocError, Allocator};
 
 /// The number of units in 1.
@@ -150,7 +151,7 @@ fn decides(dialect: Dialect, statement: &Statement) -> bool
     ensures { result ≡ spec.decides dialect statement.now }
 {
     match statement {
-        Statement::Word(word) => dialect.switches().labels && (is_m(98, word) || is_m(99, word)),
+        Statement::Word(word) => Switches::of(dialect).labels && (is_m(98, word) || is_m(99, word)),
         Statement::Flow(..) | Statement::GoTo(_) | Statement::Loop(..) | Statement::EndLoop(_) => {
             true
         }

@@ -4,7 +4,7 @@ ghost use Rattle.ngc_line_reader.specs.Program.{split_lines};
 ghost use Rattle.ngc_dialect_execution.specs.Text as spec;
 
 use memchr::memchr;
-use ngc_dialect_reader::Dialect;
+use ngc_dialect_names::Dialect;
 
 /// What a line is to its text: the percent sign that begins the program, the one that ends it, or a
 /// line of the program.

@@ -9,19 +9,22 @@ ghost use Rattle.ngc_dialect_execution.specs.Mounting.{mounted};
 ghost use Rattle.ngc_dialect_path.specs.Steps.{written_in};
 ghost use Rattle.ngc_dialect_execution.specs.Taken as spec;
 ghost use Rattle.ngc_dialect_execution.specs.Taken.{END};
-ghost use Rattle.ngc_dialect_execution.specs.Views.{between_of};
+ghost use Rattle.ngc_dialect_execution.specs.Views.{between_of, kept_in};
+ghost use Rattle.ngc_dialect_notes.specs.Noted.{statements_noted};
+ghost use Rattle.ngc_dialect_notes.specs.Notes.{counted};
 
 use crate::beside::{StepLines, WaitingLine, execute_step, put_off, release};
 use crate::fault::{Cause, Refusal};
-use crate::fold::execute_plain;
+use crate::run::{KeptLine, PlainRun, Wanted};
 use arrayvec::ArrayVec;
 use ngc_canned_cycles::CycleMove;
-use ngc_canonical::{Command, Interpreter, Machine, Tools, Work};
+use ngc_canonical::{Command, Machine, Tools};
 use ngc_dialect_cycles::CycleMoves;
 use ngc_dialect_drilling::{CycleStart, cycle_of, write_move, write_stop};
-use ngc_dialect_parameters::Word;
-use ngc_dialect_path::{Path, PathLines, PathStep, held_line, path_end, path_step};
-use ngc_dialect_reader::Dialect;
+use ngc_dialect_names::Dialect;
+use ngc_dialect_notes::{Kind, Notes};
+use ngc_dialect_parameters::{Statement, Word};
+use ngc_dialect_path::{Path, PathLines, PathStep, held_line, path_end, path_step, programmed};
 use ngc_dialect_rules::{
     Code, Front, Known, LineCycle, LineResult, Plain, PlainLines, plain_lines,
 };
@@ -36,12 +39,27 @@ use std::alloc::{AllocError, Allocator};
 pub struct WordInterpreter<A: Allocator> {
     pub(crate) dialect: Dialect,
     pub(crate) front: Front,
-    pub(crate) interpreter: Interpreter<A>,
+    pub(crate) run: PlainRun<A>,
     plain: PlainLines,
-    work: Work,
+    pub(crate) notes: Option<Notes>,
     pub(crate) path: Option<Path>,
     pub(crate) waiting: Vec<WaitingLine, A>,
     path_lines: PathLines,
+}
+
+/// The commands of a program, and what was collected while it was executed.
+#[derive(Drop)]
+pub(crate) struct Collected<A: Allocator> {
+    pub(crate) commands: Vec<Command, A>,
+    pub(crate) notes: Option<Notes>,
+    pub(crate) lines: Option<Vec<KeptLine<A>, A>>,
+}
+
+// Returns no notes yet, where notes are wanted.
+fn no_notes(wanted: bool) -> Option<Notes>
+    ensures { result ≡ spec.start_notes wanted }
+{
+    if wanted { Some(Notes::none()) } else { None }
 }
 
 // Returns the word M2.
@@ -91,20 +109,22 @@ impl<A: Allocator + Copy> WordInterpreter<A> {
     /// Returns what is known before the first line.
     pub fn new(
         alloc: A,
+        wanted: Wanted,
         dialect: Dialect,
         machine: &Machine<A>,
     ) -> Result<WordInterpreter<A>, AllocError>
-        ensures { IfOk result (λ i. between_of i ≡ spec.start dialect (file_of machine.now)) }
+        ensures { IfOk result
+            (λ i. between_of i ≡ spec.start wanted dialect (file_of machine.now)) }
     {
-        let Ok(interpreter) = Interpreter::new(alloc, machine) else {
+        let Ok(run) = PlainRun::new(alloc, wanted.lines, machine) else {
             return Err(AllocError);
         };
         Ok(WordInterpreter {
             dialect,
             front: Front::start(dialect, machine.home28, machine.home30),
-            interpreter,
+            run,
             plain: ArrayVec::new(),
-            work: Work::new(),
+            notes: no_notes(wanted.notes),
             path: None,
             waiting: Vec::new(alloc),
             path_lines: PathLines {
@@ -128,9 +148,9 @@ impl<A: Allocator + Copy> WordInterpreter<A> {
         Known {
             dialect: self.dialect,
             front: self.front,
-            modes: self.interpreter.modes(),
-            frames: *self.interpreter.frames(),
-            place: self.interpreter.place(),
+            modes: self.run.interpreter.modes(),
+            frames: *self.run.interpreter.frames(),
+            place: self.run.interpreter.place(),
         }
     }
 
@@ -138,7 +158,7 @@ impl<A: Allocator + Copy> WordInterpreter<A> {
     pub fn is_ended(&self) -> bool
         ensures { result ≡ (between_of self.now).state.ended }
     {
-        self.interpreter.is_ended()
+        self.run.interpreter.is_ended()
     }
 
     /// Returns the frame: the coordinates that are in force, and the unit of lengths.
@@ -146,8 +166,8 @@ impl<A: Allocator + Copy> WordInterpreter<A> {
         ensures { result ≡ frame_of (between_of self.now).state }
     {
         Frame {
-            frames: *self.interpreter.frames(),
-            unit: self.interpreter.length_unit(),
+            frames: *self.run.interpreter.frames(),
+            unit: self.run.interpreter.length_unit(),
         }
     }
 
@@ -155,7 +175,7 @@ impl<A: Allocator + Copy> WordInterpreter<A> {
     pub(crate) fn command_count(&self) -> usize
         ensures { result ≡ length (between_of self.now).state.commands }
     {
-        self.interpreter.commands().len()
+        self.run.interpreter.commands().len()
     }
 
     // Executes the plain lines.
@@ -168,14 +188,7 @@ impl<A: Allocator + Copy> WordInterpreter<A> {
         ensures { Says (λ _. between_of self.new) result (spec.plain_taken
             (setup_of machine.now tools.now) line self.old.plain.items (between_of self.old)) }
     {
-        execute_plain(
-            &mut self.interpreter,
-            machine,
-            tools,
-            line,
-            &self.plain,
-            &mut self.work,
-        )
+        self.run.execute(machine, tools, line, &self.plain)
     }
 
     // Executes a move of a cycle.
@@ -272,14 +285,7 @@ impl<A: Allocator + Copy> WordInterpreter<A> {
             (setup_of machine.now tools.now) line words.now made.now self.old.plain.items
             (between_of self.old)) }
     {
-        match execute_plain(
-            &mut self.interpreter,
-            machine,
-            tools,
-            line,
-            &self.plain,
-            &mut self.work,
-        ) {
+        match self.run.execute(machine, tools, line, &self.plain) {
             Ok(()) => {}
             Err(refusal) => return Err(refusal),
         }
@@ -304,14 +310,13 @@ impl<A: Allocator + Copy> WordInterpreter<A> {
             (between_of self.old)) }
     {
         match execute_step(
-            &mut self.interpreter,
+            &mut self.run,
             machine,
             tools,
             numbers,
             step,
             &self.path_lines,
             self.waiting.as_slice(),
-            &mut self.work,
         ) {
             Ok(()) => {}
             Err(refusal) => return Err(refusal),
@@ -378,10 +383,62 @@ impl<A: Allocator + Copy> WordInterpreter<A> {
         }
     }
 
+    // Executes the words of a line.
+    #[tactic(auto, unfolding(crate::specs::Taken::words_executed))]
+    fn execute_words(
+        &mut self,
+        machine: &Machine<A>,
+        tools: &Tools<A>,
+        line: u32,
+        words: &[Word],
+    ) -> Result<(), Refusal>
+        ensures { Says (λ _. between_of self.new) result (spec.words_executed
+            (setup_of machine.now tools.now) line words.now (between_of self.old)) }
+    {
+        if self.path.is_some() {
+            self.take_path(machine, tools, line, words)
+        } else {
+            self.take_plain_words(machine, tools, line, words)
+        }
+    }
+
+    // Notes a line by what its words are read by.
+    fn note_words(&mut self, line: u32, words: &[Word])
+        ensures { between_of self.new ≡ spec.words_noted line words.now (between_of self.old) }
+    {
+        if self.notes.is_none() {
+            return;
+        }
+        let known = programmed(&self.known(), &self.path);
+        if let Some(notes) = &mut self.notes {
+            notes.add(line, &known, words);
+        }
+    }
+
+    /// Notes what a line says besides words, where notes are wanted.
+    pub(crate) fn note_statements(&mut self, line: u32, statements: &[Statement])
+        ensures { between_of self.new ≡ spec.with_notes (statements_noted line statements.now)
+            (between_of self.old) }
+    {
+        if let Some(notes) = &mut self.notes {
+            notes.add_statements(line, statements);
+        }
+    }
+
+    // Notes a kind that occurred in a line.
+    fn note(&mut self, line: u32, kind: Kind)
+        ensures { between_of self.new ≡ spec.with_notes (counted line kind)
+            (between_of self.old) }
+    {
+        if let Some(notes) = &mut self.notes {
+            notes.count(line, kind);
+        }
+    }
+
     /// Executes the words of a line with this number, as their plain lines and the moves of their
-    /// canned cycle. While cutter compensation holds a move back, plain lines wait with it. A fault is
-    /// the first one of the rules or of a plain line; nothing is then stated of what is known.
-    #[tactic(auto, unfolding(crate::specs::Taken::words_taken))]
+    /// canned cycle, after it is noted. While cutter compensation holds a move back, plain lines wait
+    /// with it. A fault is the first one of the rules or of a plain line; nothing is then stated of
+    /// what is known.
     pub fn take_words(
         &mut self,
         machine: &Machine<A>,
@@ -392,11 +449,8 @@ impl<A: Allocator + Copy> WordInterpreter<A> {
         ensures { Says (λ _. between_of self.new) result (spec.words_taken
             (setup_of machine.now tools.now) line words.now (between_of self.old)) }
     {
-        if self.path.is_some() {
-            self.take_path(machine, tools, line, words)
-        } else {
-            self.take_plain_words(machine, tools, line, words)
-        }
+        self.note_words(line, words);
+        self.execute_words(machine, tools, line, words)
     }
 
     /// Mounts a tool in the first line, before anything else, as by T and M6. A fault is that of a
@@ -414,6 +468,7 @@ impl<A: Allocator + Copy> WordInterpreter<A> {
         let Some(number) = number else {
             return Ok(());
         };
+        self.note(1, Kind::FirstTool);
         self.plain.clear();
         self.plain.push(Plain::Word(tool_word(number)));
         self.plain.push(Plain::Word(change_word()));
@@ -443,15 +498,23 @@ impl<A: Allocator + Copy> WordInterpreter<A> {
         match path_end(&known, &self.path, &mut self.path_lines) {
             Ok(false) => Ok(()),
             Ok(true) => release(
-                &mut self.interpreter,
+                &mut self.run,
                 machine,
                 tools,
                 held,
                 &self.path_lines.made,
                 self.waiting.as_slice(),
-                &mut self.work,
             ),
             Err(fault) => Err(Refusal::Because(Cause::Rule(fault))),
+        }
+    }
+
+    // Notes that a program ends after its last line, unless it has ended.
+    fn note_end(&mut self, line: u32)
+        ensures { between_of self.new ≡ spec.end_noted line (between_of self.old) }
+    {
+        if !self.is_ended() {
+            self.note(line, Kind::ProgramEnd);
         }
     }
 
@@ -468,17 +531,29 @@ impl<A: Allocator + Copy> WordInterpreter<A> {
         ensures { Says (λ _. between_of self.new) result (spec.ended_at
             (setup_of machine.now tools.now) line (between_of self.old)) }
     {
+        self.note_end(line);
         match self.take_path_end(machine, tools) {
             Ok(()) => self.take_end(machine, tools, line),
             Err(refusal) => Err(refusal),
         }
     }
 
-    /// Returns the commands that were executed so far.
-    pub fn into_commands(self) -> Vec<Command, A>
-        ensures { result.items ≡ (between_of self).state.commands }
+    /// Returns the commands that were executed so far, and what was collected.
+    pub(crate) fn into_collected(self) -> Collected<A>
+        ensures commands { result.commands.items ≡ (between_of self).state.commands }
+        ensures notes { result.notes ≡ (between_of self).notes }
+        ensures lines { kept_in result.lines ≡ (between_of self).kept }
     {
-        let WordInterpreter { interpreter, .. } = self;
-        interpreter.into_commands()
+        let WordInterpreter { run, notes, .. } = self;
+        let PlainRun {
+            interpreter,
+            kept,
+            ..
+        } = run;
+        Collected {
+            commands: interpreter.into_commands(),
+            notes,
+            lines: kept,
+        }
     }
 }

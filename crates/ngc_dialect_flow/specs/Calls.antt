@@ -3,7 +3,7 @@
 use Rattle.std.specs.Prelude.{ℕ, ◌+◌, ◌-◌, ◌/◌, ◌%◌, ◌==◌, ◌&&◌, nat_le, nat_lt, ℤ, List, [], ◌∷◌, ◌++◌}
 use Rattle.std.specs.Prelude.{Option, Some, None, Result, Ok, Err, if◌then◌else◌}
 use Rattle.ngc_line_reader.specs.Scan.{◌>>=◌}
-use Rattle.ngc_dialect_reader.specs.declared.dialect.Dialect.{Dialect}
+use Rattle.ngc_dialect_names.specs.declared.dialect.Dialect.{Dialect}
 use Rattle.ngc_dialect_reader.specs.Table.{switches_of}
 use Rattle.ngc_dialect_flow.specs.declared.effect.Effect.{Effect}
 use Rattle.ngc_dialect_flow.specs.declared.effect.Effect.TheVariants as effects

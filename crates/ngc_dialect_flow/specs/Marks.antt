@@ -1,7 +1,7 @@
 -- What the text of a line shows of the flow, without values.
 use Rattle.std.specs.Prelude.{ℕ, ◌/◌, ◌%◌, ◌==◌, ◌||◌, not, ℤ, pos, int_lt, unsigned_abs, List, [], ◌∷◌}
 use Rattle.std.specs.Prelude.{Option, Some, None, option_and_then, Result, Ok, Err, if◌then◌else◌}
-use Rattle.ngc_dialect_reader.specs.declared.dialect.Dialect.{Dialect}
+use Rattle.ngc_dialect_names.specs.declared.dialect.Dialect.{Dialect}
 use Rattle.ngc_dialect_reader.specs.declared.fault.LineFault.{LineFault}
 use Rattle.ngc_dialect_reader.specs.declared.part.Part.{Part}
 use Rattle.ngc_dialect_reader.specs.declared.part.PartKind.{PartKind}

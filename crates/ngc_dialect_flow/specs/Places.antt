@@ -4,7 +4,7 @@ use Rattle.std.specs.Str.{bytes_eq}
 use Rattle.std.specs.Ordering.{nat_cmp}
 use Rattle.std.specs.Cmp.Lexicographic.{slice_cmp}
 use Rattle.std.specs.BTreeMap.{get_by}
-use Rattle.ngc_dialect_reader.specs.declared.dialect.Dialect.{Dialect}
+use Rattle.ngc_dialect_names.specs.declared.dialect.Dialect.{Dialect}
 use Rattle.ngc_dialect_flow.specs.declared.mark.Label.{Label}
 use Rattle.ngc_dialect_flow.specs.declared.mark.Label.TheVariants as labels
 use Rattle.ngc_dialect_flow.specs.declared.search.Search.{Search}

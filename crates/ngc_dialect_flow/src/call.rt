@@ -14,9 +14,10 @@ use crate::search::Search;
 use crate::state::{Call, CallKind, State, after};
 use crate::table::Table;
 use crate::words::{argument, label_in, needed, only_word, word_in};
+use ngc_dialect_names::Dialect;
 use ngc_dialect_numbers::Number;
 use ngc_dialect_parameters::LineValues;
-use ngc_dialect_reader::{Dialect, DialectLine};
+use ngc_dialect_reader::{DialectLine, Switches};
 use std::alloc::Allocator;
 
 /// The greatest number of open calls.
@@ -51,7 +52,7 @@ fn times(dialect: Dialect, program: u128, count: Option<Number>) -> Result<(u128
         let count = needed(count)?;
         return Ok((program, count));
     }
-    if dialect.switches().macros && program > 9999 {
+    if Switches::of(dialect).macros && program > 9999 {
         Ok((program % 10_000, program / 10_000))
     } else {
         Ok((program, 1))
@@ -182,7 +183,7 @@ impl State {
     {
         self.leave(call);
         match number {
-            Some(number) if table.dialect.switches().macros => self.jump_to(table, line, number),
+            Some(number) if Switches::of(table.dialect).macros => self.jump_to(table, line, number),
             _ => Ok(()),
         }
     }

@@ -2,7 +2,8 @@
 ghost use Rattle.std.specs.Prelude.{◌≡◌};
 ghost use Rattle.ngc_dialect_flow.specs.Marks as spec;
 
-use ngc_dialect_reader::{Dialect, DialectLine, Keyword, Name, Part, PartKind};
+use ngc_dialect_names::Dialect;
+use ngc_dialect_reader::{DialectLine, Keyword, Name, Part, PartKind};
 
 /// The number of units in 1.
 const ONE: u128 = 1_000_000_000_000;

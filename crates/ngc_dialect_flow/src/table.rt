@@ -7,7 +7,8 @@ ghost use Rattle.ngc_dialect_flow.specs.Places.{place_of, rows_of};
 use crate::key::{Key, key_with};
 use crate::mark::{LineKind, Mark, number_label, read_mark};
 use crate::search::{Search, also_found_by, branch_of, end_of, found_by};
-use ngc_dialect_reader::{Dialect, DialectLine};
+use ngc_dialect_names::Dialect;
+use ngc_dialect_reader::DialectLine;
 use std::alloc::{AllocError, Allocator};
 use std::collections::BTreeMap;
 

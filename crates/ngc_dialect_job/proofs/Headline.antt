@@ -9,10 +9,10 @@ use Rattle.ngc_checker.specs.Accepted.{IsAccepted}
 use Rattle.ngc_checker.specs.FirstRefusal.{job_refusal}
 use Rattle.ngc_checker.specs.Held.{accepted_of}
 use Rattle.ngc_checker.proofs.Acceptance.{accepted}
-use Rattle.ngc_dialect_reader.specs.declared.dialect.Dialect.{Dialect}
+use Rattle.ngc_dialect_names.specs.declared.dialect.Dialect.{Dialect}
 use Rattle.ngc_dialect_execution.specs.Program.{meaning_in}
 use Rattle.ngc_dialect_execution.specs.declared.fault.DialectFault.{DialectFault}
-use Rattle.ngc_dialect_execution.proofs.Reaching.{are_executed, lawfully}
+use Rattle.ngc_dialect_execution.proofs.Reaching.{lawfully, meaning_executed}
 use Rattle.ngc_job.specs.Job.{JobData, AreCommands, commands_in}
 use Rattle.ngc_machine_model.specs.Headline.{RunsSafely, job_of}
 use Rattle.ngc_machine_model.proofs.Headline.{accepted_runs_safely}
@@ -25,7 +25,7 @@ are_commands : (d : Dialect) (setup : Setup) (block_delete : Bool) (text : List 
 are_commands d setup block_delete text commands means =
     lawfully {X = List Command} (λ x. x) (AreCommands setup.machine.start) setup (Ok commands)
     (λ s ended law. record { count = law.count; joined = law.joined; radii = law.radii; ended = law.ended; has_end = law.has_end ended })
-    (are_executed {X = List Command} (λ x. x) (Ok commands) d setup block_delete text means)
+    (meaning_executed d setup block_delete text commands means)
 
 of_accepted : (j : JobData) → IsAccepted (accepted_of j) → (block_delete : Bool) → RunsSafely (job_of j.machine (commands_in block_delete j))
 of_accepted j ok false = accepted_runs_safely (accepted_of j) ok false

@@ -5,7 +5,7 @@ use Rattle.ngc_commands.specs.declared.command.Command.{Command}
 use Rattle.ngc_canonical.specs.State.{Setup}
 use Rattle.ngc_certificate_text.specs.Certificate.{CertificateData}
 use Rattle.ngc_checker.specs.FirstRefusal.{job_refusal}
-use Rattle.ngc_dialect_reader.specs.declared.dialect.Dialect.{Dialect}
+use Rattle.ngc_dialect_names.specs.declared.dialect.Dialect.{Dialect}
 use Rattle.ngc_dialect_execution.specs.Program.{meaning_in}
 use Rattle.ngc_job.specs.Job.{JobData}
 use Rattle.ngc_machine_model.specs.Headline.{RunsSafely, job_of}

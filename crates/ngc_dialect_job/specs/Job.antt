@@ -4,7 +4,7 @@ use Rattle.ngc_commands.specs.declared.command.Command.{Command}
 use Rattle.ngc_canonical.specs.State.{Setup}
 use Rattle.ngc_certificate_text.specs.declared.piece.Setting.{Setting}
 use Rattle.ngc_certificate_text.specs.declared.piece.Setting.TheVariants.{Off, On}
-use Rattle.ngc_dialect_reader.specs.declared.dialect.Dialect.{Dialect}
+use Rattle.ngc_dialect_names.specs.declared.dialect.Dialect.{Dialect}
 use Rattle.ngc_dialect_execution.specs.declared.fault.DialectFault.{DialectFault}
 use Rattle.ngc_dialect_execution.specs.Faults.{FailsBy}
 use Rattle.ngc_dialect_execution.specs.Program.{meaning_in}

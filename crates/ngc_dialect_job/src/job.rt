@@ -4,7 +4,7 @@ ghost use Rattle.ngc_dialect_job.specs.Job.{DialectJobIs};
 
 use ngc_certificate_text::Setting;
 use ngc_dialect_execution::{DialectFault, interpret_dialect};
-use ngc_dialect_reader::Dialect;
+use ngc_dialect_names::Dialect;
 use ngc_job::Job;
 use ngc_machine_files::{Machine, Tools};
 use std::alloc::Allocator;

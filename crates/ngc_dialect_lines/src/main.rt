@@ -2,9 +2,8 @@
 //! in that dialect. What is printed for it is the line's parts, in their order, or its fault.
 #![tactic(auto)]
 
-use ngc_dialect_reader::{
-    Dialect, DialectLine, Function, Keyword, Literal, Name, Operator, PartKind,
-};
+use ngc_dialect_names::Dialect;
+use ngc_dialect_reader::{DialectLine, Function, Keyword, Literal, Name, Operator, PartKind};
 use std::io;
 
 const ONE: u128 = 1_000_000_000_000;
@@ -128,16 +127,6 @@ fn print_kind(rt: &impl Print, line: &DialectLine, kind: &PartKind) -> io::Resul
     }
 }
 
-fn dialect_named(name: &str) -> Option<Dialect> {
-    match name.as_bytes() {
-        b"linuxcnc" => Some(Dialect::LinuxCnc),
-        b"grbl" => Some(Dialect::Grbl),
-        b"mach3" => Some(Dialect::Mach3),
-        b"fanuc" => Some(Dialect::Fanuc),
-        _ => None,
-    }
-}
-
 fn print_line(
     rt: &impl Print,
     dialect: Dialect,
@@ -172,7 +161,7 @@ fn main(rt: HostRuntime) -> io::Result<()> {
             println!(rt; "no dialect")?;
             continue;
         };
-        match dialect_named(name) {
+        match Dialect::named(name) {
             Some(dialect) => print_line(&rt, dialect, text, &mut contents)?,
             None => println!(rt; "no dialect")?,
         }

@@ -7,23 +7,13 @@ mod execution;
 
 use execution::{notes_on, tools_of};
 use ngc_canonical::built_in_machine;
+use ngc_dialect_names::Dialect;
 use ngc_dialect_note_texts::write_notes;
 use ngc_dialect_notes::Notes;
-use ngc_dialect_reader::Dialect;
 use ngc_report::Form;
 use ngc_text::Device;
 use std::alloc::Global;
 use std::io;
-
-fn dialect_named(name: &str) -> Option<Dialect> {
-    match name.as_bytes() {
-        b"linuxcnc" => Some(Dialect::LinuxCnc),
-        b"grbl" => Some(Dialect::Grbl),
-        b"mach3" => Some(Dialect::Mach3),
-        b"fanuc" => Some(Dialect::Fanuc),
-        _ => None,
-    }
-}
 
 fn print_notes(rt: &impl Print, alloc: Global, form: Form, notes: &Notes) -> io::Result<()> {
     let mut text = Device::new(Vec::new(alloc));
@@ -67,7 +57,7 @@ fn main(rt: HostRuntime) -> io::Result<()> {
             Some((name, _)) => (name, Form::Json),
             None => (front, Form::Words),
         };
-        match dialect_named(name) {
+        match Dialect::named(name) {
             Some(dialect) => print_program(&rt, rt.alloc(), dialect, form, program)?,
             None => println!(rt; "no dialect")?,
         }

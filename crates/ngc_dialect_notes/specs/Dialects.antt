@@ -1,7 +1,7 @@
 -- Dialects, as far as notes need them. Our own.
 use Rattle.std.specs.Prelude.{Bool, true, false}
-use Rattle.ngc_dialect_reader.specs.declared.dialect.Dialect.{Dialect}
-use Rattle.ngc_dialect_reader.specs.declared.dialect.Dialect.TheVariants as dialects
+use Rattle.ngc_dialect_names.specs.declared.dialect.Dialect.{Dialect}
+use Rattle.ngc_dialect_names.specs.declared.dialect.Dialect.TheVariants as dialects
 
 abbrev pub is_grbl : Dialect → Bool
 is_grbl dialects.Grbl = true

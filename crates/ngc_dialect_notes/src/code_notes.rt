@@ -9,9 +9,9 @@ use crate::kind::Kind;
 use crate::motion::{dwells_by_axis, has_axes};
 use crate::noted;
 use crate::notes::Notes;
+use ngc_dialect_names::Dialect;
 use ngc_dialect_numbers::Number;
 use ngc_dialect_parameters::Word;
-use ngc_dialect_reader::Dialect;
 use ngc_dialect_rules::{
     Code, Known, codes, has, has_letter, is_fanuc, is_linuxcnc, value_of, word_of,
 };

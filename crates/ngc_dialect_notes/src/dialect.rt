@@ -3,7 +3,7 @@ ghost use Rattle.std.specs.Prelude.{◌≡◌};
 ghost use Rattle.ngc_dialect_rules.specs.Moves as moves;
 ghost use Rattle.ngc_dialect_notes.specs.Dialects as spec;
 
-use ngc_dialect_reader::Dialect;
+use ngc_dialect_names::Dialect;
 
 pub(crate) fn is_grbl(dialect: Dialect) -> bool
     ensures { result ≡ spec.is_grbl dialect }

@@ -5,8 +5,8 @@ ghost use Rattle.ngc_dialect_rules.specs.Moves as moves;
 ghost use Rattle.ngc_dialect_rules.specs.Tables.{has};
 ghost use Rattle.ngc_dialect_notes.specs.Motions as spec;
 
+use ngc_dialect_names::Dialect;
 use ngc_dialect_parameters::Word;
-use ngc_dialect_reader::Dialect;
 use ngc_dialect_rules::{Code, Known, code_in, codes, has, has_letter, is_among, is_fanuc};
 
 pub(crate) fn is_one_of(table: &[Code], code: Option<Code>) -> bool

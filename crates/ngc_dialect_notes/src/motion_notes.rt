@@ -10,8 +10,8 @@ use crate::kind::Kind;
 use crate::motion::has_offsets;
 use crate::noted;
 use crate::notes::{Notes, Said};
+use ngc_dialect_names::Dialect;
 use ngc_dialect_parameters::Word;
-use ngc_dialect_reader::Dialect;
 use ngc_dialect_rules::{
     Code, KeptSeries, Known, codes, has_letter, is_among, is_fanuc, is_linuxcnc, word_of,
 };

@@ -9,8 +9,8 @@ use crate::kind::Kind;
 use crate::motion::is_one_of;
 use crate::noted;
 use crate::notes::Notes;
+use ngc_dialect_names::Dialect;
 use ngc_dialect_parameters::Word;
-use ngc_dialect_reader::Dialect;
 use ngc_dialect_rules::{Code, Known, codes, has, is_fanuc};
 
 // Returns the kind of a letter that may have no use.

@@ -5,8 +5,8 @@ use Rattle.std.specs.List.{starts_with}
 use Rattle.std.proofs.Common.{le-leb}
 use Rattle.std.proofs.lemmas.Result.{IfOk-weaker}
 use Rattle.ngc_line_reader.specs.Scan.{◌>>=◌, begins}
-use Rattle.ngc_dialect_reader.specs.declared.dialect.Dialect.{Dialect}
-use Rattle.ngc_dialect_reader.specs.declared.dialect.Switches.{Switches}
+use Rattle.ngc_dialect_names.specs.declared.dialect.Dialect.{Dialect}
+use Rattle.ngc_dialect_reader.specs.declared.switches.Switches.{Switches}
 use Rattle.ngc_dialect_reader.specs.declared.fault.Cause.TheVariants as causes
 use Rattle.ngc_dialect_reader.specs.declared.fault.LineFault.{LineFault}
 use Rattle.ngc_dialect_reader.specs.declared.part.Part.{Part}

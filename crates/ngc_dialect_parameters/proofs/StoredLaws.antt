@@ -5,7 +5,7 @@ use Rattle.std.proofs.Math.Path.{fun_ext}
 use Rattle.std.proofs.Math.Seq.{take-append_seam}
 use Rattle.std.proofs.lemmas.List.{length_push, length-map, map-append}
 use Rattle.std.proofs.lemmas.Bool.Decides.{nat_tests}
-use Rattle.ngc_dialect_reader.specs.declared.dialect.Dialect.{Dialect}
+use Rattle.ngc_dialect_names.specs.declared.dialect.Dialect.{Dialect}
 use Rattle.ngc_dialect_parameters.specs.declared.parameters.Parameters.{Parameters}
 use Rattle.ngc_dialect_parameters.specs.declared.parameters.Call.{Call}
 use Rattle.ngc_dialect_parameters.specs.declared.names.Names.{Names}

@@ -2,7 +2,7 @@
 -- LinuxCNC. Only Fanuc's dialect has a parameter 0, which is always empty.
 use Rattle.std.specs.Prelude.{ℕ, ◌/◌, ◌==◌, ◌&&◌, ◌||◌, nat_lt, not, ℤ, pos, ◌-ℤ◌, unsigned_abs, int_lt}
 use Rattle.std.specs.Prelude.{Result, Ok, Err, if◌then◌else◌}
-use Rattle.ngc_dialect_reader.specs.declared.dialect.Dialect.{Dialect}
+use Rattle.ngc_dialect_names.specs.declared.dialect.Dialect.{Dialect}
 use Rattle.ngc_dialect_numbers.specs.Numbers.{ONE, rounded}
 use Rattle.ngc_dialect_parameters.specs.declared.fault.Cause.{Cause}
 use Rattle.ngc_dialect_parameters.specs.declared.fault.Cause.TheVariants as causes

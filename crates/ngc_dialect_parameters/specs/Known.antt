@@ -2,7 +2,7 @@
 use Rattle.std.specs.Prelude.{ℕ, ◌==◌, ◌&&◌, ◌||◌, nat_lt, nat_le, not, ℤ, pos, List, Option, Some, None, Bool}
 use Rattle.std.specs.Prelude.{Result, Ok, Err, if◌then◌else◌}
 use Rattle.std.specs.Option.{is_some}
-use Rattle.ngc_dialect_reader.specs.declared.dialect.Dialect.{Dialect}
+use Rattle.ngc_dialect_names.specs.declared.dialect.Dialect.{Dialect}
 use Rattle.ngc_dialect_parameters.specs.declared.fault.Cause.{Cause}
 use Rattle.ngc_dialect_parameters.specs.declared.fault.Cause.TheVariants as causes
 use Rattle.ngc_dialect_parameters.specs.declared.statement.Statement.{Statement}

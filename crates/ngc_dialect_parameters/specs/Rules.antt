@@ -1,8 +1,8 @@
 -- What the parameters of dialects differ in (LinuxCNC, "G-code overview", "Numbered parameters";
 -- Fanuc, "Custom macro", "Variables").
 use Rattle.std.specs.Prelude.{ℕ, Bool, true, false}
-use Rattle.ngc_dialect_reader.specs.declared.dialect.Dialect.{Dialect}
-use Rattle.ngc_dialect_reader.specs.declared.dialect.Dialect.TheVariants as dialects
+use Rattle.ngc_dialect_names.specs.declared.dialect.Dialect.{Dialect}
+use Rattle.ngc_dialect_names.specs.declared.dialect.Dialect.TheVariants as dialects
 
 -- the parameters that can be stored: those below this number
 abbrev pub COUNT : ℕ

@@ -1,7 +1,7 @@
 -- What the parameters of a program are.
 use Rattle.std.specs.Prelude.{ℕ, ◌≡◌, ◌<◌, ◌+◌, ◌-◌, ◌&&◌, nat_le, ℤ, List, length, map, Option, None, Bool}
 use Rattle.std.specs.Prelude.{if◌then◌else◌, slice_index_or}
-use Rattle.ngc_dialect_reader.specs.declared.dialect.Dialect.{Dialect}
+use Rattle.ngc_dialect_names.specs.declared.dialect.Dialect.{Dialect}
 use Rattle.ngc_dialect_parameters.specs.declared.parameters.Parameters.{Parameters}
 use Rattle.ngc_dialect_parameters.specs.declared.parameters.Call.{Call}
 use Rattle.ngc_dialect_parameters.specs.Names.{value_in, count_in, is_global}

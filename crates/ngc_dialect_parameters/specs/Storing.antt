@@ -7,7 +7,7 @@ use Rattle.std.specs.Option.{is_some}
 use Rattle.std.specs.Str.{bytes_eq}
 use Rattle.ngc_line_reader.specs.Scan.{◌>>=◌}
 use Rattle.ngc_dialect_reader.specs.Line.{name_of}
-use Rattle.ngc_dialect_reader.specs.declared.dialect.Dialect.{Dialect}
+use Rattle.ngc_dialect_names.specs.declared.dialect.Dialect.{Dialect}
 use Rattle.ngc_dialect_parameters.specs.declared.fault.StoreFault.{StoreFault}
 use Rattle.ngc_dialect_parameters.specs.declared.fault.StoreFault.TheVariants as faults
 use Rattle.ngc_dialect_parameters.specs.declared.statement.Statement.{Statement}

@@ -3,8 +3,8 @@ ghost use Rattle.ngc_dialect_parameters.specs.Index as spec;
 
 use crate::fault::Cause;
 use crate::rules::has_macros;
+use ngc_dialect_names::Dialect;
 use ngc_dialect_numbers::Number;
-use ngc_dialect_reader::Dialect;
 
 // A parameter's number may differ from a whole number by this much: 0.0001.
 const TOLERANCE: u128 = 100_000_000;

@@ -1,6 +1,6 @@
 //! Laws of the definitions. The functions do nothing: what they ensure holds.
 ghost use Rattle.std.specs.Prelude.{◌≡◌, ℕ, List, length, IfOk, IsSome};
-ghost use Rattle.ngc_dialect_reader.specs.declared.dialect.Dialect.{Dialect as Language};
+ghost use Rattle.ngc_dialect_names.specs.declared.dialect.Dialect.{Dialect as Language};
 ghost use Rattle.ngc_dialect_reader.specs.declared.part.PartKind.{PartKind as Kind};
 ghost use Rattle.ngc_dialect_reader.specs.Line.{line_of};
 ghost use Rattle.ngc_dialect_parameters.specs.Known.{Known};

@@ -2,8 +2,8 @@ ghost use Rattle.std.specs.Prelude.{◌≡◌, ◌≤◌, vec_len};
 
 use crate::names::Names;
 use arrayvec::ArrayVec;
+use ngc_dialect_names::Dialect;
 use ngc_dialect_numbers::Number;
-use ngc_dialect_reader::Dialect;
 use std::alloc::Allocator;
 
 /// What a call keeps of its caller: the values of its numbered parameters from 1 on, and its names.

@@ -2,7 +2,7 @@
 ghost use Rattle.std.specs.Prelude.{◌≡◌, ◌≤◌};
 ghost use Rattle.ngc_dialect_parameters.specs.Rules as spec;
 
-use ngc_dialect_reader::Dialect;
+use ngc_dialect_names::Dialect;
 
 /// The number of parameters that are stored, from 0 on.
 pub(crate) const COUNT: usize = 6000;

@@ -12,8 +12,9 @@ use crate::rules::{COUNT, local_count};
 use crate::statement::Statement;
 use crate::values::LineValues;
 use arrayvec::ArrayVec;
+use ngc_dialect_names::Dialect;
 use ngc_dialect_numbers::Number;
-use ngc_dialect_reader::{Dialect, DialectLine};
+use ngc_dialect_reader::DialectLine;
 use std::alloc::{AllocError, Allocator};
 use std::mem;
 

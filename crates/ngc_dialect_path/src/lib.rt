@@ -13,6 +13,6 @@ mod target;
 mod writing;
 
 pub use line::{PathLine, Start, Width};
-pub use path::{Beside, Path, held_line, is_holding};
+pub use path::{Beside, Path, held_line, is_holding, programmed};
 pub use step::{Course, PathLines, PathStep, path_end, path_step};
 pub use target::Straight;

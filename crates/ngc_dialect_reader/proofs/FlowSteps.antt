@@ -4,7 +4,7 @@ use Rattle.ngc_dialect_reader.specs.declared.fault.Cause.TheVariants as causes
 use Rattle.ngc_dialect_reader.specs.Number.{refusal}
 use Rattle.std.specs.Prelude.{if◌then◌else◌}
 use Rattle.ngc_line_reader.specs.Scan.{◌>>=◌, begins}
-use Rattle.ngc_dialect_reader.specs.declared.dialect.Switches.{Switches}
+use Rattle.ngc_dialect_reader.specs.declared.switches.Switches.{Switches}
 use Rattle.ngc_dialect_reader.specs.declared.part.Part.{Part}
 use Rattle.ngc_dialect_reader.specs.Steps.{after_comments}
 use Rattle.ngc_dialect_reader.specs.Value.{bracket_with}

@@ -3,7 +3,7 @@ use Rattle.std.specs.Prelude.{ℕ, zero, suc, ◌==◌, ◌&&◌, ◌||◌, not,
 use Rattle.std.specs.Prelude.{length, drop, slice_index, Bool, true, false, Result, Ok, Err}
 use Rattle.std.specs.Prelude.{if◌then◌else◌}
 use Rattle.ngc_line_reader.specs.Scan.{begins, ◌>>=◌}
-use Rattle.ngc_dialect_reader.specs.declared.dialect.Switches.{Switches}
+use Rattle.ngc_dialect_reader.specs.declared.switches.Switches.{Switches}
 use Rattle.ngc_dialect_reader.specs.declared.fault.Cause.TheVariants as causes
 use Rattle.ngc_dialect_reader.specs.declared.part.Part.{Part}
 use Rattle.ngc_dialect_reader.specs.declared.part.PartKind.TheVariants as kinds
@@ -26,6 +26,10 @@ abbrev pub begins_value : List ℕ → Bool
 begins_value s =
     begins_digits s || (has_sign s || (begins 91 s || (begins 35 s
     || (begins_letter s && begins 91 (drop (word_length s) s)))))
+
+-- whether a number begins, maybe with a sign
+abbrev pub begins_number : List ℕ → Bool
+begins_number s = begins_digits s || (has_sign s && begins_digits (drop 1 s))
 
 -- a word; its letter is the first byte of s
 unfoldable pub word_at : Switches → ℕ → Reader

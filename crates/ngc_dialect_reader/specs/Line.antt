@@ -7,8 +7,8 @@ use Rattle.std.specs.Char.{is_ascii_digit}
 use Rattle.std.specs.Prelude.{codes}
 use Rattle.std.specs.List.{starts_with}
 use Rattle.ngc_line_reader.specs.Scan.{begins, ◌>>=◌}
-use Rattle.ngc_dialect_reader.specs.declared.dialect.Dialect.{Dialect}
-use Rattle.ngc_dialect_reader.specs.declared.dialect.Switches.{Switches}
+use Rattle.ngc_dialect_names.specs.declared.dialect.Dialect.{Dialect}
+use Rattle.ngc_dialect_reader.specs.declared.switches.Switches.{Switches}
 use Rattle.ngc_dialect_reader.specs.declared.fault.Cause.TheVariants as causes
 use Rattle.ngc_dialect_reader.specs.declared.fault.Refusal.{Refusal}
 use Rattle.ngc_dialect_reader.specs.declared.fault.LineFault.{LineFault}

@@ -1,9 +1,9 @@
 -- What the dialects' lines differ in. LinuxCNC's are from its documentation ("G-code overview",
 -- "O codes"), Grbl's, Mach3's and Fanuc's from theirs.
 use Rattle.std.specs.Prelude.{true, false}
-use Rattle.ngc_dialect_reader.specs.declared.dialect.Dialect.{Dialect}
-use Rattle.ngc_dialect_reader.specs.declared.dialect.Dialect.TheVariants as dialects
-use Rattle.ngc_dialect_reader.specs.declared.dialect.Switches.{Switches}
+use Rattle.ngc_dialect_names.specs.declared.dialect.Dialect.{Dialect}
+use Rattle.ngc_dialect_names.specs.declared.dialect.Dialect.TheVariants as dialects
+use Rattle.ngc_dialect_reader.specs.declared.switches.Switches.{Switches}
 
 abbrev pub switches_of : Dialect → Switches
 switches_of dialects.LinuxCnc =

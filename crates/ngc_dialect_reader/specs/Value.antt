@@ -10,7 +10,7 @@ use Rattle.std.specs.Prelude.{codes}
 use Rattle.std.specs.List.{starts_with}
 use Rattle.std.specs.Prelude.{nat_eq}
 use Rattle.ngc_line_reader.specs.Scan.{begins, ◌>>=◌}
-use Rattle.ngc_dialect_reader.specs.declared.dialect.Switches.{Switches}
+use Rattle.ngc_dialect_reader.specs.declared.switches.Switches.{Switches}
 use Rattle.ngc_dialect_reader.specs.declared.fault.Cause.TheVariants as causes
 use Rattle.ngc_dialect_reader.specs.declared.part.Part.{Part}
 use Rattle.ngc_dialect_reader.specs.declared.part.PartKind.TheVariants as kinds

@@ -3,12 +3,12 @@ ghost use Rattle.std.specs.Str.{bytes_eq};
 ghost use Rattle.ngc_line_reader.specs.Scan.{Gives};
 ghost use Rattle.ngc_dialect_reader.specs.Flow as spec;
 
-use crate::dialect::Switches;
 use crate::fault::{Cause, Refusal};
 use crate::item::{items, whole};
 use crate::number::{begins, refused, tail};
 use crate::part::{Keyword, PartKind};
 use crate::steps::{Parts, added, after, after_comments, ended, name_at, starts_with, word_length};
+use crate::switches::Switches;
 use crate::value::{bracket_at, is, value_at};
 
 fn keyword_of(word: &[u8]) -> Option<Keyword>

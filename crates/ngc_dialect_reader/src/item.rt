@@ -1,13 +1,13 @@
-ghost use Rattle.std.specs.Prelude.{◌≡◌, ℕ, ◌≤◌, ◌<◌, length, drop, List};
+ghost use Rattle.std.specs.Prelude.{◌≡◌, ℕ, ◌≤◌, ◌<◌, length, drop, List, true};
 ghost use Rattle.ngc_line_reader.specs.Scan.{Gives};
 ghost use Rattle.ngc_dialect_reader.specs.Item as spec;
 
-use crate::dialect::Switches;
 use crate::fault::{Cause, Refusal};
 use crate::number::{begins, refused, tail};
 use crate::part::PartKind;
 use crate::steps::{Parts, added, after, begins_letter, is_letter, name_at, needed, word_length};
-use crate::value::{Scope, begins_digits, expression_at, has_sign, value_at};
+use crate::switches::Switches;
+use crate::value::{Scope, begins_digits, expression_at, has_sign, literal_at, value_at};
 
 // Values nest at most 32 deep.
 pub(crate) fn whole(dialect: Switches) -> Scope
@@ -34,6 +34,26 @@ fn begins_value(s: &[u8]) -> bool
         || (begins_letter(s) && begins(b'[', after(word_length(s), s)))
 }
 
+// Returns whether a number begins, maybe with a sign.
+#[inline]
+fn begins_number(s: &[u8]) -> bool
+    ensures { result ≡ spec.begins_number s.now }
+{
+    begins_digits(s) || (has_sign(s) && begins_digits(tail(s)))
+}
+
+// Adds a word whose value is a number, and returns the rest.
+#[inline(always)]
+#[tactic(auto, using(crate::proofs::ItemSteps::number_word))]
+fn number_word_at<'a>(letter: u8, s: &'a [u8], parts: &mut Parts) -> Result<&'a [u8], Refusal>
+    requires { spec.begins_number (drop 1 s.now) ≡ true }
+    ensures { (d : Switches) → Gives (λ r. (parts.new.items, r.now)) result
+        (spec.word_at d letter parts.old.items s.now) }
+{
+    let rest = literal_at(tail(s), parts)?;
+    added(PartKind::Word(letter), s, parts, rest)
+}
+
 // Adds a word, and returns the rest.
 #[tactic(auto, unfolding(crate::specs::Item::word_at))]
 fn word_at<'a>(
@@ -45,6 +65,9 @@ fn word_at<'a>(
     ensures { Gives (λ r. (parts.new.items, r.now)) result
         (spec.word_at dialect letter parts.old.items s.now) }
 {
+    if begins_number(tail(s)) {
+        return number_word_at(letter, s, parts);
+    }
     if !begins_value(tail(s)) {
         return Err(refused(Cause::WordWithoutValue, s));
     }

@@ -2,7 +2,6 @@
 //! it. A line becomes a list of parts, which a machine with a stack can execute from left to right.
 #![tactic(auto)]
 
-mod dialect;
 mod fault;
 mod flow;
 mod item;
@@ -10,11 +9,12 @@ mod line;
 mod number;
 mod part;
 mod steps;
+mod switches;
 mod text;
 mod value;
 
-pub use dialect::{Dialect, Switches};
 pub use fault::{Cause, LineFault};
 pub use line::DialectLine;
 pub use part::{Function, Keyword, Literal, Name, Operator, Part, PartKind};
+pub use switches::Switches;
 pub use text::column_of;

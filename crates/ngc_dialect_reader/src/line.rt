@@ -3,15 +3,16 @@ ghost use Rattle.ngc_line_reader.specs.Scan.{Gives};
 ghost use Rattle.ngc_dialect_reader.specs.Line as spec;
 ghost use Rattle.ngc_dialect_reader.specs.Text.{text as text_of};
 
-use crate::dialect::{Dialect, Switches};
 use crate::fault::{Cause, LineFault, Refusal};
 use crate::flow::{macro_at, o_word_at};
 use crate::item::items;
 use crate::number::{begins, number_at, refused, tail};
 use crate::part::{Name, Part, PartKind};
 use crate::steps::{Parts, add, added, after, ended, starts_with};
-use crate::text::{column_of, fault_in, fill_text};
+use crate::switches::Switches;
+use crate::text::{column_of, read_text};
 use arrayvec::ArrayVec;
+use ngc_dialect_names::Dialect;
 
 /// The greatest number of bytes of a line, without its line feed.
 const LINE_LENGTH: usize = 256;
@@ -131,11 +132,10 @@ impl DialectLine {
                 column: 257,
             });
         }
-        let switches = dialect.switches();
-        if let Some(fault) = fault_in(switches.closed_comments, line) {
+        let switches = Switches::of(dialect);
+        if let Some(fault) = read_text(switches.closed_comments, line, &mut self.text) {
             return Err(fault);
         }
-        fill_text(line, &mut self.text);
         match text_at(switches, self.text.as_slice(), &mut self.parts) {
             Ok(_) => Ok(()),
             Err(refusal) => Err(LineFault {

@@ -181,6 +181,7 @@ fn signed(negative: bool, size: u128) -> i128
 }
 
 // Returns a number, and the rest.
+#[inline(always)]
 #[tactic(auto, unfolding(crate::specs::Number::number_at))]
 pub(crate) fn number_at(s: &[u8]) -> Result<(Literal, &[u8]), Refusal>
     ensures { Gives (λ x. (x.0, x.1.now)) result (spec.number_at s.now) }

@@ -13,6 +13,7 @@ use arrayvec::ArrayVec;
 pub(crate) type Parts = ArrayVec<Part, 128>;
 
 // Adds a part that begins at `s`.
+#[inline]
 pub(crate) fn add(kind: PartKind, s: &[u8], parts: &mut Parts) -> Result<(), Refusal>
     ensures { Gives (λ _. parts.new.items) result (spec.add kind s.now parts.old.items) }
 {
@@ -27,6 +28,7 @@ pub(crate) fn add(kind: PartKind, s: &[u8], parts: &mut Parts) -> Result<(), Ref
 }
 
 // Adds a part that begins at `s`, and returns the rest.
+#[inline]
 pub(crate) fn added<'a>(
     kind: PartKind,
     s: &[u8],

@@ -1,6 +1,7 @@
-ghost use Rattle.std.specs.Prelude.{◌≡◌, ◌≤◌, length, []};
+ghost use Rattle.std.specs.Prelude.{◌≡◌, ◌≤◌, length, [], Bool, false, None, Some, IsTrue};
 ghost use Rattle.arrayvec.specs.ArrayVec.{array_vec_len};
 ghost use Rattle.ngc_dialect_reader.specs.Text as spec;
+ghost use Rattle.ngc_dialect_reader.specs.declared.text.Place.TheVariants as places;
 
 use crate::fault::{Cause, LineFault};
 use arrayvec::ArrayVec;
@@ -102,37 +103,71 @@ fn end_fault(closed: bool, place: Place, opened: usize) -> Option<LineFault>
     }
 }
 
-// Returns why a line has no text: the first fault from the left.
-#[tactic(auto, using(crate::proofs::TextBytes::text_steps))]
-pub(crate) fn fault_in(closed: bool, line: &[u8]) -> Option<LineFault>
-    requires { length line.now ≤ 256 }
-    ensures { result ≡ spec.fault_in closed line.now }
+// Returns whether a byte outside comments stands in the text as it is: one from '-' to '9', or a
+// capital letter.
+#[inline]
+fn stays(byte: u8) -> bool
+    ensures kept { IsTrue result → (last : Bool) → spec.kept places.Outside byte last ≡ Some byte }
+    ensures visible { IsTrue result → (last : Bool) → spec.is_control byte last ≡ false }
+    ensures outside { IsTrue result → spec.place_after places.Outside byte ≡ places.Outside }
 {
+    (byte >= b'-' && byte <= b'9') || (byte >= b'A' && byte <= b'Z')
+}
+
+#[inline]
+fn is_outside(place: Place) -> bool
+    ensures { IsTrue result → place ≡ places.Outside }
+{
+    matches!(place, Place::Outside)
+}
+
+// Writes the text of a line into `bytes`, in place of what was there, or returns why it has none: the
+// first fault from the left. `bytes` is then unspecified.
+#[tactic(auto, using(crate::proofs::TextBytes::text_steps))]
+pub(crate) fn read_text(
+    closed: bool,
+    line: &[u8],
+    bytes: &mut ArrayVec<u8, 256>,
+) -> Option<LineFault>
+    requires { length line.now ≤ 256 }
+    ensures fault { result ≡ spec.fault_in closed line.now }
+    ensures text { result ≡ None → bytes.new.items ≡ spec.text line.now }
+{
+    bytes.clear();
     let mut place = Place::Outside;
     let mut opened = 0;
     for i in 0..line.len() {
         let byte = line[i];
-        if is_control(byte, i + 1 == line.len()) {
-            return Some(LineFault {
-                cause: Cause::ControlCharacter,
-                column: i + 1,
-            });
+        if is_outside(place) && stays(byte) {
+            bytes.push(byte);
+            opened = i + 1;
+        } else {
+            let last = i + 1 == line.len();
+            if is_control(byte, last) {
+                return Some(LineFault {
+                    cause: Cause::ControlCharacter,
+                    column: i + 1,
+                });
+            }
+            if is_nested(place, byte) {
+                return Some(LineFault {
+                    cause: Cause::CommentInComment,
+                    column: i + 1,
+                });
+            }
+            if let Some(letter) = kept(place, byte, last) {
+                bytes.push(letter);
+            }
+            opened = opened_after(place, opened, i + 1);
+            place = place_after(place, byte);
         }
-        if is_nested(place, byte) {
-            return Some(LineFault {
-                cause: Cause::CommentInComment,
-                column: i + 1,
-            });
-        }
-        opened = opened_after(place, opened, i + 1);
-        place = place_after(place, byte);
     }
     end_fault(closed, place, opened)
 }
 
-// Writes the text of a line into `bytes`, in place of what was there.
+// Writes the text of a line into `bytes`, in place of what was there, also if the line has a fault.
 #[tactic(auto, using(crate::proofs::TextBytes::text_steps))]
-pub(crate) fn fill_text(line: &[u8], bytes: &mut ArrayVec<u8, 256>)
+fn fill_text(line: &[u8], bytes: &mut ArrayVec<u8, 256>)
     requires { length line.now ≤ 256 }
     ensures { bytes.new.items ≡ spec.text line.now }
 {

@@ -5,13 +5,13 @@ ghost use Rattle.ngc_dialect_reader.specs.Number.{has_sign as sign_found};
 ghost use Rattle.ngc_dialect_reader.specs.Value as spec;
 ghost use Rattle.ngc_dialect_reader.specs.Value.{value_at as value_found};
 
-use crate::dialect::Switches;
 use crate::fault::{Cause, Refusal};
 use crate::number::{begins, number_at, refused, tail};
 use crate::part::{Function, Operator, PartKind};
 use crate::steps::{
     Parts, add, added, after, begins_letter, closed, name_at, needed, starts_with, word_length,
 };
+use crate::switches::Switches;
 
 /// The dialect, and how deep values may still nest.
 #[derive(Clone, Copy)]
@@ -324,8 +324,10 @@ pub(crate) fn has_sign(s: &[u8]) -> bool
     begins(b'+', s) || begins(b'-', s)
 }
 
+// Adds a number, and returns the rest.
+#[inline(always)]
 #[tactic(auto, unfolding(crate::specs::Value::literal_at))]
-fn literal_at<'a>(s: &'a [u8], parts: &mut Parts) -> Result<&'a [u8], Refusal>
+pub(crate) fn literal_at<'a>(s: &'a [u8], parts: &mut Parts) -> Result<&'a [u8], Refusal>
     ensures { Gives (λ r. (parts.new.items, r.now)) result
         (spec.literal_at parts.old.items s.now) }
 {

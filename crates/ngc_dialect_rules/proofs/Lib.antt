@@ -1,0 +1,4 @@
+-- The most frequent codes.
+pub mod Frequent
+-- Lines of one straight motion.
+pub mod Straight

@@ -4,8 +4,8 @@ use Rattle.std.specs.Prelude.{pos, Option, Some, None, false}
 use Rattle.ngc_fixed_length.specs.declared.points.Point3.{Point3}
 use Rattle.ngc_fixed_length.specs.declared.modes.RetractMode.{RetractMode}
 use Rattle.ngc_fixed_length.specs.declared.modes.RetractMode.TheVariants.{Series, Retract}
-use Rattle.ngc_dialect_reader.specs.declared.dialect.Dialect.{Dialect}
-use Rattle.ngc_dialect_reader.specs.declared.dialect.Dialect.TheVariants as dialects
+use Rattle.ngc_dialect_names.specs.declared.dialect.Dialect.{Dialect}
+use Rattle.ngc_dialect_names.specs.declared.dialect.Dialect.TheVariants as dialects
 use Rattle.ngc_dialect_rules.specs.declared.code.Code.{Code}
 use Rattle.ngc_dialect_rules.specs.declared.code.Code.TheVariants.{G}
 use Rattle.ngc_dialect_rules.specs.declared.front.Front.{Front}

@@ -13,3 +13,4 @@ pub mod Actions
 pub mod Offsets
 pub mod Arcs
 pub mod Rules
+pub mod Straight

@@ -16,7 +16,7 @@ use Rattle.ngc_fixed_length.specs.declared.modes.System.TheVariants.{Ninth}
 use Rattle.ngc_fixed_length.specs.declared.points.Point3.{Point3}
 use Rattle.ngc_offsets.specs.declared.given.AxisLengths.{AxisLengths}
 use Rattle.ngc_offsets.specs.Frames.{index, origin_of}
-use Rattle.ngc_dialect_reader.specs.declared.dialect.Dialect.{Dialect}
+use Rattle.ngc_dialect_names.specs.declared.dialect.Dialect.{Dialect}
 use Rattle.ngc_dialect_rules.specs.declared.code.Code.{Code}
 use Rattle.ngc_dialect_rules.specs.declared.code.Code.TheVariants.{G}
 use Rattle.ngc_dialect_rules.specs.declared.plan.Action.{Action}

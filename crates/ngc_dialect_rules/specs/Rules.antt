@@ -22,7 +22,7 @@ use Rattle.ngc_dialect_rules.specs.declared.codes.TheConstants as codes
 use Rattle.ngc_dialect_rules.specs.declared.fault.Cause.TheVariants as causes
 use Rattle.ngc_dialect_rules.specs.declared.fault.Fault.{Fault}
 use Rattle.ngc_dialect_rules.specs.declared.plan.InForce.{InForce}
-use Rattle.ngc_dialect_reader.specs.declared.dialect.Dialect.{Dialect}
+use Rattle.ngc_dialect_names.specs.declared.dialect.Dialect.{Dialect}
 use Rattle.ngc_dialect_rules.specs.declared.front.Front.{Front}
 use Rattle.ngc_dialect_rules.specs.declared.front.KeptSeries.{KeptSeries}
 use Rattle.ngc_dialect_rules.specs.declared.front.Known.{Known}

@@ -5,8 +5,8 @@ use Rattle.std.specs.Prelude.{◌==◌, nat_le, Bool, true, false, not, ◌&&◌
 use Rattle.std.specs.Prelude.{Some, None, Result, Ok, Err, find, is_some, count_by}
 use Rattle.std.specs.Prelude.{length, ◌++◌, ◌∷◌, [], if◌then◌else◌}
 use Rattle.std.specs.List.{list_any}
-use Rattle.ngc_dialect_reader.specs.declared.dialect.Dialect.{Dialect}
-use Rattle.ngc_dialect_reader.specs.declared.dialect.Dialect.TheVariants as dialects
+use Rattle.ngc_dialect_names.specs.declared.dialect.Dialect.{Dialect}
+use Rattle.ngc_dialect_names.specs.declared.dialect.Dialect.TheVariants as dialects
 use Rattle.ngc_dialect_rules.specs.declared.code.Code.{Code}
 use Rattle.ngc_dialect_rules.specs.declared.code.Code.TheVariants.{G, M}
 use Rattle.ngc_dialect_rules.specs.declared.codes.TheConstants as codes

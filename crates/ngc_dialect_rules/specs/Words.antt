@@ -8,7 +8,7 @@ use Rattle.std.specs.List.{list_any}
 use Rattle.ngc_fixed_length.specs.Limits.{MILLION}
 use Rattle.ngc_fixed_length.specs.Rounding.{nearest}
 use Rattle.ngc_fixed_length.specs.Signed.{is_negative, is_zero}
-use Rattle.ngc_dialect_reader.specs.declared.dialect.Dialect.{Dialect}
+use Rattle.ngc_dialect_names.specs.declared.dialect.Dialect.{Dialect}
 use Rattle.ngc_dialect_parameters.specs.declared.statement.Word.{Word}
 use Rattle.ngc_dialect_rules.specs.declared.code.Code.{Code}
 use Rattle.ngc_dialect_rules.specs.declared.code.Code.TheVariants.{G, M}

@@ -11,8 +11,8 @@ use crate::front::{Front, Known};
 use crate::plan::Amounts;
 use crate::table::{code_in, has, is_fanuc, is_linuxcnc};
 use crate::word::{amount, count, rounded, word_of};
+use ngc_dialect_names::Dialect;
 use ngc_dialect_parameters::Word;
-use ngc_dialect_reader::Dialect;
 use ngc_fixed_length::{Value, rounded_quotient};
 
 pub(crate) fn selected_after(front: &Front, tool: Option<Value>) -> Value
@@ -140,30 +140,6 @@ fn dwell_of(dialect: Dialect, line: &[Code], words: &[Word]) -> Result<Option<Va
     }
 }
 
-fn gathered(
-    feed: Option<Value>,
-    speed: Option<Value>,
-    tool: Option<Value>,
-    offset: Option<Value>,
-    dwell: Option<Value>,
-) -> Amounts
-    ensures { result ≡ record {
-      feed = feed;
-      speed = speed;
-      tool = tool;
-      offset = offset;
-      dwell = dwell;
-    } }
-{
-    Amounts {
-        feed,
-        speed,
-        tool,
-        offset,
-        dwell,
-    }
-}
-
 /// Returns F, S, T, H and the dwell, or the first refusal in this order.
 #[tactic(auto, unfolding(crate::specs::Amounts::amounts_of))]
 pub(crate) fn amounts_of(known: &Known, line: &[Code], words: &[Word]) -> Result<Amounts, Fault>
@@ -174,5 +150,11 @@ pub(crate) fn amounts_of(known: &Known, line: &[Code], words: &[Word]) -> Result
     let tool = count(b'T', words)?;
     let offset = offset_tool(known, line, words, &tool)?;
     let dwell = dwell_of(known.dialect, line, words)?;
-    Ok(gathered(feed, speed, tool, offset, dwell))
+    Ok(Amounts {
+        feed,
+        speed,
+        tool,
+        offset,
+        dwell,
+    })
 }

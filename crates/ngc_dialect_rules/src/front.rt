@@ -3,8 +3,8 @@ ghost use Rattle.std.specs.Prelude.{◌≡◌};
 ghost use Rattle.ngc_dialect_rules.specs.Front as spec;
 
 use crate::code::Code;
+use ngc_dialect_names::Dialect;
 use ngc_dialect_numbers::Number;
-use ngc_dialect_reader::Dialect;
 use ngc_fixed_length::{Nm, Point3, RetractMode, Turn, Value};
 use ngc_modal_state::Modes;
 use ngc_offsets::Frames;

@@ -16,6 +16,7 @@ mod offsets;
 mod plain;
 mod plan;
 mod rules;
+mod straight_line;
 mod table;
 mod word;
 

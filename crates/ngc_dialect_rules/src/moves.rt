@@ -12,8 +12,8 @@ use crate::front::Known;
 use crate::plan::InForce;
 use crate::table::{code_in, has, is_among, is_fanuc, is_linuxcnc};
 use crate::word::has_letter;
+use ngc_dialect_names::Dialect;
 use ngc_dialect_parameters::Word;
-use ngc_dialect_reader::Dialect;
 use ngc_fixed_length::Distance;
 
 fn dwells_by_axis(dialect: Dialect, line: &[Code], words: &[Word]) -> bool
@@ -133,15 +133,6 @@ pub(crate) fn motion_of(known: &Known, line: &[Code], words: &[Word]) -> Result<
     }
 }
 
-fn is_straight(code: Option<Code>) -> bool
-    ensures { result ≡ spec.is_straight code }
-{
-    match code {
-        None => false,
-        Some(code) => is_among(&codes::STRAIGHT, code),
-    }
-}
-
 /// Returns whether lengths are relative to the current point.
 pub(crate) fn is_incremental(distance: Distance) -> bool
     ensures { result ≡ spec.is_incremental distance }
@@ -166,7 +157,7 @@ pub(crate) fn machine_place_fault(known: &Known, line: &[Code], force: &InForce)
     if !has(&codes::MACHINE_PLACE, line) {
         return None;
     }
-    if is_linuxcnc(known.dialect) && !is_straight(mode_after(known, line)) {
+    if is_linuxcnc(known.dialect) && !is_one_of(&codes::STRAIGHT, mode_after(known, line)) {
         return Some(about_code(Cause::NotStraight, Code::G(530)));
     }
     if (is_linuxcnc(known.dialect) || is_fanuc(known.dialect)) && is_incremental(force.distance) {

@@ -14,8 +14,8 @@ use crate::moves::{counts_turns, has_axes, is_incremental};
 use crate::plan::{Action, InForce};
 use crate::table::{code_in, has, is_fanuc};
 use crate::word::{count, has_letter, value_of};
+use ngc_dialect_names::Dialect;
 use ngc_dialect_parameters::Word;
-use ngc_dialect_reader::Dialect;
 use ngc_fixed_length::{Distance, Nm, Point3, System, Value};
 use ngc_offsets::{AxisLengths, Frames};
 
@@ -324,12 +324,6 @@ pub(crate) fn set_origin(
     Ok(set_by(system, origin))
 }
 
-fn offset_by(axes: AxisLengths) -> Action
-    ensures { result ≡ spec.offset_by axes }
-{
-    motion(false, Some(Code::G(920)), axes, None)
-}
-
 /// Returns what G92 sets.
 #[tactic(auto, unfolding(crate::specs::Offsets::set_offset))]
 pub(crate) fn set_offset(
@@ -345,7 +339,7 @@ pub(crate) fn set_offset(
     }
     let axes = axis_lengths(force.units, words)?;
     let shown = with_length(force.length, &axes)?;
-    Ok(offset_by(shown))
+    Ok(motion(false, Some(Code::G(920)), shown, None))
 }
 
 /// Returns the G92 that sets what G52 sets.
@@ -365,7 +359,7 @@ pub(crate) fn local_offset(
     let own = own_length(known, line, words)?;
     let origin = origin_of(&known.frames, system_after(known, line));
     let place = left_from(&known.place, &origin, own.nanometres(), &axes)?;
-    Ok(offset_by(place))
+    Ok(motion(false, Some(Code::G(920)), place, None))
 }
 
 fn home_of(front: &Front, code: Code) -> Point3
@@ -462,17 +456,6 @@ fn leads_away(
     is_away(force.distance, known.place.z, z_frame, axes.z)
 }
 
-fn traverse_by(known: &Known, axes: AxisLengths) -> Action
-    ensures { result ≡ spec.traverse_by known.now axes }
-{
-    motion(
-        false,
-        written_code(known, false, &None, Code::G(0)),
-        axes,
-        None,
-    )
-}
-
 /// Returns the traverse to the point that G28's axis words name, if that is another one.
 #[tactic(auto, unfolding(crate::specs::Offsets::way_home))]
 pub(crate) fn way_home(
@@ -488,7 +471,8 @@ pub(crate) fn way_home(
     let moved = motion_lengths(false, force, &axes)?;
     let origin = origin_of(&known.frames, system_after(known, line));
     if leads_away(known, force, &origin, sum_of(own, force.length), &axes) {
-        Ok(Some(traverse_by(known, moved)))
+        let written = written_code(known, false, &None, Code::G(0));
+        Ok(Some(motion(false, written, moved, None)))
     } else {
         Ok(None)
     }

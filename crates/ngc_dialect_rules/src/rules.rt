@@ -13,15 +13,16 @@ use crate::codes;
 use crate::fault::{Cause, Fault, about_code, about_letter};
 use crate::force::{centres_by, force_of, retract_by};
 use crate::front::{Front, KeptSeries, Known};
-use crate::moves::{idle_fault, machine_place_fault, motion_of};
+use crate::moves::{has_axes, idle_fault, machine_place_fault, motion_of};
 use crate::offsets::{go_home, local_offset, set_offset, set_origin, way_home};
 use crate::plain::{PlainLines, a_code, a_word, add, add_action, end_line};
 use crate::plan::{Action, Amounts, InForce, LineCycle, LineResult, Plan};
+use crate::straight_line::{are_motion_words, only_code, straight_lines};
 use crate::table::{code_in, has, is_among, is_linuxcnc};
 use crate::word::{add_codes, has_letter, refused_word, repeated};
 use arrayvec::ArrayVec;
+use ngc_dialect_names::Dialect;
 use ngc_dialect_parameters::Word;
-use ngc_dialect_reader::Dialect;
 use ngc_fixed_length::{FeedMode, Point3, Turn, Units, Value};
 use ngc_line_reader::Letter;
 use ngc_modal_state::MotionMode;
@@ -575,6 +576,14 @@ fn lines_of(
     ensures { Gives (λ r. (r, lines.new.items)) result
         (spec.lines_of known.now line.now words.now) }
 {
+    if let Some(code) = only_code(known, line) {
+        if are_motion_words(words)
+            && has_axes(known.dialect, line, words)
+            && repeated(words).is_none()
+        {
+            return straight_lines(known, line, words, code, lines);
+        }
+    }
     match line_plan(known, line, words) {
         Ok(plan) => Ok(carry_out(lines, known, line, words, &plan)),
         Err(fault) => Err(fault),

@@ -7,7 +7,7 @@ use crate::code::Code;
 use crate::codes;
 use crate::fault::{Cause, Fault, LeftOut, about_code};
 use arrayvec::ArrayVec;
-use ngc_dialect_reader::Dialect;
+use ngc_dialect_names::Dialect;
 
 /// Returns whether a code is in a table.
 #[tactic(auto, unfolding(crate::specs::Tables::is_among))]
@@ -194,10 +194,14 @@ fn has_meaning(code: Code) -> bool
 }
 
 /// Returns a code that the dialect has, or why it is refused.
-#[tactic(auto, unfolding(crate::specs::Tables::known_code))]
+#[tactic(auto, using(crate::proofs::Frequent::known_straight), unfolding(crate::specs::Tables::known_code))]
 pub(crate) fn known_code(dialect: Dialect, code: Code) -> Result<Code, Fault>
     ensures { result ≡ spec.known_code dialect code }
 {
+    // Each dialect has the most frequent codes.
+    if matches!(code, Code::G(0) | Code::G(10)) {
+        return Ok(code);
+    }
     if lacks(dialect, code) {
         return Err(about_code(Cause::UnknownCode, code));
     }
@@ -221,10 +225,14 @@ fn m_codes(line: &[Code]) -> usize
 
 /// Adds a code to those of a line, or refuses it: the second of a modal group, a fifth M code, or a
 /// 25th code.
-#[tactic(auto, unfolding(crate::specs::Tables::joined))]
+#[tactic(auto, using(crate::proofs::Frequent::joined_empty), unfolding(crate::specs::Tables::joined))]
 pub(crate) fn join(code: Code, line: &mut ArrayVec<Code, 24>) -> Result<(), Fault>
     ensures { Gives (λ _. line.new.items) result (spec.joined code line.old.items) }
 {
+    if line.is_empty() {
+        line.push(code);
+        return Ok(());
+    }
     if has(group_of(code), line.as_slice()) {
         return Err(about_code(Cause::GroupTwice, code));
     }

@@ -9,9 +9,9 @@ use crate::codes;
 use crate::fault::{Cause, Fault, LeftOut, about_letter};
 use crate::table::{has, is_fanuc, join, known_code};
 use arrayvec::ArrayVec;
+use ngc_dialect_names::Dialect;
 use ngc_dialect_numbers::Number;
 use ngc_dialect_parameters::Word;
-use ngc_dialect_reader::Dialect;
 use ngc_fixed_length::Value;
 
 // Returns a value as a number of tenths, if it is within 0.0001 of one that a code may have.

@@ -11,22 +11,12 @@ mod setting;
 use ngc_canonical::{Action, Command, Machine, Tools, interpret};
 use ngc_dialect_execution::{DialectFault, interpret_dialect};
 use ngc_dialect_faults::write_dialect_fault;
-use ngc_dialect_reader::Dialect;
+use ngc_dialect_names::Dialect;
 use ngc_line_reader::Program;
 use ngc_text::Device;
 use setting::{machine_of, tools_of};
 use std::alloc::{AllocError, Global};
 use std::io;
-
-fn dialect_named(name: &str) -> Option<Dialect> {
-    match name.as_bytes() {
-        b"linuxcnc" => Some(Dialect::LinuxCnc),
-        b"grbl" => Some(Dialect::Grbl),
-        b"mach3" => Some(Dialect::Mach3),
-        b"fanuc" => Some(Dialect::Fanuc),
-        _ => None,
-    }
-}
 
 // Puts each line of a program on a line of its own.
 fn text_of(alloc: Global, program: &str) -> Result<String, AllocError> {
@@ -131,7 +121,7 @@ fn main(rt: HostRuntime) -> io::Result<()> {
             Some((name, word)) => (name, word),
             None => (front, ""),
         };
-        match dialect_named(name) {
+        match Dialect::named(name) {
             Some(dialect) => print_program(&rt, rt.alloc(), dialect, word, program, plain)?,
             None => println!(rt; "no dialect")?,
         }

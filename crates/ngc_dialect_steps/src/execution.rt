@@ -2,9 +2,10 @@
 ghost use Rattle.std.specs.Prelude.{◌≡◌, None};
 
 use ngc_dialect_flow::{Effect, State, Table, leave_with};
+use ngc_dialect_names::Dialect;
 use ngc_dialect_numbers::Number;
 use ngc_dialect_parameters::{Control, LineValues, Parameters, StoreFault};
-use ngc_dialect_reader::{Dialect, DialectLine};
+use ngc_dialect_reader::DialectLine;
 use std::alloc::Global;
 use std::io;
 

@@ -7,19 +7,9 @@
 mod execution;
 
 use execution::Execution;
-use ngc_dialect_reader::Dialect;
+use ngc_dialect_names::Dialect;
 use std::alloc::Global;
 use std::io;
-
-fn dialect_named(name: &str) -> Option<Dialect> {
-    match name.as_bytes() {
-        b"linuxcnc" => Some(Dialect::LinuxCnc),
-        b"grbl" => Some(Dialect::Grbl),
-        b"mach3" => Some(Dialect::Mach3),
-        b"fanuc" => Some(Dialect::Fanuc),
-        _ => None,
-    }
-}
 
 fn lines_of<'a>(alloc: Global, program: &'a str) -> Option<Vec<&'a [u8]>> {
     let mut lines = Vec::new(alloc);
@@ -51,7 +41,7 @@ fn main(rt: HostRuntime) -> io::Result<()> {
             println!(rt; "no dialect")?;
             continue;
         };
-        match dialect_named(name) {
+        match Dialect::named(name) {
             Some(dialect) => print_program(&rt, rt.alloc(), dialect, program)?,
             None => println!(rt; "no dialect")?,
         }

@@ -10,21 +10,12 @@ mod control;
 mod print;
 
 use control::Machine;
+use ngc_dialect_names::Dialect;
 use ngc_dialect_parameters::{LineValues, Parameters, StoreFault};
-use ngc_dialect_reader::{Dialect, DialectLine, column_of};
+use ngc_dialect_reader::{DialectLine, column_of};
 use print::print_values;
 use std::alloc::Global;
 use std::io;
-
-fn dialect_named(name: &str) -> Option<Dialect> {
-    match name.as_bytes() {
-        b"linuxcnc" => Some(Dialect::LinuxCnc),
-        b"grbl" => Some(Dialect::Grbl),
-        b"mach3" => Some(Dialect::Mach3),
-        b"fanuc" => Some(Dialect::Fanuc),
-        _ => None,
-    }
-}
 
 /// The lines of a program so far.
 #[derive(Drop)]
@@ -130,7 +121,7 @@ fn main(rt: HostRuntime) -> io::Result<()> {
     for line in rt.lines(rt.alloc()) {
         let line = line?;
         if let Some((name, text)) = line.as_str().split_once(": ") {
-            let Some(dialect) = dialect_named(name) else {
+            let Some(dialect) = Dialect::named(name) else {
                 println!(rt; "no dialect")?;
                 continue;
             };

@@ -4,13 +4,20 @@ use crate::given::NO_MOTIONS;
 use linked_list_allocator::LocalHeap;
 use ngc_line_reader::Program;
 use ngc_simulator::{
-    Accepted, ArcPath, Certificate, Controller, Event, Reply, Tools, built_in_machine, check,
+    Accepted, ArcPath, Certificate, Controller, Event, Machine, Reply, Tools, built_in_machine,
+    check,
 };
 use ngc_test_devices::TOOLS;
 use ngc_text::Device;
 use std::alloc::{Allocator, Global};
 use std::process::Abort;
 use std::test::Fail;
+
+fn long_ringed<A: Allocator>(alloc: A) -> Machine<A> {
+    let mut machine = built_in_machine(alloc);
+    machine.ring = 1_024;
+    machine
+}
 
 fn accepted_on<A: Allocator + Copy>(
     alloc: A,
@@ -21,10 +28,11 @@ fn accepted_on<A: Allocator + Copy>(
 ) -> Option<Accepted<A>> {
     let program = Program::read(alloc, &mut Device::new(text.as_bytes())).ok()?;
     let certificate = Certificate::read(alloc, &mut Device::new(certificate)).ok()?;
-    let mut machine = built_in_machine(alloc);
-    if has_long_ring {
-        machine.ring = 1_024;
-    }
+    let machine = if has_long_ring {
+        long_ringed(alloc)
+    } else {
+        built_in_machine(alloc)
+    };
     check(alloc, &program, &machine, tools, &certificate).ok()
 }
 

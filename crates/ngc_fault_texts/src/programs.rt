@@ -99,8 +99,8 @@ pub(crate) fn words() -> &'static [Row]
             example: "`G5 X1`",
             answer: "`ngc: fault 204 line 1`",
             place: None,
-            mend: "`ngc adapt` rewrites programs for other controls. docs/LANGUAGE.md lists what to write for the\n\
-             codes of CAM programs.",
+            mend: "For a program for another control name it with `--dialect`. docs/CAM.md lists what to write for\n\
+             the codes of CAM programs.",
         },
         Row {
             number: 205,

@@ -39,8 +39,8 @@ pub(crate) fn lines() -> &'static [Row]
             answer: "`ngc: fault 112 line 1 column 7`",
             place: Some("the character"),
             mend: "Write `.` for a decimal comma, `#1` for a named parameter, `/` first on its line, `%` on a line\n\
-             of its own. At line 1 column 1 look for a byte order mark. For LinuxCNC's `@` and `^` use\n\
-             `ngc adapt`.",
+             of its own. At line 1 column 1 look for a byte order mark. For LinuxCNC's `@` and `^` write X\n\
+             and Y.",
         },
         Row {
             number: 113,

@@ -118,15 +118,6 @@ pub(crate) fn shell() -> &'static [Row]
              `linuxcnc` for LinuxCNC and PathPilot.",
         },
         Row {
-            number: 725,
-            rule: "`ngc adapt` can't drop this: write 1 to 16 M codes, separated by commas (our own).\n\
-             Each is `M` and a whole number from 0 to 999.",
-            example: "command `ngc adapt --from linuxcnc --drop G64 --program part.ngc`",
-            answer: "`ngc: fault 725`",
-            place: Some("3"),
-            mend: "For example `--drop M64,M65`.",
-        },
-        Row {
             number: 726,
             rule: "`ngc machine` needs `--grbl`, or all of `--steps-per-mm`, `--travel`, `--feed` and\n\
              `--acceleration`: write one or the other (our own).",

@@ -76,15 +76,15 @@ pub(crate) fn setup() -> &'static [Row]
         },
         Row {
             number: 267,
-            rule: "A fixture has no size on some axis, or is too far out: put its lower corner into `low`, and the\n\
-             other into `high`.\n\
-             Corners are at most 4,000,000,000 nm either way, with the margin too; `margin` is 0 to\n\
-             100,000,000 nm.",
+            rule: "A fixture or the material has no size on some axis, or is too far out: put its lower corner\n\
+             into `low`, and the other into `high`.\n\
+             Corners of fixtures are at most 4,000,000,000 nm either way, with the margin too; those of\n\
+             the material are at most 1,000,000,000. `margin` is 0 to 100,000,000 nm.",
             example: "machine file `fixture = [{low = [0, 0, 0], high = [1, 1, 0]}]`",
             answer: "`ngc: fault 267 machine`",
             place: None,
             mend: "In the example Z has no size: with `high = [1, 1, 1]` it would have. A `name` has 1 to 40\n\
-             printable ASCII characters. There are at most 256 fixtures.",
+             printable ASCII characters. There are at most 256 fixtures. The material's `system` is 0 to 9.",
         },
         Row {
             number: 268,
@@ -107,7 +107,7 @@ pub(crate) fn setup() -> &'static [Row]
             answer: "`ngc: fault 269 machine`",
             place: None,
             mend: "Write lengths in whole nanometres: `step = 10000` for 0.01 mm. `axis_rate` has three numbers,\n\
-             and is only in version 2.",
+             and is only in version 2, as are `dialect`, the name of a control, and the table `stock`.",
         },
         Row {
             number: 269,

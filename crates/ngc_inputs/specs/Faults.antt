@@ -60,7 +60,6 @@ answer_number answers.UnknownView = 723
 answer_number answers.UnknownForm = 727
 answer_number answers.UnknownSystem = 728
 answer_number answers.UnknownControl = 724
-answer_number answers.WrongCodes = 725
 answer_number answers.NoFigures = 726
 
 -- where a fault is: line and column, a line, a file, or nowhere
@@ -204,7 +203,6 @@ answer_status answers.UnknownView = 3
 answer_status answers.UnknownForm = 3
 answer_status answers.UnknownSystem = 3
 answer_status answers.UnknownControl = 3
-answer_status answers.WrongCodes = 3
 answer_status answers.NoFigures = 3
 
 -- ---- what a run and a picture fail by

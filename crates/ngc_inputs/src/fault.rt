@@ -73,9 +73,6 @@ pub enum AnswerFault {
     /// No control has the name: 724.
     #[error("no control has this name")]
     UnknownControl,
-    /// The codes to drop aren't a list of M codes: 725.
-    #[error("no list of M codes")]
-    WrongCodes,
     /// Neither a dump of settings nor all figures are present, or both are: 726.
     #[error("no figures of a machine")]
     NoFigures,
@@ -108,7 +105,6 @@ impl AnswerFault {
             AnswerFault::UnknownCommand => 722,
             AnswerFault::UnknownView => 723,
             AnswerFault::UnknownControl => 724,
-            AnswerFault::WrongCodes => 725,
             AnswerFault::NoFigures => 726,
             AnswerFault::UnknownForm => 727,
             AnswerFault::UnknownSystem => 728,
@@ -133,7 +129,6 @@ impl AnswerFault {
             AnswerFault::Input(_) | AnswerFault::Memory | AnswerFault::Write(_) => 1,
             AnswerFault::UnknownFault | AnswerFault::UnknownCommand | AnswerFault::UnknownView => 3,
             AnswerFault::UnknownControl
-            | AnswerFault::WrongCodes
             | AnswerFault::NoFigures
             | AnswerFault::UnknownForm
             | AnswerFault::UnknownSystem => 3,

@@ -199,7 +199,6 @@ fn add_place(chunk: &mut Chunk, fault: &AnswerFault)
         | AnswerFault::UnknownCommand
         | AnswerFault::UnknownView
         | AnswerFault::UnknownControl
-        | AnswerFault::WrongCodes
         | AnswerFault::NoFigures
         | AnswerFault::UnknownForm
         | AnswerFault::UnknownSystem => {}

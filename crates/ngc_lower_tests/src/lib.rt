@@ -3,8 +3,6 @@
 #![tactic(auto)]
 
 #[cfg(test)]
-mod adapting;
-#[cfg(test)]
 mod arc_paths;
 #[cfg(test)]
 mod certificate_memory;

@@ -1,11 +1,9 @@
 //! Refused memory for code that reads texts and expands cycles, and sources without end.
 use crate::checks::{holds, same};
 use linked_list_allocator::LocalHeap;
-use ngc_adapt::{Dialect as AdaptDialect, MOST_DROPPED, Options};
-use ngc_adapt_program::{Request, adapt_program};
 use ngc_canned_cycles::{Cycle, CycleFault, Hole, Start, expand};
-use ngc_dialect_execution::{DialectFault, interpret_dialect};
-use ngc_dialect_reader::Dialect;
+use ngc_dialect_execution::{DialectFault, Traced, Wanted, interpret_dialect, trace_dialect};
+use ngc_dialect_names::Dialect;
 use ngc_events::{EventsFault, read_events};
 use ngc_fixed_length::{Distance, FeedMode, Nm, Plane, Point3, RetractMode};
 use ngc_line_reader::{Program, ReadFault};
@@ -19,20 +17,24 @@ use std::test::Fail;
 // The use of a heap's memory.
 #[derive(Clone, Copy, Debug)]
 enum Job {
-    Adapted,
     Executed,
+    Kept,
     Events,
     File,
     Program,
 }
 
+const LINES: Wanted = Wanted {
+    notes: false,
+    lines: true,
+};
+
 // Each job with its piece of text, the number of its repetitions, the number of bytes that are
-// written, of commands that are executed, or of events, bytes or lines that are read, and the
-// increments of its heap. In each line to adapt, K0 and the blank after it are left out, and M2 is
-// added. A line to execute has two holes of three moves each; the end is a command too. In a program with
-// flow each piece has a move and changes the unit twice.
+// written, of commands that are executed, of plain lines that are kept, or of events, bytes or lines that
+// are read, and the increments of its heap. A line to execute has two holes of three moves each; the end
+// is a command too. In a program with flow each piece has a move and changes the unit twice. Each line to
+// keep is one plain line, and so is the end.
 const JOBS: &[(Job, &str, usize, usize, usize)] = &[
-    (Job::Adapted, "G1 X1 K0 F100\n", 100, 1_103, 1_024),
     (Job::Executed, "G91 G81 X1 Z-1 R0 L2 F100\n", 50, 301, 8_192),
     (
         Job::Executed,
@@ -41,6 +43,7 @@ const JOBS: &[(Job, &str, usize, usize, usize)] = &[
         51,
         8_192,
     ),
+    (Job::Kept, "G1 X1 F100\n", 100, 101, 8_192),
     (Job::Events, "load\n", 1_000, 1_000, 2_048),
     (
         Job::File,
@@ -55,24 +58,22 @@ const JOBS: &[(Job, &str, usize, usize, usize)] = &[
 // Returns how much was written or read, or `None` if memory was refused.
 fn read_in(heap: &LocalHeap, job: Job, text: &[u8]) -> Option<usize> {
     match job {
-        Job::Adapted => {
-            let request = Request {
-                options: Options {
-                    dialect: AdaptDialect::LinuxCnc,
-                    drop: [None; MOST_DROPPED],
-                },
-                homes: None,
-                tool: None,
-            };
-            match adapt_program(heap, &request, text) {
-                Ok(adapted) => Some(adapted.text.len()),
-                Err(_) => None,
-            }
-        }
         Job::Executed => {
             let (machine, tools) = (built_in_machine(heap), Tools::empty(heap));
             match interpret_dialect(heap, Dialect::LinuxCnc, text, &machine, &tools, false) {
                 Ok(commands) => Some(commands.len()),
+                Err(DialectFault::Memory) => None,
+                Err(DialectFault::At { .. }) => Some(0),
+            }
+        }
+        Job::Kept => {
+            let (machine, tools) = (built_in_machine(heap), Tools::empty(heap));
+            let dialect = Dialect::LinuxCnc;
+            match trace_dialect(heap, LINES, dialect, text, &machine, &tools, false) {
+                Ok(Traced { lines, .. }) => match lines {
+                    Some(lines) => Some(lines.len()),
+                    None => Some(0),
+                },
                 Err(DialectFault::Memory) => None,
                 Err(DialectFault::At { .. }) => Some(0),
             }

@@ -1,24 +1,24 @@
 -- The contents of a machine file, part by part.
 use Rattle.std.proofs.Common.{◌≡◌, ◌∙◌, ℤ, List, ◌∷◌, true, false, cond, codes, Option, Some, None, ap, sym, refl}
 use Rattle.toml.specs.Data.{Data}
-use Rattle.ngc_machine_files.specs.Tree.{◌>>=◌, known, has_only, rapids_at}
-use Rattle.ngc_machine_files.specs.MachineText.{common_keys, has_axis_rates, machine_keys, machine_numbers, machine_axis_rates, machine_points, machine_origins}
+use Rattle.ngc_machine_files.specs.Tree.{◌>>=◌, known, has_only}
+use Rattle.ngc_machine_files.specs.MachineText.{common_keys, has_axis_rates, machine_keys, machine_numbers, machine_axis_rates, machine_options, machine_points, machine_origins}
 use Rattle.ngc_machine_files.specs.MachineText.{machine_fixtures, machine_values}
-use Rattle.ngc_machine_files.specs.declared.machine.Rapids.{Rapids}
 use Rattle.ngc_machine_files.specs.declared.machine_contents.Coordinates.{Coordinates}
 use Rattle.ngc_machine_files.specs.declared.machine_contents.Corners.{Corners}
 use Rattle.ngc_machine_files.specs.declared.machine_contents.MachineNumbers.{MachineNumbers}
+use Rattle.ngc_machine_files.specs.declared.machine_contents.MachineOptions.{MachineOptions}
 use Rattle.ngc_machine_files.specs.declared.machine_contents.MachinePoints.{MachinePoints}
 
 -- ---- which keys are known
 
-pub keys_two : (version : ℤ) → has_axis_rates version ≡ true → machine_keys version ≡ codes "axis_rate" ∷ codes "jump" ∷ codes "ring" ∷ codes "arc_feed" ∷ codes "changer" ∷ codes "margin" ∷ codes "travel_margin" ∷ codes "rapids" ∷ common_keys
+pub keys_two : (version : ℤ) → has_axis_rates version ≡ true → machine_keys version ≡ codes "axis_rate" ∷ codes "jump" ∷ codes "ring" ∷ codes "arc_feed" ∷ codes "changer" ∷ codes "margin" ∷ codes "travel_margin" ∷ codes "rapids" ∷ codes "dialect" ∷ codes "stock" ∷ common_keys
 unfolding machine_keys
-keys_two version h = ap (λ b. cond b (codes "axis_rate" ∷ codes "jump" ∷ codes "ring" ∷ codes "arc_feed" ∷ codes "changer" ∷ codes "margin" ∷ codes "travel_margin" ∷ codes "rapids" ∷ common_keys) common_keys) h
+keys_two version h = ap (λ b. cond b (codes "axis_rate" ∷ codes "jump" ∷ codes "ring" ∷ codes "arc_feed" ∷ codes "changer" ∷ codes "margin" ∷ codes "travel_margin" ∷ codes "rapids" ∷ codes "dialect" ∷ codes "stock" ∷ common_keys) common_keys) h
 
 pub keys_one : (version : ℤ) → has_axis_rates version ≡ false → machine_keys version ≡ common_keys
 unfolding machine_keys
-keys_one version h = ap (λ b. cond b (codes "axis_rate" ∷ codes "jump" ∷ codes "ring" ∷ codes "arc_feed" ∷ codes "changer" ∷ codes "margin" ∷ codes "travel_margin" ∷ codes "rapids" ∷ common_keys) common_keys) h
+keys_one version h = ap (λ b. cond b (codes "axis_rate" ∷ codes "jump" ∷ codes "ring" ∷ codes "arc_feed" ∷ codes "changer" ∷ codes "margin" ∷ codes "travel_margin" ∷ codes "rapids" ∷ codes "dialect" ∷ codes "stock" ∷ common_keys) common_keys) h
 
 -- ---- all parts are present
 
@@ -26,15 +26,15 @@ there : {A B : Type 0} (o : Option A) (x : A) (f : A → Option B) → Some x �
 there (Some y) x f h = let e : y ≡ x = cc in ap f e
 there None x f h = cc
 
-pub values_read : (d : Data) (numbers : MachineNumbers) (rapids : Rapids) (rates : Coordinates) (points : MachinePoints) (origins : List Coordinates) (fixtures : List Corners)
-    → Some numbers ≡ machine_numbers d → has_only (machine_keys numbers.version) d ≡ true → Some rapids ≡ rapids_at d → Some rates ≡ machine_axis_rates numbers.version d
+pub values_read : (d : Data) (numbers : MachineNumbers) (options : MachineOptions) (rates : Coordinates) (points : MachinePoints) (origins : List Coordinates) (fixtures : List Corners)
+    → Some numbers ≡ machine_numbers d → has_only (machine_keys numbers.version) d ≡ true → Some options ≡ machine_options d → Some rates ≡ machine_axis_rates numbers.version d
     → Some points ≡ machine_points d → Some origins ≡ machine_origins d → Some fixtures ≡ machine_fixtures numbers.version d
-    → Some (record { numbers = numbers; rapids = rapids; axis_rates = rates; points = points; origins = origins; fixtures = fixtures }) ≡ machine_values d
-values_read d numbers rapids rates points origins fixtures n k t r p o f =
+    → Some (record { numbers = numbers; options = options; axis_rates = rates; points = points; origins = origins; fixtures = fixtures }) ≡ machine_values d
+values_read d numbers options rates points origins fixtures n k t r p o f =
     sym (
     there (machine_numbers d) numbers _ n
     ∙ there (known (machine_keys numbers.version) d) d _ (sym (ap (λ b. cond b (Some d) None) k))
-    ∙ there (rapids_at d) rapids _ t
+    ∙ there (machine_options d) options _ t
     ∙ there (machine_axis_rates numbers.version d) rates _ r
     ∙ there (machine_points d) points _ p
     ∙ there (machine_origins d) origins _ o
@@ -45,15 +45,15 @@ missing None f h = refl
 missing (Some x) f h = cc
 
 -- all parts but the fixtures
-pub values_none : (d : Data) (numbers : MachineNumbers) (rapids : Rapids) (rates : Coordinates) (points : MachinePoints) (origins : List Coordinates)
-    → Some numbers ≡ machine_numbers d → has_only (machine_keys numbers.version) d ≡ true → Some rapids ≡ rapids_at d → Some rates ≡ machine_axis_rates numbers.version d
+pub values_none : (d : Data) (numbers : MachineNumbers) (options : MachineOptions) (rates : Coordinates) (points : MachinePoints) (origins : List Coordinates)
+    → Some numbers ≡ machine_numbers d → has_only (machine_keys numbers.version) d ≡ true → Some options ≡ machine_options d → Some rates ≡ machine_axis_rates numbers.version d
     → Some points ≡ machine_points d → Some origins ≡ machine_origins d → None ≡ machine_fixtures numbers.version d
     → None ≡ machine_values d
-values_none d numbers rapids rates points origins n k t r p o f =
+values_none d numbers options rates points origins n k t r p o f =
     sym (
     there (machine_numbers d) numbers _ n
     ∙ there (known (machine_keys numbers.version) d) d _ (sym (ap (λ b. cond b (Some d) None) k))
-    ∙ there (rapids_at d) rapids _ t
+    ∙ there (machine_options d) options _ t
     ∙ there (machine_axis_rates numbers.version d) rates _ r
     ∙ there (machine_points d) points _ p
     ∙ there (machine_origins d) origins _ o

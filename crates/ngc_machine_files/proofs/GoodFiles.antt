@@ -1,8 +1,9 @@
 -- Files whose values are all in range.
 use Rattle.std.proofs.Common.{◌≡◌, ◌≤ℤ◌, ◌<ℤ◌, ℕ, ℤ, pos, negsuc, List, Bool, true, false, ◌&&◌, Result, Ok, int_le, int_lt, refl, ap, suc, arith}
-use Rattle.std.specs.Prelude.{is_some}
+use Rattle.std.specs.Prelude.{is_some, Option, Some, None, IfSome}
 use Rattle.std.specs.List.{All, list_all}
 use Rattle.std.specs.Int.Signed.{le_z_yes, lt_z_yes}
+use Rattle.std.proofs.lemmas.Int.{ints}
 use Rattle.std.proofs.lemmas.Bool.{and_parts, leb-true, eqb-true}
 use Rattle.std.proofs.lemmas.Float.{T_from_true}
 use Rattle.std.proofs.lemmas.List.Sums.{AllPass-from_list_all}
@@ -12,7 +13,7 @@ use Rattle.ngc_machine_files.specs.Ranges.{PLACE_LIMIT, CORNER_LIMIT, IsFrom, Is
 use Rattle.ngc_machine_files.specs.Numbers.{from_to}
 use Rattle.ngc_machine_files.specs.Refusals.{◌>>◌, refuse_unless}
 use Rattle.ngc_machine_files.specs.MachineText.{MachineValues, is_sized, is_at_most, is_below, is_multiple, is_on_grid, is_rate, good_axis_rates, good_jump, good_ring, good_arc_feed, good_changer, good_margin, good_limits}
-use Rattle.ngc_machine_files.specs.MachineText.{good_fixture, good_fixtures, machine_ranges, place_of, fixture_of, AreFrom, IsGood}
+use Rattle.ngc_machine_files.specs.MachineText.{good_fixture, good_fixtures, machine_ranges, place_of, fixture_of, good_block, good_stock, AreFrom, IsBlock, IsGood}
 use Rattle.ngc_machine_files.specs.ToolText.{ToolNumbers, TableValues, good_part, good_parts, good_tool, good_tools, table_ranges, IsPartEntry, ArePartEntries}
 use Rattle.ngc_machine_files.specs.ToolText.{IsEntry, AreEntries}
 use Rattle.ngc_machine_files.specs.declared.fault.FileFault.{FileFault}
@@ -20,6 +21,7 @@ use Rattle.ngc_machine_files.specs.declared.tool_contents.PartEntry.{PartEntry}
 use Rattle.ngc_machine_files.specs.declared.machine_contents.Coordinates.{Coordinates}
 use Rattle.ngc_machine_files.specs.declared.machine_contents.Corners.{Corners}
 use Rattle.ngc_machine_files.specs.declared.machine_contents.MachinePoints.{MachinePoints}
+use Rattle.ngc_machine_files.specs.declared.machine_contents.StockNumbers.{StockNumbers}
 
 -- if a chain of checks passes, the first check passes, and so do the others
 passes : (b : Bool) (e : FileFault) (r : Result (Unit {0}) FileFault) → (refuse_unless b e >> r) ≡ Ok tt → (b ≡ true) × (r ≡ Ok tt)
@@ -101,18 +103,38 @@ a_fixture f h =
     let (low, high, order) = three (is_sized CORNER_LIMIT f.low) (is_sized CORNER_LIMIT f.high) (is_below f.low f.high) corners in
     record { low_sized = sized _ _ low; high_sized = sized _ _ high; ordered = all_below _ _ order }
 
+a_block : (s : StockNumbers) → good_block s ≡ true → IsBlock s
+a_block s h =
+    let (h3, order) = and_parts _ (is_below s.low s.high) h in
+    let (system, low, high) = three (from_to (pos 0) (pos 9) s.system) (is_sized PLACE_LIMIT s.low) (is_sized PLACE_LIMIT s.high) h3 in
+    let at = from _ _ _ system in
+    record {
+      system = at;
+      stock = record {
+        system = omega (arith, ints, at.least, at.greatest);
+        low_sized = sized _ _ low;
+        high_sized = sized _ _ high;
+        ordered = all_below _ _ order;
+      };
+    }
+
+a_stock : (stock : Option StockNumbers) → good_stock stock ≡ true → IfSome stock IsBlock
+a_stock None h = tt
+a_stock (Some s) h = a_block s h
+
 each_passes : {X : Type 0} (p : X → Bool) (P : X → Type 0) → ((x : X) → p x ≡ true → P x) → (xs : List X) → list_all p xs ≡ true → All P xs
 each_passes p P tells xs h = All-weaker (λ x. p x ≡ true) P tells xs (AllPass-from_list_all p xs h)
 
 pub IsGood-from_ranges : (m : MachineValues) → machine_ranges m ≡ Ok tt → IsGood m
 IsGood-from_ranges m h =
-    let (_, h6) = passes _ _ _ h in
-    let (step, h5) = passes _ _ _ h6 in
-    let (ticks, h4) = passes _ _ _ h5 in
-    let (rates, h3) = passes _ _ _ h4 in
-    let (travels, h2) = passes _ _ _ h3 in
-    let (places, h1) = passes _ _ _ h2 in
-    let fixtures : good_fixtures m ≡ true = passes_last _ _ h1 in
+    let (_, h7) = passes _ _ _ h in
+    let (step, h6) = passes _ _ _ h7 in
+    let (ticks, h5) = passes _ _ _ h6 in
+    let (rates, h4) = passes _ _ _ h5 in
+    let (travels, h3) = passes _ _ _ h4 in
+    let (places, h2) = passes _ _ _ h3 in
+    let (fixtures, h1) = passes (good_fixtures m) _ _ h2 in
+    let block : good_stock m.options.stock ≡ true = passes_last _ _ h1 in
     let (limits, travel_margin) = and_parts (good_limits m.numbers.step m.points) (good_margin m.numbers.optional.travel_margin) travels in
     let in_step = from (pos 500) (pos 50000) m.numbers.step step in
     let (rates8, _) = and_parts _ (good_changer m.numbers.optional.changer) rates in
@@ -143,6 +165,7 @@ IsGood-from_ranges m h =
       fixtures = each_passes _ _ a_fixture m.fixtures each;
       margin = from _ _ _ margin;
       travel_margin = from _ _ _ travel_margin;
+      stock = a_stock m.options.stock block;
     }
 
 a_part : (p : PartEntry) → good_part p ≡ true → IsPartEntry p

@@ -1,5 +1,5 @@
 -- The contents of a machine file, and the machine that is used without one. Our own.
-use Rattle.std.specs.Prelude.{ℕ, ℤ, pos, negsuc, List, [], Bool, false}
+use Rattle.std.specs.Prelude.{ℕ, ℤ, pos, negsuc, List, [], Option, None, Bool, false}
 use Rattle.std.specs.Prelude.{replicate}
 use Rattle.ngc_fixed_length.specs.Places.{zero_point}
 use Rattle.ngc_fixed_length.specs.declared.points.Point3.{Point3}
@@ -10,6 +10,8 @@ use Rattle.ngc_machine_files.specs.declared.machine.Fixture.{Fixture}
 use Rattle.ngc_machine_files.specs.declared.machine.Machine.{Machine}
 use Rattle.ngc_machine_files.specs.declared.machine.Margins.{Margins}
 use Rattle.ngc_machine_files.specs.declared.machine.Rapids.{Rapids}
+use Rattle.ngc_machine_files.specs.declared.machine.StockBox.{StockBox}
+use Rattle.ngc_dialect_names.specs.declared.dialect.Dialect.{Dialect}
 use Rattle.ngc_machine_files.specs.declared.machine.Rapids.TheVariants.{Straight}
 
 pub record MachineFile : Type 0 where
@@ -33,6 +35,8 @@ pub record MachineFile : Type 0 where
   pub fixtures : List Fixture
   pub margins : Margins
   pub rapids : Rapids
+  pub dialect : Option Dialect
+  pub stock : Option StockBox
 
 -- the contents of a machine
 abbrev pub file_of : {A : Type 0} → Machine A → MachineFile
@@ -57,6 +61,8 @@ file_of m = record {
   fixtures = m.fixtures.items;
   margins = m.margins;
   rapids = m.rapids;
+  dialect = m.dialect;
+  stock = m.stock;
 }
 
 -- a small mill of 300 mm by 300 mm by 100 mm, with steps of 0.01 mm and no fixture
@@ -82,4 +88,6 @@ built_in_machine = record {
   fixtures = [];
   margins = record { fixtures = pos 0; travel = pos 0 };
   rapids = Straight;
+  dialect = None;
+  stock = None;
 }

@@ -1,7 +1,7 @@
 -- The meaning of a machine file of version 1 or 2. Our own.
 use Rattle.std.specs.Prelude.{ℕ, ◌==◌, ◌≤◌, nat_le, ℤ, pos, unsigned_abs, int_le, int_lt, int_rem}
 use Rattle.std.specs.Prelude.{List, [], ◌∷◌, length, map, replicate, Option, Some, None, Result, Ok}
-use Rattle.std.specs.Prelude.{Err, Bool, ◌&&◌, ◌||◌, codes, if◌then◌else◌, is_some}
+use Rattle.std.specs.Prelude.{Err, Bool, ◌&&◌, ◌||◌, codes, if◌then◌else◌, is_some, option_map, IfSome, true}
 use Rattle.std.specs.List.{All, list_all}
 use Rattle.std.specs.Ordering.{int_eq}
 use Rattle.toml.specs.Data.{Data, array, Items, get}
@@ -11,7 +11,6 @@ use Rattle.ngc_machine_files.specs.declared.machine.ArcFeed.{ArcFeed}
 use Rattle.ngc_machine_files.specs.declared.machine.ArcFeed.TheVariants.{Off, Feed, FeedAndTurn}
 use Rattle.ngc_machine_files.specs.declared.machine.AxisRates.{AxisRates}
 use Rattle.ngc_machine_files.specs.declared.machine.Margins.{Margins}
-use Rattle.ngc_machine_files.specs.declared.machine.Rapids.{Rapids}
 use Rattle.ngc_machine_files.specs.declared.machine.Fixture.{Fixture}
 use Rattle.ngc_machine_files.specs.declared.machine_contents.Coordinates.{Coordinates}
 use Rattle.ngc_machine_files.specs.declared.machine_contents.Corners.{Corners}
@@ -19,25 +18,28 @@ use Rattle.ngc_machine_files.specs.declared.machine_contents.MachineNumbers.{Mac
 use Rattle.ngc_machine_files.specs.declared.machine_contents.OptionalNumbers.{OptionalNumbers}
 use Rattle.ngc_machine_files.specs.declared.machine_contents.MachinePoints.{MachinePoints}
 use Rattle.ngc_machine_files.specs.declared.machine_contents.MachineContents.{MachineContents}
+use Rattle.ngc_machine_files.specs.declared.machine_contents.MachineOptions.{MachineOptions}
+use Rattle.ngc_machine_files.specs.declared.machine_contents.StockNumbers.{StockNumbers}
+use Rattle.ngc_machine_files.specs.declared.machine.StockBox.{StockBox}
 use Rattle.ngc_machine_files.specs.declared.fault.FileFault.{FileFault}
 use Rattle.ngc_machine_files.specs.declared.fault.FileFault.TheVariants.{Version, Step, TicksPerSecond}
 use Rattle.ngc_machine_files.specs.declared.fault.FileFault.TheVariants.{Rates, Travel, Places, Fixtures}
-use Rattle.ngc_machine_files.specs.declared.fault.FileFault.TheVariants.{Document}
+use Rattle.ngc_machine_files.specs.declared.fault.FileFault.TheVariants.{Stock, Document}
 use Rattle.ngc_machine_files.specs.Machine.{MachineFile}
-use Rattle.ngc_machine_files.specs.Ranges.{PLACE_LIMIT, CORNER_LIMIT, IsSized, IsTravel, IsFixture}
+use Rattle.ngc_machine_files.specs.Ranges.{PLACE_LIMIT, CORNER_LIMIT, IsSized, IsTravel, IsFixture, IsStock}
 use Rattle.ngc_machine_files.specs.Ranges.{MARGIN_LIMIT, IsFrom}
 use Rattle.ngc_fixed_length.specs.Length.{IsStep}
 use Rattle.ngc_machine_files.specs.Names.{name_from}
 use Rattle.ngc_machine_files.specs.Numbers.{from_to}
 use Rattle.ngc_machine_files.specs.Refusals.{◌>>◌, refuse_unless}
 use Rattle.ngc_machine_files.specs.Tree.{◌>>=◌, tree_of, known, has_only, whole_at, whole_or, coordinates, coordinates_at}
-use Rattle.ngc_machine_files.specs.Tree.{each, list_at, or_missing, name_at, rapids_at}
+use Rattle.ngc_machine_files.specs.Tree.{each, list_at, or_missing, name_at, rapids_at, dialect_at}
 
 -- ---- the values of the keys
 
 pub record MachineValues : Type 0 where
   pub numbers : MachineNumbers
-  pub rapids : Rapids
+  pub options : MachineOptions
   pub axis_rates : Coordinates
   pub points : MachinePoints
   pub origins : List Coordinates
@@ -47,7 +49,7 @@ abbrev pub values_of : MachineContents → MachineValues
 values_of c =
     record {
       numbers = c.numbers;
-      rapids = c.rapids;
+      options = c.options;
       axis_rates = c.axis_rates;
       points = c.points;
       origins = c.origins;
@@ -64,7 +66,7 @@ common_keys =
     codes "fixture" ∷ []
 
 -- version 2 has rates of the axes, and may have a jump, a ring, the feed of arcs, a tool changer,
--- margins and the way of traverses; no other version has them
+-- margins, the way of traverses, a language and a block of material; no other version has them
 abbrev pub has_axis_rates : ℤ → Bool
 has_axis_rates version = int_eq version (pos 2)
 
@@ -72,7 +74,8 @@ unfoldable pub machine_keys : ℤ → List (List ℕ)
 machine_keys version =
     if has_axis_rates version
     then codes "axis_rate" ∷ codes "jump" ∷ codes "ring" ∷ codes "arc_feed"
-    ∷ codes "changer" ∷ codes "margin" ∷ codes "travel_margin" ∷ codes "rapids" ∷ common_keys
+    ∷ codes "changer" ∷ codes "margin" ∷ codes "travel_margin" ∷ codes "rapids"
+    ∷ codes "dialect" ∷ codes "stock" ∷ common_keys
     else common_keys
 
 -- three numbers; in a version without them, those that bound no rate
@@ -120,6 +123,32 @@ machine_numbers tree = do
     turn = turn;
     optional = optional;
   })
+
+abbrev pub stock_values : Data → Option StockNumbers
+stock_values block = do
+  system ← whole_or (pos 0) (codes "system") block
+  low ← coordinates_at (codes "low") block
+  high ← coordinates_at (codes "high") block
+  Some (record { system = system; low = low; high = high })
+
+-- two corners of a block, and the coordinate system that they are in, 0 if it is missing
+abbrev pub stock_numbers : Data → Option StockNumbers
+stock_numbers block =
+    if has_only (codes "system" ∷ codes "low" ∷ codes "high" ∷ []) block then stock_values block else None
+
+abbrev pub some_stock : Data → Option (Option StockNumbers)
+some_stock block = stock_numbers block >>= λ s. Some (Some s)
+
+-- the block of the key `stock`, if there is one
+abbrev pub stock_at : Data → Option (Option StockNumbers)
+stock_at tree = or_missing None some_stock (get (codes "stock") tree)
+
+abbrev pub machine_options : Data → Option MachineOptions
+machine_options tree = do
+  rapids ← rapids_at tree
+  dialect ← dialect_at tree
+  stock ← stock_at tree
+  Some (record { rapids = rapids; dialect = dialect; stock = stock })
 
 abbrev pub machine_points : Data → Option MachinePoints
 machine_points tree = do
@@ -171,14 +200,14 @@ abbrev pub machine_values : Data → Option MachineValues
 machine_values root = do
   numbers ← machine_numbers root
   tree ← known (machine_keys numbers.version) root
-  rapids ← rapids_at tree
+  options ← machine_options tree
   axis_rates ← machine_axis_rates numbers.version tree
   points ← machine_points tree
   origins ← machine_origins tree
   fixtures ← machine_fixtures numbers.version tree
   Some (record {
     numbers = numbers;
-    rapids = rapids;
+    options = options;
     axis_rates = axis_rates;
     points = points;
     origins = origins;
@@ -259,6 +288,15 @@ good_fixtures m =
     nat_le (length m.fixtures) 256 && list_all good_fixture m.fixtures
     && good_margin m.numbers.optional.margin
 
+abbrev pub good_block : StockNumbers → Bool
+good_block s =
+    from_to (pos 0) (pos 9) s.system && is_sized PLACE_LIMIT s.low && is_sized PLACE_LIMIT s.high
+    && is_below s.low s.high
+
+abbrev pub good_stock : Option StockNumbers → Bool
+good_stock None = true
+good_stock (Some s) = good_block s
+
 -- the first refusal
 abbrev pub machine_ranges : MachineValues → Result (Unit {0}) FileFault
 machine_ranges m =
@@ -268,7 +306,8 @@ machine_ranges m =
     (refuse_unless (good_rates m) Rates >>
     (refuse_unless (good_travel m.numbers m.points) Travel >>
     (refuse_unless (good_places m) Places >>
-    refuse_unless (good_fixtures m) Fixtures)))))
+    (refuse_unless (good_fixtures m) Fixtures >>
+    refuse_unless (good_stock m.options.stock) Stock))))))
 
 -- ---- the machine of a file
 
@@ -284,6 +323,10 @@ fixture_of f =
 
 abbrev pub arc_feed_of : ℤ → ArcFeed
 arc_feed_of z = if int_eq z (pos 1) then Feed else (if int_eq z (pos 2) then FeedAndTurn else Off)
+
+abbrev pub stock_of : StockNumbers → StockBox
+stock_of s =
+    record { system = unsigned_abs s.system; low = place_of s.low; high = place_of s.high }
 
 abbrev pub margins_of : OptionalNumbers → Margins
 margins_of n = record { fixtures = n.margin; travel = n.travel_margin }
@@ -313,7 +356,9 @@ machine_from m = record {
   origins = map place_of m.origins;
   fixtures = map fixture_of m.fixtures;
   margins = margins_of m.numbers.optional;
-  rapids = m.rapids;
+  rapids = m.options.rapids;
+  dialect = m.options.dialect;
+  stock = option_map stock_of m.options.stock;
 }
 
 -- each of three numbers lies between two bounds, both included
@@ -321,6 +366,10 @@ pub record AreFrom (low high : ℤ) (p : Coordinates) : Type 0 where
   pub x : IsFrom low high p.x
   pub y : IsFrom low high p.y
   pub z : IsFrom low high p.z
+
+pub record IsBlock (s : StockNumbers) : Type 0 where
+  pub system : IsFrom (pos 0) (pos 9) s.system
+  pub stock : IsStock (stock_of s)
 
 -- the same checks, as facts
 pub record IsGood (m : MachineValues) : Type 0 where
@@ -342,6 +391,7 @@ pub record IsGood (m : MachineValues) : Type 0 where
   pub fixtures : All (λ f. IsFixture (fixture_of f)) m.fixtures
   pub margin : IsFrom (pos 0) MARGIN_LIMIT m.numbers.optional.margin
   pub travel_margin : IsFrom (pos 0) MARGIN_LIMIT m.numbers.optional.travel_margin
+  pub stock : IfSome m.options.stock IsBlock
 
 abbrev pub checked_machine : Option MachineValues → Result MachineFile FileFault
 checked_machine None = Err Document

@@ -6,6 +6,7 @@ use Rattle.ngc_fixed_length.specs.declared.points.Point3.{Point3}
 use Rattle.ngc_machine_files.specs.declared.machine.AxisRates.{AxisRates}
 use Rattle.ngc_machine_files.specs.declared.machine.Fixture.{Fixture}
 use Rattle.ngc_machine_files.specs.declared.machine.Margins.{Margins}
+use Rattle.ngc_machine_files.specs.declared.machine.StockBox.{StockBox}
 use Rattle.ngc_machine_files.specs.declared.parts.Part.{Part}
 use Rattle.ngc_machine_files.specs.declared.tools.Tool.{Tool}
 use Rattle.ngc_machine_files.specs.Numbers.{AreDifferent}
@@ -97,6 +98,13 @@ pub record AreFixtures (fixtures : List Fixture) : Type 0 where
 pub record AreMargins (m : Margins) : Type 0 where
   pub fixtures : IsFrom (pos 0) MARGIN_LIMIT m.fixtures
   pub travel : IsFrom (pos 0) MARGIN_LIMIT m.travel
+
+-- a block of material, in a coordinate system, 1 to 9, or in the machine, 0
+pub record IsStock (s : StockBox) : Type 0 where
+  pub system : s.system ≤ 9
+  pub low_sized : IsSized PLACE_LIMIT s.low
+  pub high_sized : IsSized PLACE_LIMIT s.high
+  pub ordered : IsBelow s.low s.high
 
 pub record IsPart (p : Part) : Type 0 where
   pub length : IsFrom (pos 0) (pos 1000000000) p.length

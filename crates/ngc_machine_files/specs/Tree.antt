@@ -9,6 +9,8 @@ use Rattle.toml.specs.Data.{get, as_integer, as_str}
 use Rattle.ngc_machine_files.specs.declared.machine.Rapids.{Rapids}
 use Rattle.ngc_machine_files.specs.declared.machine.Rapids.TheVariants.{Straight, Free}
 use Rattle.ngc_machine_files.specs.declared.machine_contents.Coordinates.{Coordinates}
+use Rattle.ngc_dialect_names.specs.Names.{named_dialect}
+use Rattle.ngc_dialect_names.specs.declared.dialect.Dialect.{Dialect}
 use Rattle.ngc_machine_files.specs.Names.{name_of}
 
 infixl 10 ◌>>=◌
@@ -90,6 +92,17 @@ rapids_named text =
 -- the traverses of the key `rapids`, straight if the key is missing
 abbrev pub rapids_at : Data → Option Rapids
 rapids_at tree = or_missing Straight (λ value. as_str value >>= rapids_named) (get (codes "rapids") tree)
+
+-- a text that names a language
+abbrev pub dialect_of : Data → Option (Option Dialect)
+dialect_of value = do
+  text ← as_str value
+  d ← named_dialect text
+  Some (Some d)
+
+-- the language of the key `dialect`, if there is one
+abbrev pub dialect_at : Data → Option (Option Dialect)
+dialect_at tree = or_missing None dialect_of (get (codes "dialect") tree)
 
 -- the items of a key, none if the key is missing
 abbrev pub list_at : {A : Type 0} → (Data → Option A) → List ℕ → Data → Option (List A)

@@ -61,5 +61,7 @@ pub fn built_in_machine<A: Allocator>(alloc: A) -> Machine<A>
             travel: length(0),
         },
         rapids: Rapids::Straight,
+        dialect: None,
+        stock: None,
     }
 }

@@ -30,6 +30,10 @@ pub enum FileFault {
     /// to 10^8 nm.
     #[error("a fixture is out of range, or there are too many")]
     Fixtures,
+    /// 267: a corner of the block of material is over 10^9 nm in size, its low corner is not below the
+    /// high one, or its coordinate system is not 0 to 9.
+    #[error("the block of material is out of range")]
+    Stock,
     /// 268: a number is out of range, a tool's number occurs twice, a tool has no parts or over
     /// four, a name isn't 1 to 40 printable ASCII characters, or there are over 1,000 tools.
     #[error("a tool is out of range or given twice, or there are too many")]
@@ -58,6 +62,7 @@ impl FileFault {
             FileFault::Travel => 265,
             FileFault::Places => 266,
             FileFault::Fixtures => 267,
+            FileFault::Stock => 267,
             FileFault::Tools => 268,
             FileFault::Document => 269,
             FileFault::Memory => 900,

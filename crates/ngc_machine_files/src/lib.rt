@@ -19,7 +19,7 @@ mod tree;
 
 pub use built_in::built_in_machine;
 pub use fault::FileFault;
-pub use machine::{ArcFeed, AxisRates, Fixture, Machine, Margins, Rapids};
+pub use machine::{ArcFeed, AxisRates, Fixture, Machine, Margins, Rapids, StockBox};
 pub use machine_contents::{Coordinates, MACHINE_KEYS};
 pub use name::Name;
 pub use part_length::PartLength;

@@ -1,10 +1,12 @@
-ghost use Rattle.std.specs.Prelude.{◌≡◌};
+ghost use Rattle.std.specs.Prelude.{◌≡◌, IfSome};
+ghost use Rattle.std.proofs.Props.{props};
 ghost use Rattle.std.specs.List.{All};
 ghost use Rattle.ngc_fixed_length.specs.Length.{IsStep};
 ghost use Rattle.ngc_machine_files.specs.Ranges.{PLACE_LIMIT, IsRate, IsJump, AreRates, IsArcBound, IsTravel};
-ghost use Rattle.ngc_machine_files.specs.Ranges.{IsSized, IsRing, AreFixtures, AreMargins};
+ghost use Rattle.ngc_machine_files.specs.Ranges.{IsSized, IsRing, AreFixtures, AreMargins, IsStock};
 
 use crate::name::Name;
+use ngc_dialect_names::Dialect;
 use ngc_fixed_length::{Nm, Point3};
 use std::alloc::{AllocError, Allocator};
 
@@ -51,6 +53,17 @@ pub enum Rapids {
     Straight,
     /// Any way within the box that the two ends span, such as each axis at its own greatest rate.
     Free,
+}
+
+/// The block of material that is cut, in nanometres.
+#[derive(Clone, Copy)]
+pub struct StockBox {
+    /// The coordinate system of the corners: 1 is G54, .., 9 is G59.3; 0 is the machine's own.
+    pub system: u32,
+    /// The corner with the least coordinates, at most 10^9 nm in size.
+    pub low: Point3,
+    /// The corner with the greatest coordinates, at most 10^9 nm in size; each is above that of `low`.
+    pub high: Point3,
 }
 
 /// A machine. Lengths are in nanometres, rates in millionths of a path step per tick.
@@ -100,6 +113,10 @@ pub struct Machine<A: Allocator> {
     pub margins: Margins,
     /// The ways that the control may take to the end of a traverse.
     pub rapids: Rapids,
+    /// The language of its programs, if it isn't our own.
+    pub dialect: Option<Dialect>,
+    /// The block of material that is cut, if it is known.
+    pub stock: Option<StockBox>,
     ghost step_in_range: { IsStep step },
     ghost ticks_in_range: { IsRate ticks_per_second },
     ghost max_rate_in_range: { IsRate max_rate },
@@ -115,6 +132,7 @@ pub struct Machine<A: Allocator> {
     ghost origins_in_range: { All (IsSized PLACE_LIMIT) origins },
     ghost fixtures_in_range: { AreFixtures fixtures.items },
     ghost margins_in_range: { AreMargins margins },
+    ghost stock_in_range: { IfSome stock IsStock } by { Prim.hlevel props },
 }
 
 fn copied(origins: &[Point3; 9]) -> [Point3; 9]
@@ -158,6 +176,8 @@ impl<A: Allocator> Machine<A> {
             fixtures,
             margins: self.margins,
             rapids: self.rapids,
+            dialect: self.dialect,
+            stock: self.stock,
         })
     }
 }

@@ -3,6 +3,7 @@ ghost use Rattle.std.specs.Prelude.{option_map};
 ghost use Rattle.toml.specs.Data.{get};
 ghost use Rattle.toml.specs.View.{view, items_view};
 ghost use Rattle.ngc_machine_files.specs.Tree.{has_only};
+ghost use Rattle.ngc_machine_files.specs.MachineText.{machine_options, stock_at, stock_numbers};
 ghost use Rattle.ngc_machine_files.specs.MachineText.{values_of, optional_numbers, machine_numbers};
 ghost use Rattle.ngc_machine_files.specs.MachineText.{machine_points, machine_origins, has_axis_rates};
 ghost use Rattle.ngc_machine_files.specs.MachineText.{machine_axis_rates, corners, machine_keys};
@@ -11,9 +12,10 @@ ghost use Rattle.ngc_machine_files.specs.MachineText.{machine_values, nine_coord
 use crate::machine::Rapids;
 use crate::name::Name;
 use crate::tree::{
-    Entry, coordinates, coordinates_at, entries_at, has_only, name_at, rapids_at, whole_at,
-    whole_or,
+    Entry, coordinates, coordinates_at, dialect_at, entries_at, has_only, name_at, rapids_at,
+    whole_at, whole_or,
 };
+use ngc_dialect_names::Dialect;
 use std::alloc::{AllocError, Global};
 use toml::Value;
 
@@ -68,11 +70,28 @@ pub struct MachinePoints {
     pub home30: Coordinates,
 }
 
+/// The block of material as read from the file, with numbers of any size.
+#[derive(Clone, Copy)]
+pub struct StockNumbers {
+    /// The coordinate system, 0 if the key is missing.
+    pub system: i64,
+    pub low: Coordinates,
+    pub high: Coordinates,
+}
+
+/// The keys that may be missing and aren't numbers.
+#[derive(Clone, Copy)]
+pub struct MachineOptions {
+    pub rapids: Rapids,
+    pub dialect: Option<Dialect>,
+    pub stock: Option<StockNumbers>,
+}
+
 /// The contents of a machine file, with numbers of any size.
 #[derive(Drop)]
 pub struct MachineContents {
     pub numbers: MachineNumbers,
-    pub rapids: Rapids,
+    pub options: MachineOptions,
     pub axis_rates: Coordinates,
     pub points: MachinePoints,
     pub origins: [Coordinates; 9],
@@ -156,6 +175,38 @@ fn machine_axis_rates(numbers: &MachineNumbers, tree: &Value) -> Option<Coordina
     }
 }
 
+fn stock_numbers(table: &Value) -> Option<StockNumbers>
+    ensures { result ≡ stock_numbers (view table.now) }
+{
+    if !has_only(table, &["system", "low", "high"]) {
+        return None;
+    }
+    Some(StockNumbers {
+        system: whole_or(0, table, "system")?,
+        low: coordinates_at(table, "low")?,
+        high: coordinates_at(table, "high")?,
+    })
+}
+
+fn stock_at(tree: &Value) -> Option<Option<StockNumbers>>
+    ensures { result ≡ stock_at (view tree.now) }
+{
+    match tree.get("stock") {
+        Some(table) => Some(Some(stock_numbers(table)?)),
+        None => Some(None),
+    }
+}
+
+fn machine_options(tree: &Value) -> Option<MachineOptions>
+    ensures { result ≡ machine_options (view tree.now) }
+{
+    Some(MachineOptions {
+        rapids: rapids_at(tree)?,
+        dialect: dialect_at(tree)?,
+        stock: stock_at(tree)?,
+    })
+}
+
 fn machine_points(tree: &Value) -> Option<MachinePoints>
     ensures { result ≡ machine_points (view tree.now) }
 {
@@ -196,8 +247,8 @@ fn machine_origins(tree: &Value) -> Option<[Coordinates; 9]>
     }
 }
 
-/// The keys of a machine file of version 2. Version 1 has all but the first eight.
-pub const MACHINE_KEYS: [&str; 22] = [
+/// The keys of a machine file of version 2. Version 1 has all but the first ten.
+pub const MACHINE_KEYS: [&str; 24] = [
     "axis_rate",
     "jump",
     "ring",
@@ -206,6 +257,8 @@ pub const MACHINE_KEYS: [&str; 22] = [
     "margin",
     "travel_margin",
     "rapids",
+    "dialect",
+    "stock",
     "version",
     "step",
     "ticks_per_second",
@@ -228,7 +281,7 @@ fn has_machine_keys(numbers: &MachineNumbers, tree: &Value) -> bool
     if has_axis_rates(numbers) {
         has_only(tree, &MACHINE_KEYS)
     } else {
-        has_only(tree, &MACHINE_KEYS[8..])
+        has_only(tree, &MACHINE_KEYS[10..])
     }
 }
 
@@ -246,7 +299,7 @@ impl MachineContents {
         if !has_machine_keys(&numbers, tree) {
             return Ok(None);
         }
-        let Some(rapids) = rapids_at(tree) else {
+        let Some(options) = machine_options(tree) else {
             return Ok(None);
         };
         let Some(axis_rates) = machine_axis_rates(&numbers, tree) else {
@@ -261,7 +314,7 @@ impl MachineContents {
         match entries_at(alloc, numbers.version, tree, "fixture")? {
             Some(fixtures) => Ok(Some(MachineContents {
                 numbers,
-                rapids,
+                options,
                 axis_rates,
                 points,
                 origins,

@@ -1,24 +1,25 @@
-ghost use Rattle.std.specs.Prelude.{◌≡◌, ◌≤◌, ◌<ℤ◌, pos, map, unsigned_abs, IfOk};
+ghost use Rattle.std.specs.Prelude.{◌≡◌, ◌≤◌, ◌<ℤ◌, pos, map, option_map, unsigned_abs, IfOk, IfSome};
 ghost use Rattle.std.specs.List.{All, list_all};
 ghost use Rattle.std.specs.Ordering.{int_eq};
 ghost use Rattle.ngc_fixed_length.specs.Length.{IsStep};
 ghost use Rattle.ngc_machine_files.specs.Machine.{file_of};
 ghost use Rattle.ngc_machine_files.specs.Numbers.{from_to};
 ghost use Rattle.ngc_machine_files.specs.Ranges.{CORNER_LIMIT, IsFrom, IsRate, IsJump, IsRing, AreRates};
-ghost use Rattle.ngc_machine_files.specs.Ranges.{IsArcBound, IsSized, IsFixture, PLACE_LIMIT};
+ghost use Rattle.ngc_machine_files.specs.Ranges.{IsArcBound, IsSized, IsFixture, IsStock, PLACE_LIMIT};
 ghost use Rattle.ngc_machine_files.specs.Ranges.{MARGIN_LIMIT, AreMargins};
 ghost use Rattle.ngc_machine_files.specs.MachineText.{values_of, is_sized, is_at_most, is_below};
 ghost use Rattle.ngc_machine_files.specs.MachineText.{is_multiple, is_on_grid, good_version, is_rate};
 ghost use Rattle.ngc_machine_files.specs.MachineText.{good_axis_rates, good_bounds, good_rates, good_travel};
 ghost use Rattle.ngc_machine_files.specs.MachineText.{good_places, good_fixture, good_fixtures};
 ghost use Rattle.ngc_machine_files.specs.MachineText.{machine_ranges, machine_from, place_of};
-ghost use Rattle.ngc_machine_files.specs.MachineText.{axis_rates_of, fixture_of, arc_feed_of, has_changer, AreFrom, IsGood};
-ghost use Rattle.ngc_machine_files.specs.MachineText.{good_limits, good_margin, margins_of};
+ghost use Rattle.ngc_machine_files.specs.MachineText.{axis_rates_of, fixture_of, arc_feed_of, has_changer, AreFrom, IsBlock, IsGood};
+ghost use Rattle.ngc_machine_files.specs.MachineText.{good_block, good_limits, good_margin, good_stock, margins_of, stock_of};
 
 use crate::fault::FileFault;
-use crate::machine::{ArcFeed, AxisRates, Fixture, Machine, Margins};
+use crate::machine::{ArcFeed, AxisRates, Fixture, Machine, Margins, StockBox};
 use crate::machine_contents::{
     Coordinates, Corners, MachineContents, MachineNumbers, MachinePoints, OptionalNumbers,
+    StockNumbers,
 };
 use crate::name::name_from;
 use crate::numbers::{is_from_to, length};
@@ -187,6 +188,24 @@ fn are_fixtures_good(contents: &MachineContents) -> bool
         && is_margin_good(contents.numbers.optional.margin)
 }
 
+fn is_block_good(block: &StockNumbers) -> bool
+    ensures { result ≡ good_block block.now }
+{
+    is_from_to(0, 9, block.system)
+        && is_sized(PLACE_LIMIT, &block.low)
+        && is_sized(PLACE_LIMIT, &block.high)
+        && block.low.is_below(&block.high)
+}
+
+fn is_stock_good(stock: &Option<StockNumbers>) -> bool
+    ensures { result ≡ good_stock stock.now }
+{
+    match stock {
+        None => true,
+        Some(block) => is_block_good(block),
+    }
+}
+
 fn step_length(numbers: &MachineNumbers) -> Nm
     requires { IsStep numbers.now.step }
     ensures { result ≡ numbers.now.step }
@@ -315,6 +334,36 @@ fn fixtures(alloc: Global, corners: &[Corners]) -> Result<Vec<Fixture>, AllocErr
     Ok(fixtures)
 }
 
+/// Returns a number of 0 to 9 as unsigned.
+fn coordinate_system(value: i64) -> u32
+    requires { IsFrom (pos 0) (pos 9) value }
+    ensures { result ≡ unsigned_abs value }
+{
+    value as u32
+}
+
+fn block(numbers: &StockNumbers) -> StockBox
+    requires { IsBlock numbers.now }
+    ensures { result ≡ stock_of numbers.now }
+{
+    StockBox {
+        system: coordinate_system(numbers.system),
+        low: place(&numbers.low),
+        high: place(&numbers.high),
+    }
+}
+
+fn stock(numbers: &Option<StockNumbers>) -> Option<StockBox>
+    requires { IfSome numbers.now IsBlock }
+    ensures value { result ≡ option_map stock_of numbers.now }
+    ensures range { IfSome result IsStock }
+{
+    match numbers {
+        None => None,
+        Some(numbers) => Some(block(numbers)),
+    }
+}
+
 impl MachineContents {
     /// Checks the ranges in order, and returns the first fault.
     pub(crate) fn check(&self) -> Result<(), FileFault>
@@ -340,6 +389,9 @@ impl MachineContents {
         }
         if !are_fixtures_good(self) {
             return Err(FileFault::Fixtures);
+        }
+        if !is_stock_good(&self.options.stock) {
+            return Err(FileFault::Stock);
         }
         Ok(())
     }
@@ -370,7 +422,9 @@ impl MachineContents {
             origins: origins(&self.origins),
             fixtures,
             margins: margins(&self.numbers.optional),
-            rapids: self.rapids,
+            rapids: self.options.rapids,
+            dialect: self.options.dialect,
+            stock: stock(&self.options.stock),
         })
     }
 }

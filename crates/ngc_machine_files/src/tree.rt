@@ -8,11 +8,12 @@ ghost use Rattle.toml.specs.Errors.{IsBlank};
 ghost use Rattle.toml.specs.View.{view, items_view};
 ghost use Rattle.ngc_machine_files.specs.Tree.{tree_of, is_one_of, has_only, whole_at, whole_or, coordinates};
 ghost use Rattle.ngc_machine_files.specs.Tree.{coordinates_at, each, list_at, named, name_at};
-ghost use Rattle.ngc_machine_files.specs.Tree.{rapids_named, rapids_at};
+ghost use Rattle.ngc_machine_files.specs.Tree.{dialect_at, dialect_of, rapids_named, rapids_at};
 
 use crate::machine::Rapids;
 use crate::machine_contents::Coordinates;
 use crate::name::Name;
+use ngc_dialect_names::Dialect;
 use std::alloc::{AllocError, Global};
 use toml::{Table, Value};
 
@@ -135,6 +136,23 @@ pub(crate) fn rapids_at(tree: &Value) -> Option<Rapids>
     match tree.get("rapids") {
         Some(value) => rapids_named(value.as_str()?),
         None => Some(Rapids::Straight),
+    }
+}
+
+fn dialect_of(value: &Value) -> Option<Option<Dialect>>
+    ensures { result ≡ dialect_of (view value.now) }
+{
+    Some(Some(Dialect::named(value.as_str()?)?))
+}
+
+/// Returns the language of the key `dialect`: an inner `None` if the key is missing, and `None` for a
+/// value that isn't the name of one.
+pub(crate) fn dialect_at(tree: &Value) -> Option<Option<Dialect>>
+    ensures { result ≡ dialect_at (view tree.now) }
+{
+    match tree.get("dialect") {
+        Some(value) => dialect_of(value),
+        None => Some(None),
     }
 }
 

@@ -14,7 +14,7 @@ use Rattle.ngc_machine_maker.specs.Choices.{place_in, ring_in}
 use Rattle.ngc_machine_maker.specs.Decimals.{number_in}
 use Rattle.ngc_machine_maker.specs.File.{heading, scale_text, scale_after, steps_text, errors_text}
 use Rattle.ngc_machine_maker.specs.File.{step_lines, speed_lines, joint_lines, corner_comment, jump_comment}
-use Rattle.ngc_machine_maker.specs.File.{acceleration_lines, ring_lines, arc_feed_comment, arc_feed_lines, place_lines}
+use Rattle.ngc_machine_maker.specs.File.{acceleration_lines, ring_lines, arc_feed_comment, arc_feed_lines, place_lines, grbl_lines, dialect_lines}
 use Rattle.ngc_machine_maker.specs.File.{file_text, notes_text}
 use Rattle.ngc_machine_maker.specs.Grbl.{lines_of, has_setting, value_of, setting, figures_in}
 use Rattle.ngc_machine_maker.specs.Options.{lengths_in, speeds_in, second_speed_in, frame_in}
@@ -56,6 +56,14 @@ lines_of_a_ring = refl
 
 no_lines_of_arcs : arc_feed_lines false ≡ codes ""
 no_lines_of_arcs = refl
+
+-- the language of programs for GRBL
+lines_of_grbl : dialect_lines true ≡ codes "# `dialect`: programs are read as GRBL reads them. Without this key they must be in ngc's\n# own language (docs/CAM.md).\ndialect = \"grbl\"\n"
+unfolding grbl_lines
+lines_of_grbl = refl
+
+no_lines_of_a_dialect : dialect_lines false ≡ codes ""
+no_lines_of_a_dialect = refl
 
 no_note_of_a_small_router : notes_text small_numbers small_router ≡ codes ""
 unfolding scale_after
@@ -139,6 +147,7 @@ settings_of_feed = codes "$110=1000.000\n$111=1000.000\n$112=600.000\n$120=30.00
 
 figures_of_settings : figures_in (codes "Grbl 1.1f ['$' for help]\n$23=3 (homing dir mask)\r\n$27=1.000\r\n$100=800.000 (x, step/mm)\n$101=800.000\n$102=800.000\n" ++ settings_of_feed)
     ≡ Ok (record small_router {
+      grbl = true;
       zero = three ends.High ends.High ends.High;
       start = three (mm 299) (mm 179) (mm 1);
     })

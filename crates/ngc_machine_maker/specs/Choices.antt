@@ -122,6 +122,7 @@ chosen f choices =
       ticks = ticks;
       ring = ring;
       arc_feed = f.arc_feed || choices.arc_feed;
+      grbl = f.grbl;
       zero = f.zero;
       start = start;
       home28 = home28;

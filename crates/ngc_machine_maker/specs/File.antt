@@ -101,11 +101,21 @@ place_lines n = place_line (codes "low") n.low ++ place_line (codes "high") n.hi
     ++ place_line (codes "start") n.start ++ place_line (codes "home28") n.home28
     ++ place_line (codes "home30") n.home30
 
+-- the language of programs, if it isn't our own
+unfoldable pub grbl_lines : List ℕ
+grbl_lines =
+    codes "# `dialect`: programs are read as GRBL reads them. Without this key they must be in ngc's\n"
+    ++ codes "# own language (docs/CAM.md).\n"
+    ++ codes "dialect = \"grbl\"\n"
+
+abbrev pub dialect_lines : Bool → List ℕ
+dialect_lines grbl = if grbl then grbl_lines else []
+
 -- the whole file
 abbrev pub file_text : MachineNumbers → Figures → List ℕ
 file_text n f = heading ++ scale_after (codes "# ") n f ++ step_lines n ++ speed_lines n
     ++ joint_lines n ++ acceleration_lines n ++ ring_lines n.ring ++ arc_feed_lines n.arc_feed
-    ++ place_lines n
+    ++ place_lines n ++ dialect_lines f.grbl
 
 -- the notes on it
 abbrev pub notes_text : MachineNumbers → Figures → List ℕ

@@ -119,8 +119,9 @@ homed_axes mask pull_off travel =
       z = homed (mask / 4 % 2) pull_off travel.z;
     }
 
-abbrev pub with_start : Figures → PerAxis Length → Figures
-with_start f start =
+-- the figures of a machine with GRBL, with another start
+abbrev pub started_by_grbl : Figures → PerAxis Length → Figures
+started_by_grbl f start =
     record {
       steps = f.steps;
       travel = f.travel;
@@ -132,6 +133,7 @@ with_start f start =
       ticks = f.ticks;
       ring = f.ring;
       arc_feed = f.arc_feed;
+      grbl = true;
       zero = f.zero;
       start = start;
       home28 = f.home28;
@@ -151,7 +153,7 @@ figures_in text =
     and_then (three_settings text 130 6) (λ travel.
     and_then (setting text 23 0) (λ mask.
     and_then (setting text 27 6) (λ pull_off.
-    Ok (with_start
+    Ok (started_by_grbl
     (figures_by steps (each_of length_of travel) (each_of speed_of feed)
     (each_of acceleration_of acceleration) (same_for_all ends.High))
     (each_of length_of (homed_axes mask pull_off travel))))))))))

@@ -1,7 +1,7 @@
 -- The figures in the texts of options.
 use Rattle.std.specs.Borrow.{Bor}
 use Rattle.std.specs.Prelude.{ℕ, ◌*◌, ◌/◌, max, nat_lt, List, codes, bytes_eq, Option, Some, None}
-use Rattle.std.specs.Prelude.{Result, Ok, Err, true, if◌then◌else◌}
+use Rattle.std.specs.Prelude.{Result, Ok, Err, true, false, if◌then◌else◌}
 use Rattle.ngc_machine_maker.specs.declared.figures.Acceleration.{Acceleration}
 use Rattle.ngc_machine_maker.specs.declared.figures.End.{End}
 use Rattle.ngc_machine_maker.specs.declared.figures.End.TheVariants as ends
@@ -97,7 +97,7 @@ abbrev pub usual_corner : PerAxis Acceleration → Speed
 usual_corner accelerations = speed_of (max (reached_in_5_ms (least accelerations)) 120000)
 
 -- the figures of a machine with this corner speed, the same jump, a ring of 256 commands, and arcs
--- at their feed and their turn. It starts at zero
+-- at their feed and their turn. It starts at zero, and its programs are in our own language
 abbrev pub figures_by : StepsPerMillimetre → PerAxis Length → PerAxis Speed →
     PerAxis Acceleration → PerAxis End → Figures
 figures_by steps travel feed acceleration zero =
@@ -112,6 +112,7 @@ figures_by steps travel feed acceleration zero =
       ticks = None;
       ring = 256;
       arc_feed = true;
+      grbl = false;
       zero = zero;
       start = same_for_all (length_of 0);
       home28 = None;

@@ -236,6 +236,7 @@ impl Figures {
             ticks,
             ring,
             arc_feed: self.arc_feed || choices.arc_feed,
+            grbl: self.grbl,
             zero: self.zero,
             start,
             home28,

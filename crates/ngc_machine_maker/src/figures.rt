@@ -74,6 +74,8 @@ pub struct Figures {
     pub ring: u32,
     /// Whether arcs run at their feed and their turn at every place.
     pub arc_feed: bool,
+    /// Whether the machine's controller has Grbl, so that its programs are in the language of Grbl.
+    pub grbl: bool,
     pub zero: PerAxis<End>,
     /// The position of the axes when a program starts.
     pub start: PerAxis<Length>,

@@ -11,7 +11,7 @@ ghost use Rattle.ngc_machine_maker.specs.File.{heading, direction_text, steps_te
 ghost use Rattle.ngc_machine_maker.specs.File.{scale_text, scale_after, step_lines, rate_line};
 ghost use Rattle.ngc_machine_maker.specs.File.{speed_lines, joint_lines, acceleration_lines, place_line};
 ghost use Rattle.ngc_machine_maker.specs.File.{corner_comment, jump_comment, ring_lines, arc_feed_comment, arc_feed_lines, place_lines};
-ghost use Rattle.ngc_machine_maker.specs.File.{arcs_remark, file_text, notes_text};
+ghost use Rattle.ngc_machine_maker.specs.File.{arcs_remark, grbl_lines, dialect_lines, file_text, notes_text};
 ghost use Rattle.ngc_machine_maker.specs.InFile.{AreInFile};
 ghost use Rattle.ngc_machine_maker.specs.Ranges.{IsScale};
 ghost use Rattle.ngc_machine_maker.specs.Texts.{axes_text, line_text};
@@ -296,6 +296,26 @@ fn say_places<W: Sink>(numbers: &MachineNumbers, page: &mut Page, output: &mut W
     say_place(b"home30", &numbers.home30, page, output);
 }
 
+#[tactic(auto, unfolding(crate::specs::File::grbl_lines))]
+fn say_grbl<W: Sink>(page: &mut Page, output: &mut W)
+    ensures { Says (W.written output.old) (W.written output.new)
+        (W.failures output.old) (W.failures output.new) page.old page.new
+        (grbl_lines) }
+{
+    say!(page, output; b"# `dialect`: programs are read as GRBL reads them. Without this key they must be in ngc's\n", b"# own language (docs/CAM.md).\n", b"dialect = \"grbl\"\n");
+}
+
+// Says the language of programs, if it isn't our own.
+fn say_dialect<W: Sink>(grbl: bool, page: &mut Page, output: &mut W)
+    ensures { Says (W.written output.old) (W.written output.new)
+        (W.failures output.old) (W.failures output.new) page.old page.new
+        (dialect_lines grbl) }
+{
+    if grbl {
+        say_grbl(page, output);
+    }
+}
+
 fn say_file<W: Sink>(numbers: &MachineNumbers, figures: &Figures, page: &mut Page, output: &mut W)
     requires numbers { AreInFile numbers.now }
     requires scale { IsScale (scale_in numbers.now figures.now) }
@@ -312,6 +332,7 @@ fn say_file<W: Sink>(numbers: &MachineNumbers, figures: &Figures, page: &mut Pag
     say_ring(numbers.ring, page, output);
     say_arc_feed(numbers.arc_feed, page, output);
     say_places(numbers, page, output);
+    say_dialect(figures.grbl, page, output);
 }
 
 /// Writes a machine file of version 2. After a fault a prefix of it is written, and the sink has

@@ -206,14 +206,19 @@ fn homed_axes(mask: u32, pull_off: u32, travel: &PerAxis<u32>) -> PerAxis<Length
     }
 }
 
-fn with_start(figures: &Figures, start: PerAxis<Length>) -> Figures
-    ensures { result ≡ spec.with_start figures.now start }
+fn started_by_grbl(figures: &Figures, start: PerAxis<Length>) -> Figures
+    ensures { result ≡ spec.started_by_grbl figures.now start }
 {
-    Figures { start, ..*figures }
+    Figures {
+        start,
+        grbl: true,
+        ..*figures
+    }
 }
 
 /// Returns the figures in the settings of a controller with Grbl, as it prints them after `$$`.
-/// Zero is at the high end of each axis, and the start is where homing ends. It refuses the first
+/// Zero is at the high end of each axis, the start is where homing ends, and programs are in the
+/// language of Grbl. It refuses the first
 /// setting that is missing or can't be read, and steps per millimetre that differ from axis to
 /// axis.
 pub fn read_grbl(text: &[u8]) -> Result<Figures, FigureRefusal>
@@ -233,5 +238,6 @@ pub fn read_grbl(text: &[u8]) -> Result<Figures, FigureRefusal>
         accelerations(&acceleration),
         all_at(End::High),
     );
-    Ok(with_start(&figures, homed_axes(mask, pull_off, &travel)))
+    let start = homed_axes(mask, pull_off, &travel);
+    Ok(started_by_grbl(&figures, start))
 }

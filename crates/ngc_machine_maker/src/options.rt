@@ -155,7 +155,8 @@ fn usual_corner(accelerations: &PerAxis<Acceleration>) -> Speed
 }
 
 /// Returns the figures of a machine that starts at zero. It has the usual corner speed, the same
-/// jump, a ring of 256 commands, and arcs that run at their feed and their turn at every place.
+/// jump, a ring of 256 commands, and arcs that run at their feed and their turn at every place. Its
+/// programs are in our own language.
 pub(crate) fn figures_by(
     steps: StepsPerMillimetre,
     travel: PerAxis<Length>,
@@ -176,6 +177,7 @@ pub(crate) fn figures_by(
         ticks: None,
         ring: 256,
         arc_feed: true,
+        grbl: false,
         zero,
         start: PerAxis {
             x: length_of(0),

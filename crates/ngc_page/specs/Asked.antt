@@ -1,7 +1,6 @@
 -- The requests of the calls, in terms of the command line's.
-use Rattle.std.specs.Prelude.{◌≡◌, ◌⊎◌, ◌==◌, ℕ, Bool, true, false, List, [], Option, Some, None, codes}
+use Rattle.std.specs.Prelude.{◌≡◌, ◌==◌, ℕ, Bool, true, false, List, Option, Some, None, codes}
 use Rattle.std.specs.Prelude.{if◌then◌else◌}
-use Rattle.std.specs.Str.{IsUtf8}
 use Rattle.ngc_command_line.specs.CommandLine.{FromGrbl}
 use Rattle.ngc_command_line.specs.Meant.{IsAdaptRequest, IsCertifyRequest, IsCheckRequest, IsDrawRequest, IsListRequest}
 use Rattle.ngc_command_line.specs.Meant.{IsMachineRequest, IsReportRequest, IsRunRequest, IsShowRequest}
@@ -61,20 +60,10 @@ abbrev pub control_name : ℕ → List ℕ
 control_name n = if n == 1 then codes "grbl" else if n == 2 then codes "mach3"
     else if n == 3 then codes "fanuc" else codes "linuxcnc"
 
--- a tool other than 0 is mounted at the start
-abbrev pub requested_tool : ℕ → Option ℕ
-requested_tool n = if n == 0 then None else Some n
-
--- the codes of a text that isn't empty; one that isn't UTF-8 doesn't count as a list of codes
-abbrev pub AreCodes : List ℕ → Option (List ℕ) → Type 0
-AreCodes text None = text ≡ []
-AreCodes text (Some drop) = (drop ≡ text) ⊎ (¬ IsUtf8 text × (drop ≡ codes "?"))
-
-pub record AsksAdapt (control tool : ℕ) (text : List ℕ) (options : Options) : Type 0 where
-  pub drop : Option (List ℕ)
-  pub are_codes : AreCodes text drop
-  pub asks : IsAdaptRequest (control_name control) (Some (codes "machine")) (requested_tool tool) drop
-      (Some (codes "program")) options
+abbrev pub RequestsAdapt : ℕ → Bool → Options → Type 0
+RequestsAdapt control delete =
+    IsAdaptRequest (control_name control) (Some (codes "machine")) (Some (codes "tools"))
+    (Some (codes "program")) delete
 
 -- a machine file from a dump of GRBL's settings, which is the file `program`
 abbrev pub RequestsMachine : Options → Type 0

@@ -1,9 +1,9 @@
 //! The options of each call, as the command line reads them. The files are named `program`,
 //! `machine`, `tools` and `certificate`.
-ghost use Rattle.std.specs.Prelude.{◌≡◌, option_map};
-ghost use Rattle.ngc_page.specs.Asked.{AreCodes, AsksAdapt, RequestsCertify, RequestsCheck, RequestsDraw};
+ghost use Rattle.std.specs.Prelude.{◌≡◌};
+ghost use Rattle.ngc_page.specs.Asked.{RequestsAdapt, RequestsCertify, RequestsCheck, RequestsDraw};
 ghost use Rattle.ngc_page.specs.Asked.{RequestsList, RequestsMachine, RequestsPulses, RequestsReport, RequestsShow};
-ghost use Rattle.ngc_page.specs.Asked.{control_name, requested_format, requested_tool, view_name};
+ghost use Rattle.ngc_page.specs.Asked.{control_name, requested_format, view_name};
 
 use ngc_command_line::{
     AdaptOptions, CertifyOptions, CheckOptions, DrawOptions, Format, ListOptions, MachineOptions,
@@ -145,35 +145,16 @@ fn control_name(control: u32) -> &'static str
     }
 }
 
-fn requested_tool(tool: u16) -> Option<u16>
-    ensures { result ≡ requested_tool tool }
-{
-    if tool == 0 { None } else { Some(tool) }
-}
-
-// Returns a text of codes. A text that isn't UTF-8 is refused, because it isn't a list of codes.
-fn requested_codes(text: &[u8]) -> Option<&str>
-    ensures { AreCodes text.now (option_map (λ codes. codes.now) result) }
-{
-    if text.is_empty() {
-        return None;
-    }
-    match str::from_utf8(text) {
-        Ok(codes) => Some(codes),
-        Err(_) => Some("?"),
-    }
-}
-
-/// Returns the options to adapt a program for another control.
-pub fn adapt_options(control: u32, tool: u16, drop: &[u8]) -> Options<'_>
-    ensures { AsksAdapt control tool drop.now result }
+/// Returns the options to print a program for another control as one in our own language.
+pub fn adapt_options(control: u32, delete: bool) -> Options<'static>
+    ensures { RequestsAdapt control delete result }
 {
     Options::Adapt(AdaptOptions {
         from: control_name(control),
         machine: Some("machine"),
-        tool: requested_tool(tool),
-        drop: requested_codes(drop),
+        tools: Some("tools"),
         program: Some("program"),
+        delete,
     })
 }
 

@@ -12,7 +12,7 @@
 
 ghost use Rattle.std.specs.Prelude.{[]};
 ghost use Rattle.ngc_page.specs.Answered.{Answered, space};
-ghost use Rattle.ngc_page.specs.Asked.{AsksAdapt, RequestsCertify, RequestsCheck, RequestsDraw, RequestsExplain};
+ghost use Rattle.ngc_page.specs.Asked.{RequestsAdapt, RequestsCertify, RequestsCheck, RequestsDraw, RequestsExplain};
 ghost use Rattle.ngc_page.specs.Asked.{RequestsList, RequestsMachine, RequestsPulses, RequestsReport, RequestsShow};
 ghost use Rattle.ngc_page.specs.Commanded.{Commanded};
 ghost use Rattle.ngc_page.specs.Passed.{passed};
@@ -269,33 +269,32 @@ pub extern "C" fn ngc_show(
     answer_into(alloc, &options, files, output, errors, lengths)
 }
 
-/// Writes a part program for another control as one for this control, and the changes to the
-/// errors. The program is for GRBL if `control` is 1, Mach3 if it is 2, Fanuc if it is 3, and
-/// otherwise LinuxCNC. A `tool` other than 0 is mounted at the start. `drop` lists M codes that the
-/// machine doesn't need, or is empty.
+/// Writes a part program for another control as one in our own language at a setting of block delete, and
+/// the notes on it to the errors. The program is for GRBL if `control` is 1, Mach3 if it is 2, Fanuc if it
+/// is 3, and otherwise LinuxCNC.
 #[unsafe(no_mangle)]
 pub extern "C" fn ngc_adapt(
     alloc: Global,
     program: &[u8],
     machine: &[u8],
-    drop: &[u8],
+    tools: &[u8],
     control: u32,
-    tool: u16,
+    delete: bool,
     output: &mut [u8],
     errors: &mut [u8],
     lengths: &mut Lengths,
 ) -> u32
-    ensures { Answered (passed program.now machine.now [] []) (AsksAdapt control tool drop.now)
+    ensures { Answered (passed program.now machine.now tools.now []) (RequestsAdapt control delete)
         (space output.old output.new lengths.new.output)
         (space errors.old errors.new lengths.new.errors) result }
 {
-    let Some(options) = Some(adapt_options(control, tool, drop)) else {
+    let Some(options) = Some(adapt_options(control, delete)) else {
         unreachable!()
     };
     let files = PassedFiles {
         program,
         machine,
-        tools: b"",
+        tools,
         certificate: b"",
     };
     answer_into(alloc, &options, files, output, errors, lengths)

@@ -140,8 +140,10 @@ impl Space {
         let output = self.output.as_mut_slice();
         let errors = self.errors.as_mut_slice();
         let lengths = &mut self.lengths;
-        let program: &[u8] = b"G28 G91 Z0\nM2\n";
-        ngc_adapt(alloc, program, MACHINE, b"", 1, 1, output, errors, lengths)
+        let program: &[u8] = b"G0 X1\nM2\n";
+        ngc_adapt(
+            alloc, program, MACHINE, TOOLS, 0, false, output, errors, lengths,
+        )
     }
 
     fn machine(&mut self, alloc: Global) -> u32 {
@@ -257,8 +259,8 @@ const ROWS: &[Row] = &[
     },
     Row {
         call: Call::Adapt,
-        part: b"T1 M6\nG53 G0 G91 Z0",
-        is_whole: false,
+        part: b"G0 X1\nM2\n",
+        is_whole: true,
     },
     Row {
         call: Call::Machine,

@@ -49,6 +49,8 @@ mill = record {
   fixtures = vise ∷ [];
   margins = built_in_machine.margins;
   rapids = built_in_machine.rapids;
+  dialect = built_in_machine.dialect;
+  stock = built_in_machine.stock;
 }
 
 abbrev home : Point3

@@ -81,30 +81,30 @@ pub steps_fit : (side : Side) (n : ℕ) (i : Interval) → IsInLimit i → n ≤
 steps_fit Above n i h few = record { from = h.from; to = omega (arith, ints, h.to, few) }
 steps_fit Below n i h few = record { from = omega (arith, ints, h.from, few); to = h.to }
 
--- what a test of an interval shows about an equal one
-pub tested : (machine : MachineFile) (most : ℕ) (axis : Axis) (programs : List Program) (i j : Interval) (held b : Bool) → held ≡ hold_over machine most axis programs i →
-    held ≡ b → i ≡ j → hold_over machine most axis programs j ≡ b
-tested machine most axis programs i j held b test is same = ap (hold_over machine most axis programs) (sym same) ∙ sym test ∙ is
+-- an interval that grows holds
+growth_holds : (machine : MachineFile) (most : ℕ) (axis : Axis) (programs : List Program) (side : Side) (i : Interval) (n : ℕ) → IsStep machine.step → 1 ≤ most →
+    most ≤ 65535 → i.from ≤ℤ i.to → IsGrowth machine most axis programs side i n → IsTrue (hold_over machine most axis programs i)
+growth_holds machine most axis programs Above i n step least greatest order g =
+    hold_within machine most axis programs (grown Above n i) i step least greatest (omega (arith, ints)) order (omega (arith, ints)) g.hold
+growth_holds machine most axis programs Below i n step least greatest order g =
+    hold_within machine most axis programs (grown Below n i) i step least greatest (omega (arith, ints)) order (omega (arith, ints)) g.hold
 
-pub grown_is : (machine : MachineFile) (most : ℕ) (axis : Axis) (programs : List Program) (first : Side) (around : ℤ) (n m : ℕ)
-    (one longer result : Interval) (held : Bool) → one ≡ at around → longer ≡ grown first n one → result ≡ grown (opposite first) m longer →
-    held ≡ hold_over machine most axis programs one → held ≡ true → IsGrowth machine most axis programs first one n →
-    IsGrowth machine most axis programs (opposite first) longer m → IsGrown machine most axis programs first around result
-grown_is machine most axis programs first around n m one longer result held e f r test is g h =
+pub grown_is : (machine : MachineFile) (most : ℕ) (axis : Axis) (programs : List Program) (first second : Side) (around : ℤ) (n m : ℕ)
+    (one longer result : Interval) → IsStep machine.step → 1 ≤ most → most ≤ 65535 → one ≡ at around → second ≡ opposite first → longer ≡ grown first n one →
+    result ≡ grown second m longer → IsGrowth machine most axis programs first one n → IsGrowth machine most axis programs second longer m →
+    IsGrown machine most axis programs first around result
+grown_is machine most axis programs first second around n m one longer result step least greatest e o f r g h =
     let same = f ∙ ap (grown first n) e in
+    let first_grows = subst (λ i. IsGrowth machine most axis programs first i n) e g in
     record {
-      near = tested machine most axis programs one (at around) held true test is e;
+      near = growth_holds machine most axis programs first (at around) n step least greatest (omega (arith, ints)) first_grows;
       one = n;
       two = m;
-      grows_first = subst (λ i. IsGrowth machine most axis programs first i n) e g;
-      grows_then = subst (λ i. IsGrowth machine most axis programs (opposite first) i m) same h;
-      is = r ∙ ap (grown (opposite first) m) same;
+      grows_first = first_grows;
+      grows_then = subst (λ s. IsGrowth machine most axis programs s (grown first n (at around)) m) o
+          (subst (λ i. IsGrowth machine most axis programs second i m) same h);
+      is = r ∙ ap (grown second m) same ∙ ap (λ s. grown s m (grown first n (at around))) o;
     }
-
--- the limit of growth, one step past it
-pub full_at : (machine : MachineFile) (most : ℕ) (axis : Axis) (programs : List Program) (side : Side) (i : Interval) (n m : ℕ) → n ≡ m →
-    hold_over machine most axis programs (grown side n i) ≡ false → hold_over machine most axis programs (grown side m i) ≡ false
-full_at machine most axis programs side i n m e h = ap (λ k. hold_over machine most axis programs (grown side k i)) (sym e) ∙ h
 
 -- ---- the law
 

@@ -154,7 +154,7 @@ place_within machine tool p p' q' q step hp hq h =
     (within_over (only (grid machine.step p)) (only (grid machine.step p')) (only (grid machine.step q')) (only (grid machine.step q))
     (place_rises machine.step p p' step hp) (place_rises machine.step q' q step hq)) h
 
-action_within : (machine : MachineFile) (most : ℕ) (outer inner : GridBox) (r : Reached) (start end : Bool) (action : Action) → IsStep machine.step →
+pub action_within : (machine : MachineFile) (most : ℕ) (outer inner : GridBox) (r : Reached) (start end : Bool) (action : Action) → IsStep machine.step →
     1 ≤ most → most ≤ 65535 → IsUnder outer.low inner.low → IsUnder inner.high outer.high →
     IsTrue (action_clear machine most outer r start end action) → IsTrue (action_clear machine most inner r start end action)
 action_within machine most outer inner r start end (Mount new) step least greatest low high h =
@@ -170,7 +170,7 @@ action_within machine most outer inner r start end (Move m) step least greatest 
     (way_rises machine.step outer.low inner.low start end m.way step low) (way_rises machine.step inner.high outer.high start end m.way step high) e.1)
 action_within machine most outer inner r start end _ step least greatest low high h = refl
 
-within_from : (machine : MachineFile) (most : ℕ) (outer inner : GridBox) (r : Reached) (start : Bool) (moving : List Bool)
+pub within_from : (machine : MachineFile) (most : ℕ) (outer inner : GridBox) (r : Reached) (start : Bool) (moving : List Bool)
     (actions : List Action) → IsStep machine.step → 1 ≤ most → most ≤ 65535 → IsUnder outer.low inner.low → IsUnder inner.high outer.high →
     IsTrue (holds_from machine most outer r start moving actions) → IsTrue (holds_from machine most inner r start moving actions)
 within_from machine most outer inner r start moving [] step least greatest low high h = refl

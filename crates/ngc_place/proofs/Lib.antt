@@ -17,6 +17,10 @@ pub mod Quotients
 pub mod Tests
 -- Intervals that grow on one side and then on the other are the longest.
 pub mod GrowingIntervals
+-- The greatest number of steps by which an interval can grow, found action by action.
+pub mod GrowthTests
+-- Programs with the same commands and marks fit where one of them does.
+pub mod SamePrograms
 -- Worked programs on a mill with steps of 0.01 mm, by computing the definitions.
 mod Examples
 -- The marks of a program's commands, in order.

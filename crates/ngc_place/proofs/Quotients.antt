@@ -1,6 +1,6 @@
 -- Quotients by a step, and their conversion to 32 bits.
 use Rattle.std.proofs.Common.{◌≡◌, ◌+◌, ◌*◌, ◌/◌, ◌≤◌, ℤ, pos, negsuc, ◌+ℤ◌, ◌-ℤ◌, ◌*ℤ◌, ◌≤ℤ◌, unsigned_abs, to_z, of_z, arith, inl, inr}
-use Rattle.std.specs.Int.{int_div_euclid, w32, w64, w128}
+use Rattle.std.specs.Int.{int_div_euclid, w32, w64}
 use Rattle.std.proofs.lemmas.Int.{ints, unsigned_abs-mul}
 use Rattle.std.proofs.lemmas.Bool.{cases_lt}
 use Rattle.std.proofs.Math.Nat.{div-le_of_le-mul, mul-le-mul_left}
@@ -16,9 +16,6 @@ quotient_size z (negsuc n) least small = absurd (omega (arith, ints, least))
 
 pub kept : (q : ℤ) → unsigned_abs q ≤ 2000000001 → to_z w32 (of_z w32 (to_z w64 (of_z w64 q))) ≡ q
 kept q small = let wide : to_z w64 (of_z w64 q) ≡ q = omega (arith, ints) in rw wide (omega (arith, ints))
-
-pub kept_wide : (q : ℤ) → unsigned_abs q ≤ 2000000001 → to_z w32 (of_z w32 (to_z w128 (of_z w128 q))) ≡ q
-kept_wide q small = let wide : to_z w128 (of_z w128 q) ≡ q = omega (arith, ints) in rw wide (omega (arith, ints))
 
 -- the nearest grid point of a coordinate in range fits in 32 bits
 pub grid_bound : (x s r : ℤ) → IsStep s → unsigned_abs x ≤ 300000000000 → 2 * unsigned_abs (x -ℤ (r *ℤ s)) ≤ unsigned_abs s →

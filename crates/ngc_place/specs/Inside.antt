@@ -1,6 +1,6 @@
 -- The stored form of points and lines, the corners of the box of an arc, the tests of boxes, and
 -- the growth of intervals. Our own.
-use Rattle.std.specs.Prelude.{ℕ, ◌+◌, ◌*◌, ◌/◌, ◌≤◌, unsigned_abs, ℤ, pos, ◌+ℤ◌, ◌-ℤ◌}
+use Rattle.std.specs.Prelude.{◌≡◌, ℕ, ◌+◌, ◌*◌, ◌/◌, ◌^◌, ◌≤◌, unsigned_abs, ℤ, pos, ◌+ℤ◌, ◌-ℤ◌}
 use Rattle.std.specs.Prelude.{Option, Bool, true}
 use Rattle.std.specs.List.{find}
 use Rattle.std.specs.Option.{is_some}
@@ -19,6 +19,7 @@ use Rattle.ngc_collision.specs.declared.solid.Place.{Place}
 use Rattle.ngc_place.specs.declared.straight.Cuts.{Cuts}
 use Rattle.ngc_place.specs.declared.round.PlaneAxis.{PlaneAxis}
 use Rattle.ngc_place.specs.declared.round.PlaneAxis.TheVariants.{U, V}
+use Rattle.ngc_place.specs.declared.round.Reach.{Reach}
 use Rattle.ngc_place.specs.declared.interval.Interval.{Interval}
 use Rattle.ngc_place.specs.declared.interval.Side.{Side}
 use Rattle.ngc_place.specs.declared.interval.Side.TheVariants.{Above, Below}
@@ -74,6 +75,23 @@ greatest_of axis a = greatest (along axis) (start_of a) (other_points a)
 
 unfoldable pub margin_of : ℤ → ArcShape → ℤ
 margin_of step a = margin step a
+
+-- what is kept of an arc: these coordinates, and its margin
+abbrev pub least_in : PlaneAxis → Reach → ℤ
+least_in U r = r.least_u
+least_in V r = r.least_v
+
+abbrev pub greatest_in : PlaneAxis → Reach → ℤ
+greatest_in U r = r.greatest_u
+greatest_in V r = r.greatest_v
+
+pub record IsReach (step : ℤ) (a : ArcShape) (r : Reach) : Type 0 where
+  pub least : (axis : PlaneAxis) → least_in axis r ≡ least_of axis a
+  pub greatest : (axis : PlaneAxis) → greatest_in axis r ≡ greatest_of axis a
+  pub margin : r.margin ≡ margin_of step a
+  pub least_size : (axis : PlaneAxis) → unsigned_abs (least_in axis r) ≤ 10 ^ 11
+  pub greatest_size : (axis : PlaneAxis) → unsigned_abs (greatest_in axis r) ≤ 10 ^ 11
+  pub margin_size : unsigned_abs r.margin ≤ 10 ^ 11
 
 -- the corners of the box of an arc that is shifted, along an axis of its plane
 unfoldable pub first_at : ℤ → StepPos → PlaneAxis → ArcShape → ℤ

@@ -2,4 +2,5 @@ pub mod Shifts
 pub mod Holds
 pub mod Inside
 pub mod Longest
+pub mod Growth
 pub mod Marks

@@ -9,7 +9,7 @@ ghost use Rattle.ngc_place.specs.Holds.{pieces_clear, way_clear, keeps_shape, pl
 ghost use Rattle.ngc_place.specs.Holds.{action_clear, holds as holds_over};
 ghost use Rattle.ngc_place.specs.Inside.{box_clear, piece_clear, line_clear, arc_clear};
 
-use crate::round::{arc_high, arc_low};
+use crate::round::arc_box;
 use crate::spots::{shifted, to_grid};
 use crate::straight::{Cuts, Straight};
 use ngc_arc_geometry::Arc;
@@ -114,9 +114,7 @@ fn arc_is_clear<A: Allocator>(
     requires { AreShifts shifts.now }
     ensures { result ≡ arc_clear (file_of machine.now) tool.now shifts.now moves arc.now }
 {
-    let low = arc_low(machine.step, &shifts.low, moves, arc);
-    let high = arc_high(machine.step, &shifts.high, moves, arc);
-    box_is_clear(machine, tool, &GridBox { low, high })
+    box_is_clear(machine, tool, &arc_box(machine.step, shifts, moves, arc))
 }
 
 /// Whether the start and the end of a path move with the origin.
@@ -177,7 +175,7 @@ fn place_is_clear<A: Allocator>(
 }
 
 /// Returns whether an action is clear over a box of shifts.
-fn action_is_clear<A: Allocator>(
+pub(crate) fn action_is_clear<A: Allocator>(
     machine: &Machine<A>,
     reached: &Reached,
     shifts: &GridBox,
@@ -211,7 +209,7 @@ pub(crate) fn reached_moves(moving: Moving, action: &Action) -> bool
 }
 
 /// Returns the mark with this index, if there is one.
-fn mark_at(moving: &[bool], index: usize) -> Option<bool>
+pub(crate) fn mark_at(moving: &[bool], index: usize) -> Option<bool>
     ensures { result ≡ slice_get moving.now index }
 {
     moving.get(index).copied()

@@ -5,7 +5,7 @@ ghost use Rattle.ngc_fixed_length.specs.Boxes.{grid_above, grid_below};
 ghost use Rattle.ngc_fixed_length.specs.Rounding.{nearest};
 ghost use Rattle.ngc_place.specs.Inside.{SHIFTED_LIMIT};
 
-use ngc_fixed_length::{Nm, rounded_quotient};
+use ngc_fixed_length::{Nm, short_quotient};
 
 /// Returns the last grid point that isn't above a length, in steps. The length and the step have
 /// the same unit.
@@ -35,5 +35,5 @@ pub(crate) fn nearest_step(step: Nm, coordinate: i64) -> i32
     requires near { unsigned_abs coordinate ≤ SHIFTED_LIMIT }
     ensures { result ≡ nearest coordinate step }
 {
-    rounded_quotient(i128::from(coordinate), i128::from(step.nanometres())) as i32
+    short_quotient(coordinate, step.nanometres().unsigned_abs()) as i32
 }

@@ -5,6 +5,8 @@ mod alike;
 mod axis;
 mod fits;
 mod grid;
+mod growing;
+mod growth;
 mod interval;
 pub mod laws;
 mod marking;

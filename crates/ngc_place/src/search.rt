@@ -8,8 +8,10 @@ ghost use Rattle.ngc_place.specs.Longest.{IsGrown, IsFound, IsNearest, first_sid
 ghost use Rattle.ngc_place.specs.declared.interval.Side.TheVariants as sides;
 
 use crate::axis::Axis;
+use crate::growing::Growing;
+use crate::growth::growth;
 use crate::interval::{Interval, Side};
-use crate::programs::{Program, all_hold};
+use crate::programs::Program;
 use ngc_machine_files::Machine;
 use std::alloc::Allocator;
 
@@ -21,51 +23,6 @@ const TRIED: [i32; 45] = [
     -65_536, 131_072, -131_072, 262_144, -262_144, 524_288, -524_288, 1_048_576, -1_048_576,
     2_097_152, -2_097_152,
 ];
-
-/// Returns whether each of some programs fits the machine at each shift of an interval.
-fn hold_over<A: Allocator>(
-    machine: &Machine<A>,
-    programs: &[Program],
-    axis: Axis,
-    interval: Interval,
-    cuts: u16,
-) -> bool
-    requires interval { IsInLimit interval }
-    requires cuts { 1 ≤ cuts }
-    ensures { result ≡ hold_over (file_of machine.now) cuts axis programs.now interval }
-{
-    all_hold(machine, programs, &interval.shifts(axis), cuts)
-}
-
-/// Returns the greatest number of steps by which an interval can grow on one side.
-fn growth<A: Allocator>(
-    machine: &Machine<A>,
-    programs: &[Program],
-    axis: Axis,
-    interval: Interval,
-    side: Side,
-    cuts: u16,
-) -> u32
-    requires limit { IsInLimit interval }
-    requires cuts { 1 ≤ cuts }
-    requires hold { IsTrue (hold_over (file_of machine.now) cuts axis programs.now interval) }
-    ensures { IsGrowth (file_of machine.now) cuts axis programs.now side interval result }
-{
-    let mut steps = 0;
-    // the interval doesn't hold if it grows by `steps + span`
-    let mut span = interval.steps_left(side) + 1;
-    while span > 1 {
-        let half = span / 2;
-        let longer = interval.grown(side, steps + half);
-        if hold_over(machine, programs, axis, longer, cuts) {
-            steps += half;
-            span -= half;
-        } else {
-            span = half;
-        }
-    }
-    steps
-}
 
 /// Returns the interval around a shift that grows on one side as far as the programs hold, and then
 /// on the opposite side. Returns `None` if the programs don't fit at the shift.
@@ -83,15 +40,27 @@ fn grown<A: Allocator>(
         (hold_over (file_of machine.now) cuts axis programs.now (interval_at around) ≡ false)
         (λ i. IsGrown (file_of machine.now) cuts axis programs.now side around i) }
 {
-    let one = Interval::at(around);
-    if !hold_over(machine, programs, axis, one, cuts) {
-        return None;
+    let interval = Interval::at(around);
+    let growing = Growing {
+        axis,
+        interval,
+        side,
+    };
+    let first = match growth(machine, programs, &growing, cuts) {
+        Some(first) => first,
+        None => return None,
+    };
+    let interval = interval.grown(side, first);
+    let side = side.opposite();
+    let growing = Growing {
+        axis,
+        interval,
+        side,
+    };
+    match growth(machine, programs, &growing, cuts) {
+        Some(then) => Some(interval.grown(side, then)),
+        None => None,
     }
-    let first = growth(machine, programs, axis, one, side, cuts);
-    let longer = one.grown(side, first);
-    let other = side.opposite();
-    let then = growth(machine, programs, axis, longer, other, cuts);
-    Some(longer.grown(other, then))
 }
 
 /// Returns the longest interval of shifts along an axis, around a shift, at each of which the

@@ -1,5 +1,6 @@
 //! Lines at a shift of the origin, and the boxes of their pieces.
 ghost use Rattle.std.specs.Prelude.{◌≡◌, ◌≤◌, ◌+◌, ◌*◌, ◌/◌, ◌*ℤ◌, ◌-ℤ◌, ◌≤ℤ◌, pos, unsigned_abs};
+ghost use Rattle.std.specs.Prelude.{◌==◌, ◌&&◌};
 ghost use Rattle.std.specs.Int.{int_min, int_max};
 ghost use Rattle.ngc_fixed_length.specs.Length.{IsStep};
 ghost use Rattle.ngc_fixed_length.specs.Rounding.{nearest};
@@ -11,7 +12,7 @@ ghost use Rattle.ngc_place.specs.Shifts.{IsShift, shifted as point_shifted};
 ghost use Rattle.ngc_place.specs.Inside.{SHIFTED_LIMIT, IsNear, AreOnLine};
 
 use crate::grid::{first_grid_point, last_grid_point, nearest_step};
-use crate::spots::shifted;
+use crate::spots::{shifted, to_grid};
 use ngc_collision::Place;
 use ngc_fixed_length::{Nm, Point3, StepPos};
 
@@ -49,6 +50,13 @@ impl Cuts {
             from: part_before(k, count),
             to: part_before(k + 1, count),
         }
+    }
+
+    /// Returns whether the section is the whole line.
+    fn is_whole(&self) -> bool
+        ensures { result ≡ (self.now.from == 0 && self.now.to == 65536) }
+    {
+        self.from == 0 && self.to == WHOLE
     }
 }
 
@@ -207,8 +215,8 @@ impl Straight {
         }
     }
 
-    /// Returns the lowest corner of the box of a piece.
-    pub(crate) fn low(&self, step: Nm, cuts: &Cuts) -> StepPos
+    /// Returns the lowest corner of the box of a section.
+    fn low_between(&self, step: Nm, cuts: &Cuts) -> StepPos
         requires step { IsStep step }
         requires on_line { AreOnLine cuts.now }
         ensures { result ≡ (line_box step (place_of self.now.start) (place_of self.now.end)
@@ -221,8 +229,21 @@ impl Straight {
         }
     }
 
-    /// Returns the highest corner of the box of a piece.
-    pub(crate) fn high(&self, step: Nm, cuts: &Cuts) -> StepPos
+    /// Returns the lowest corner of the box of a piece.
+    pub(crate) fn low(&self, step: Nm, cuts: &Cuts) -> StepPos
+        requires step { IsStep step }
+        requires on_line { AreOnLine cuts.now }
+        ensures { result ≡ (line_box step (place_of self.now.start) (place_of self.now.end)
+            cuts.now.from cuts.now.to).low }
+    {
+        if cuts.is_whole() {
+            return to_grid(step, &self.start).lesser(&to_grid(step, &self.end));
+        }
+        self.low_between(step, cuts)
+    }
+
+    /// Returns the highest corner of the box of a section.
+    fn high_between(&self, step: Nm, cuts: &Cuts) -> StepPos
         requires step { IsStep step }
         requires on_line { AreOnLine cuts.now }
         ensures { result ≡ (line_box step (place_of self.now.start) (place_of self.now.end)
@@ -233,5 +254,18 @@ impl Straight {
             y: last_needed(step, self.start.y, self.end.y, cuts),
             z: last_needed(step, self.start.z, self.end.z, cuts),
         }
+    }
+
+    /// Returns the highest corner of the box of a piece.
+    pub(crate) fn high(&self, step: Nm, cuts: &Cuts) -> StepPos
+        requires step { IsStep step }
+        requires on_line { AreOnLine cuts.now }
+        ensures { result ≡ (line_box step (place_of self.now.start) (place_of self.now.end)
+            cuts.now.from cuts.now.to).high }
+    {
+        if cuts.is_whole() {
+            return to_grid(step, &self.start).greater(&to_grid(step, &self.end));
+        }
+        self.high_between(step, cuts)
     }
 }

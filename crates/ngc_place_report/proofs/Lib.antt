@@ -4,3 +4,5 @@ pub mod StayingLaws
 pub mod CertifiedLaws
 -- What is known of the shifts along an axis, from the commands that are executed with the origin shifted.
 pub mod FoundLaws
+-- A program without a line that begins with `/` is the same at both settings.
+pub mod SamePrograms

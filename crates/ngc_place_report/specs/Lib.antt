@@ -7,3 +7,4 @@ pub mod Nearest
 pub mod Words
 pub mod Facts
 pub mod Texts
+pub mod Same

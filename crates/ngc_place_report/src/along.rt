@@ -1,9 +1,10 @@
 //! The shifts of an origin along an axis at which a program fits.
-ghost use Rattle.std.specs.Prelude.{◌≡◌, ◌≤◌, true, IfOk, IfSome, unsigned_abs};
-ghost use Rattle.ngc_place.specs.Longest.{IsInLimit};
+ghost use Rattle.std.specs.Prelude.{◌≡◌, ◌≤◌, true, IfOk, IfSome, unsigned_abs, [], ◌∷◌};
+ghost use Rattle.ngc_place.specs.Longest.{IsInLimit, IsNearest};
 ghost use Rattle.ngc_place.specs.Shifts.{SHIFT_LIMIT, IsShift, along as shift_along};
 ghost use Rattle.ngc_shifted_program.specs.Executions.{Execution, IsExecution};
 ghost use Rattle.ngc_place_report.specs.Findings as spec;
+ghost use Rattle.ngc_place_report.specs.Same.{AreSame};
 
 use crate::placement::{AlongAxis, Finding, Here, Placement};
 use crate::range::{in_range, origin_along};
@@ -23,6 +24,52 @@ fn shift(axis: Axis, steps: i32) -> StepPos
     axis.shifts(steps, steps).low
 }
 
+fn same_marks(a: &[bool], b: &[bool]) -> bool
+    ensures { result ≡ true → a.now ≡ b.now }
+{
+    if a.len() != b.len() {
+        return false;
+    }
+    for i in 0..a.len() {
+        if a[i] != b[i] {
+            return false;
+        }
+    }
+    true
+}
+
+/// Returns whether the programs of both settings are known to have the same commands and marks.
+fn are_same<A: Allocator>(job: &Job<A>, programs: &Programs) -> bool
+    requires { spec.AreMarked job.now programs.now.off programs.now.on }
+    ensures { result ≡ true → AreSame programs.now.off programs.now.on }
+{
+    if job.has_deleted_lines() {
+        return false;
+    }
+    same_marks(programs.off.moving, programs.on.moving)
+}
+
+/// Returns the interval around the first of the shifts that are tried at which the programs of both
+/// settings fit. The same program isn't judged twice.
+fn nearest_of_both<A: Allocator>(
+    job: &Job<A>,
+    axis: Axis,
+    programs: &Programs,
+    cuts: u16,
+) -> Option<Interval>
+    requires cuts { 1 ≤ cuts }
+    requires marked { spec.AreMarked job.now programs.now.off programs.now.on }
+    ensures nearest { IsNearest job.now.machine cuts axis
+        (programs.now.off ∷ programs.now.on ∷ []) result }
+    ensures limit { IfSome result IsInLimit }
+{
+    if are_same(job, programs) {
+        nearest(job.machine(), &[programs.off], axis, cuts)
+    } else {
+        nearest(job.machine(), &[programs.off, programs.on], axis, cuts)
+    }
+}
+
 /// Returns the interval of shifts that is found along an axis.
 fn interval_along<A: Allocator>(
     job: &Job<A>,
@@ -31,13 +78,14 @@ fn interval_along<A: Allocator>(
     programs: Programs,
     cuts: u16,
 ) -> Option<Interval>
-    requires { 1 ≤ cuts }
+    requires cuts { 1 ≤ cuts }
+    requires marked { spec.AreMarked job.now programs.off programs.on }
     ensures value { spec.IsIntervalAlong job.now system axis cuts programs.entry.off
         programs.entry.on result }
     ensures limit { IfSome result IsInLimit }
 {
     let machine = job.machine();
-    let interval = match nearest(machine, &[programs.off, programs.on], axis, cuts) {
+    let interval = match nearest_of_both(job, axis, &programs, cuts) {
         Some(interval) => interval,
         None => return None,
     };
@@ -78,7 +126,8 @@ fn finding_along<A: Allocator + Copy>(
     programs: Programs,
     cuts: u16,
 ) -> Result<Finding, AllocError>
-    requires { 1 ≤ cuts }
+    requires cuts { 1 ≤ cuts }
+    requires marked { spec.AreMarked job.now programs.off programs.on }
     ensures { (does : Execution) → IsExecution program.now does →
         IfOk result (λ finding. spec.IsFinding does job.now
         system axis cuts programs.entry.off programs.entry.on finding) }
@@ -127,6 +176,8 @@ fn find_along<A: Allocator + Copy>(
         Some(marks) => marks,
         None => return Ok(unmarked()),
     };
+    // its memory is free for the executions at both ends
+    drop(shifted);
     let off = Program {
         commands: job.commands(false),
         moving: marks.off.as_slice(),

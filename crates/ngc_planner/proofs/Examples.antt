@@ -169,6 +169,8 @@ jumping jump = record {
   fixtures = [];
   margins = built_in_machine.margins;
   rapids = built_in_machine.rapids;
+  dialect = built_in_machine.dialect;
+  stock = built_in_machine.stock;
 }
 
 -- from zero along a vector, and on along another one

@@ -10,17 +10,16 @@ use Rattle.ngc_report.specs.Forms.{closing}
 use Rattle.ngc_report.specs.declared.form.Form.{Form}
 use Rattle.ngc_program_report.specs.Coordinates.{History}
 use Rattle.ngc_program_report.specs.Reported.{ReportedLines}
-use Rattle.ngc_program_report.specs.Texts.{setting_text, shop_text}
-use Rattle.ngc_program_report.specs.Times.{ProgramTimeData}
+use Rattle.ngc_program_report.specs.Texts.{Findings, setting_text, shop_text}
 
 pub setting_as : (form : Form) (origins : OriginList) (first named : Bool) (s : Setting) (entries : List Entry)
-    (time : ProgramTimeData) (h : History) (lines : ReportedLines)
+    (found : Findings) (h : History) (lines : ReportedLines)
     (machine own : MachineFile) (tools held : List Tool) (commands given : List Command) → machine ≡ own → tools ≡ held → commands ≡ given
-    → setting_text form origins first named s (record { machine = machine; tools = tools }) commands entries time h lines
-    ≡ setting_text form origins first named s (record { machine = own; tools = held }) given entries time h lines
-setting_as form origins first named s entries time h lines machine own tools held commands given is has are =
-    ap₂ (λ (m : MachineFile) (ts : List Tool). setting_text form origins first named s (record { machine = m; tools = ts }) commands entries time h lines) is has
-    ∙ ap (λ (cs : List Command). setting_text form origins first named s (record { machine = own; tools = held }) cs entries time h lines) are
+    → setting_text form origins first named s (record { machine = machine; tools = tools }) commands entries found h lines
+    ≡ setting_text form origins first named s (record { machine = own; tools = held }) given entries found h lines
+setting_as form origins first named s entries found h lines machine own tools held commands given is has are =
+    ap₂ (λ (m : MachineFile) (ts : List Tool). setting_text form origins first named s (record { machine = m; tools = ts }) commands entries found h lines) is has
+    ∙ ap (λ (cs : List Command). setting_text form origins first named s (record { machine = own; tools = held }) cs entries found h lines) are
 
 pub shop_as : (form : Form) (machine own : MachineFile) (tools given : List Tool) → machine ≡ own → tools ≡ given
     → shop_text form (record { machine = machine; tools = tools }) ++ closing form ≡ shop_text form (record { machine = own; tools = given }) ++ closing form

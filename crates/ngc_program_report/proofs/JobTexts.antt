@@ -20,76 +20,81 @@ use Rattle.ngc_program_report.specs.Coordinates.{History}
 use Rattle.ngc_program_report.specs.Framed.{FramedData, framed_in, frames_at, frames_in, frames_or, history_in, setup_in}
 use Rattle.ngc_program_report.specs.JobReports.{IsFitText, IsRefusalsText, IsStartClear, OffBegins, OnBegins, first_text}
 use Rattle.ngc_program_report.specs.Reported.{ReportedLines}
-use Rattle.ngc_program_report.specs.Texts.{LastsFor, accepted_text, fits_text, is_on, refusal_text, refusals_text}
-use Rattle.ngc_program_report.specs.Times.{ProgramTimeData}
+use Rattle.ngc_program_report.specs.Texts.{AreFindings, Findings, accepted_text, fits_text, is_on, refusal_text, refusals_text}
+use Rattle.ngc_stock_report.specs.Walked.{IsWalked, WalkData}
 use Rattle.ngc_program_report.specs.declared.framed.FramedJob.{FramedJob}
 
 -- the report of the accepted program is the report of the job
 pub accepted_as : (j : JobData) (c : CertificateData) (form : Form) (origins : OriginList) (apart : Bool)
-    (off_time on_time : ProgramTimeData) (off_h on_h : History) (lines : ReportedLines) → apart ≡ is_some j.on
-    → accepted_text form origins apart (accepted_of j) c off_time on_time off_h on_h lines
-    ≡ fits_text form origins (is_some j.on) (setup_in j) j.off (commands_in true j) c off_time on_time off_h on_h lines
-accepted_as j c form origins apart off_time on_time off_h on_h lines is =
-    ap (λ (d : Bool). fits_text form origins d (setup_in j) j.off (commands_in true j) c off_time on_time off_h on_h lines) is
+    (off_found on_found : Findings) (off_h on_h : History) (lines : ReportedLines) → apart ≡ is_some j.on
+    → accepted_text form origins apart (accepted_of j) c off_found on_found off_h on_h lines
+    ≡ fits_text form origins (is_some j.on) (setup_in j) j.off (commands_in true j) c off_found on_found off_h on_h lines
+accepted_as j c form origins apart off_found on_found off_h on_h lines is =
+    ap (λ (d : Bool). fits_text form origins d (setup_in j) j.off (commands_in true j) c off_found on_found off_h on_h lines) is
 
 -- if no line begins with `/`, both settings have the same commands
 pub alike : (off : List Command) (on : Option (List Command)) → is_some on ≡ false → on_or off on ≡ off
 alike off None is = refl
 alike off (Some on) is = absurd (cc is)
 
--- the job takes the same time as the accepted program
-pub lasts_off : (a : AcceptedData) (j : JobData) (time : ProgramTimeData) → a ≡ accepted_of j → LastsFor a.machine (commands_at false a) time
-    → LastsFor j.machine j.off time
-lasts_off a j time is lasts = subst (λ (x : AcceptedData). LastsFor x.machine (commands_at false x) time) is lasts
+-- what a walk finds in the commands of an equal program
+pub walked_as : (a other : AcceptedData) (found : Option WalkData) (b : Bool) → a ≡ other → IsWalked a.machine (commands_at b a) found
+    → IsWalked other.machine (commands_at b other) found
+walked_as a other found b is walked = subst (λ (x : AcceptedData). IsWalked x.machine (commands_at b x) found) is walked
 
-pub lasts_on : (a : AcceptedData) (j : JobData) (time : ProgramTimeData) → a ≡ accepted_of j → LastsFor a.machine (commands_at true a) time
-    → LastsFor j.machine (commands_in true j) time
-lasts_on a j time is lasts = subst (λ (x : AcceptedData). LastsFor x.machine (commands_at true x) time) is lasts
+-- what is found of the job is what is found of the accepted program
+pub found_off : (a : AcceptedData) (j : JobData) (found : Findings) → a ≡ accepted_of j → AreFindings a.machine (commands_at false a) found
+    → AreFindings j.machine j.off found
+found_off a j found is lasts = subst (λ (x : AcceptedData). AreFindings x.machine (commands_at false x) found) is lasts
 
-pub lasts_alike : (j : JobData) (time : ProgramTimeData) → is_some j.on ≡ false → LastsFor j.machine j.off time → LastsFor j.machine (commands_in true j) time
-lasts_alike j time none lasts = subst (λ (cs : List Command). LastsFor j.machine cs time) (sym (alike j.off j.on none)) lasts
+pub found_on : (a : AcceptedData) (j : JobData) (found : Findings) → a ≡ accepted_of j → AreFindings a.machine (commands_at true a) found
+    → AreFindings j.machine (commands_in true j) found
+found_on a j found is lasts = subst (λ (x : AcceptedData). AreFindings x.machine (commands_at true x) found) is lasts
+
+pub found_alike : (j : JobData) (found : Findings) → is_some j.on ≡ false → AreFindings j.machine j.off found → AreFindings j.machine (commands_in true j) found
+found_alike j found none lasts = subst (λ (cs : List Command). AreFindings j.machine cs found) (sym (alike j.off j.on none)) lasts
 
 pub fit_text : (f : FramedData) (c : CertificateData) (form : Form) (origins : OriginList) (apart : Bool) (a : AcceptedData)
-    (off_time on_time : ProgramTimeData) (off_h on_h : History) (lines : ReportedLines) → apart ≡ is_some f.job.on
-    → a ≡ accepted_of f.job → LastsFor f.job.machine f.job.off off_time → LastsFor f.job.machine (commands_in true f.job) on_time
+    (off_found on_found : Findings) (off_h on_h : History) (lines : ReportedLines) → apart ≡ is_some f.job.on
+    → a ≡ accepted_of f.job → AreFindings f.job.machine f.job.off off_found → AreFindings f.job.machine (commands_in true f.job) on_found
     → off_h ≡ f.off → on_h ≡ f.on
-    → IsFitText f c form origins lines (accepted_text form origins apart a c off_time on_time off_h on_h lines)
-fit_text f c form origins apart a off_time on_time off_h on_h lines is_apart is off_lasts on_lasts off_is on_is = record {
-  off_time = off_time;
-  off_lasts = off_lasts;
-  on_time = on_time;
-  on_lasts = on_lasts;
-  tells = ap (λ (x : AcceptedData). accepted_text form origins apart x c off_time on_time off_h on_h lines) is
-      ∙ accepted_as f.job c form origins apart off_time on_time off_h on_h lines is_apart
-      ∙ ap₂ (λ (x y : History). fits_text form origins (is_some f.job.on) (setup_in f.job) f.job.off (commands_in true f.job) c off_time on_time x y lines) off_is on_is;
+    → IsFitText f c form origins lines (accepted_text form origins apart a c off_found on_found off_h on_h lines)
+fit_text f c form origins apart a off_found on_found off_h on_h lines is_apart is off_lasts on_lasts off_is on_is = record {
+  off_found = off_found;
+  off_are = off_lasts;
+  on_found = on_found;
+  on_are = on_lasts;
+  tells = ap (λ (x : AcceptedData). accepted_text form origins apart x c off_found on_found off_h on_h lines) is
+      ∙ accepted_as f.job c form origins apart off_found on_found off_h on_h lines is_apart
+      ∙ ap₂ (λ (x y : History). fits_text form origins (is_some f.job.on) (setup_in f.job) f.job.off (commands_in true f.job) c off_found on_found x y lines) off_is on_is;
 }
 
 -- the same for the motions of one setting, where both settings have the same commands: the frames at `On` aren't reported
 pub fit_once : {A : Type 0} (f : FramedJob A) (c : CertificateData) (form : Form) (origins : OriginList) (a : AcceptedData) (entries : List Entry)
-    (time : ProgramTimeData) (lines : ReportedLines)
-    → is_some f.job.on ≡ false → a ≡ accepted_of f.job → entries ≡ c.off → LastsFor f.job.machine f.job.off time
+    (found : Findings) (lines : ReportedLines)
+    → is_some f.job.on ≡ false → a ≡ accepted_of f.job → entries ≡ c.off → AreFindings f.job.machine f.job.off found
     → IsFitText (framed_in f) c form origins lines
-    (accepted_text form origins false a (record { off = entries; on = entries }) time time (history_in f.off) (history_in f.off) lines)
-fit_once f c form origins a entries time lines none is are lasts =
+    (accepted_text form origins false a (record { off = entries; on = entries }) found found (history_in f.off) (history_in f.off) lines)
+fit_once f c form origins a entries found lines none is are lasts =
     let h : History = history_in f.off in
     subst (IsFitText (framed_in f) c form origins lines)
-    (sym (ap (λ (l : List Entry). accepted_text form origins false a (record { off = l; on = l }) time time h h lines) are))
-    (fit_text (framed_in f) c form origins false a time time h (history_in (frames_at On f)) lines (sym none) is lasts (lasts_alike f.job time none lasts)
+    (sym (ap (λ (l : List Entry). accepted_text form origins false a (record { off = l; on = l }) found found h h lines) are))
+    (fit_text (framed_in f) c form origins false a found found h (history_in (frames_at On f)) lines (sym none) is lasts (found_alike f.job found none lasts)
     refl refl)
 
 -- and for those of each setting
 pub fit_both : {A : Type 0} (f : FramedJob A) (on_frames : FrameHistory A) (c : CertificateData) (form : Form) (origins : OriginList) (a : AcceptedData)
-    (off on : List Entry) (off_time on_time : ProgramTimeData) (lines : ReportedLines)
-    → true ≡ is_some f.job.on → a ≡ accepted_of f.job → off ≡ c.off → on ≡ c.on → LastsFor f.job.machine f.job.off off_time
-    → LastsFor f.job.machine (commands_in true f.job) on_time → on_frames ≡ frames_or f.off f.on
+    (off on : List Entry) (off_found on_found : Findings) (lines : ReportedLines)
+    → true ≡ is_some f.job.on → a ≡ accepted_of f.job → off ≡ c.off → on ≡ c.on → AreFindings f.job.machine f.job.off off_found
+    → AreFindings f.job.machine (commands_in true f.job) on_found → on_frames ≡ frames_or f.off f.on
     → IsFitText (framed_in f) c form origins lines
-    (accepted_text form origins true a (record { off = off; on = on }) off_time on_time (history_in f.off) (history_in on_frames) lines)
-fit_both f on_frames c form origins a off on off_time on_time lines some is off_are on_are off_lasts on_lasts same =
+    (accepted_text form origins true a (record { off = off; on = on }) off_found on_found (history_in f.off) (history_in on_frames) lines)
+fit_both f on_frames c form origins a off on off_found on_found lines some is off_are on_are off_lasts on_lasts same =
     let off_h : History = history_in f.off in
     let on_h : History = history_in on_frames in
     subst (IsFitText (framed_in f) c form origins lines)
-    (sym (ap₂ (λ (x y : List Entry). accepted_text form origins true a (record { off = x; on = y }) off_time on_time off_h on_h lines) off_are on_are))
-    (fit_text (framed_in f) c form origins true a off_time on_time off_h on_h lines some is off_lasts on_lasts refl (ap history_in same))
+    (sym (ap₂ (λ (x y : List Entry). accepted_text form origins true a (record { off = x; on = y }) off_found on_found off_h on_h lines) off_are on_are))
+    (fit_text (framed_in f) c form origins true a off_found on_found off_h on_h lines some is off_lasts on_lasts refl (ap history_in same))
 
 -- the motions of a plan for the accepted program are those for the job
 pub planned_as : {A : Type 0} (j : JobData) (a : AcceptedData) (b : Bool) (plan : Plan A) → a ≡ accepted_of j →

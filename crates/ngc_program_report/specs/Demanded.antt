@@ -2,7 +2,7 @@
 -- own.
 use Rattle.std.specs.Prelude.{ℕ, ℤ, min, nat_lt, nat_le, unsigned_abs, List, [], ◌∷◌, ◌++◌, codes, decimal}
 use Rattle.std.specs.Prelude.{take, drop, slice_get, Option, Some, None, option_and_then, Bool, ◌&&◌}
-use Rattle.std.specs.Prelude.{true, false, if◌then◌else◌}
+use Rattle.std.specs.Prelude.{false, if◌then◌else◌}
 use Rattle.std.specs.Fmt.{signed_decimal}
 use Rattle.ngc_fixed_length.specs.Boxes.{only}
 use Rattle.ngc_fixed_length.specs.Grid.{grid}

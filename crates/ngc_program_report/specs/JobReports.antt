@@ -25,18 +25,17 @@ use Rattle.ngc_program_report.specs.declared.request.ReportRequest.{ReportReques
 use Rattle.ngc_program_report.specs.Coordinates.{History}
 use Rattle.ngc_program_report.specs.Framed.{FramedData, frames_in, setup_in}
 use Rattle.ngc_program_report.specs.Reported.{ReportedLines}
-use Rattle.ngc_program_report.specs.Texts.{LastsFor, fits_text, is_on, refusal_text, refusals_text}
-use Rattle.ngc_program_report.specs.Times.{ProgramTimeData}
+use Rattle.ngc_program_report.specs.Texts.{AreFindings, Findings, fits_text, is_on, refusal_text, refusals_text}
 
 -- the report of a job with this certificate, in its frames, for a program with these lines
 pub record IsFitText (f : FramedData) (c : CertificateData) (form : Form) (origins : OriginList)
     (lines : ReportedLines) (text : List ℕ) : Type 0 where
-  pub off_time : ProgramTimeData
-  pub off_lasts : LastsFor f.job.machine f.job.off off_time
-  pub on_time : ProgramTimeData
-  pub on_lasts : LastsFor f.job.machine (commands_in true f.job) on_time
+  pub off_found : Findings
+  pub off_are : AreFindings f.job.machine f.job.off off_found
+  pub on_found : Findings
+  pub on_are : AreFindings f.job.machine (commands_in true f.job) on_found
   pub tells : text ≡ fits_text form origins (is_some f.job.on) (setup_in f.job) f.job.off
-      (commands_in true f.job) c off_time on_time f.off f.on lines
+      (commands_in true f.job) c off_found on_found f.off f.on lines
 
 -- the report of a program with a valid certificate has no negative margin
 abbrev pub ValidStaysInside : Type 0

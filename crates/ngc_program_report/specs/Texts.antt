@@ -43,12 +43,15 @@ use Rattle.ngc_origin_warnings.specs.Missing.{missing_text}
 use Rattle.ngc_origin_warnings.specs.Warnings.{origin_warnings}
 use Rattle.ngc_tool_figures.specs.Texts.{figures_text}
 use Rattle.ngc_tool_warnings.specs.Spelling.{tool_warnings}
+use Rattle.ngc_stock_report.specs.Texts.{material_text}
+use Rattle.ngc_stock_report.specs.Walked.{IsWalked, WalkData}
 use Rattle.ngc_setup_sheet.specs.Sheets.{warning_facts, warnings_text}
 use Rattle.ngc_program_report.specs.Demanded.{demanded_text}
 use Rattle.ngc_program_report.specs.declared.run_time.RunTime.{RunTime}
 use Rattle.ngc_program_report.specs.Coordinates.{History, coordinates_text, refused_path}
 use Rattle.ngc_program_report.specs.Met.{met_at}
-use Rattle.ngc_program_report.specs.Reported.{ReportedLines}
+use Rattle.ngc_dialect_note_texts.specs.Texts.{notes_text}
+use Rattle.ngc_program_report.specs.Reported.{ReportedLines, SettingNotes, notes_at}
 use Rattle.ngc_program_report.specs.Times.{ProgramTimeData, seconds_text, time_text, uses_text}
 
 -- ---- the time of a program
@@ -58,6 +61,19 @@ abbrev pub LastsFor : MachineFile → List Command → ProgramTimeData → Type 
 LastsFor machine commands time =
     IsTimedThrough (job_of machine commands) time.whole.ticks time.parts ×
     (time.whole.ticks_per_second ≡ machine.ticks_per_second)
+
+-- what is found of a program at a setting: its time, and which traverses may touch the material
+pub record Findings : Type 0 where
+  pub time : ProgramTimeData
+  pub material : Option WalkData
+
+abbrev pub findings : ProgramTimeData → Option WalkData → Findings
+findings time material = record { time = time; material = material }
+
+-- a machine runs these commands in this time, and a walk over them finds these traverses
+pub record AreFindings (machine : MachineFile) (commands : List Command) (f : Findings) : Type 0 where
+  pub lasts : LastsFor machine commands f.time
+  pub walked : IsWalked machine commands f.material
 
 -- the line with the time
 abbrev pub takes_words : RunTime → List ℕ
@@ -118,13 +134,14 @@ is_on Off = false
 is_on On = true
 
 -- the warnings for the words of a program's lines; in another language, where they have other
--- meanings, those for the length offsets that they set
+-- meanings, those for the length offsets that they set, and the notes on them
 abbrev pub language_warnings : Form → Bool → Setup → History → List Command → Option (List Line) →
-    List ℕ
-language_warnings form deletes setup h commands (Some lines) =
+    SettingNotes → List ℕ
+language_warnings form deletes setup h commands (Some lines) notes =
     word_warnings form deletes setup.machine setup.tools commands lines
-language_warnings form deletes setup h commands None =
+language_warnings form deletes setup h commands None notes =
     length_warnings form setup.machine h.start h.changes commands
+    ++ notes_text form (notes_at deletes notes)
 
 -- the warnings at a setting: for the commands there, for tool changes, for the words of the
 -- program's lines, and for the origins from which it moves
@@ -132,7 +149,7 @@ abbrev pub warnings : Form → Setting → Setup → History → List Command �
 warnings form s setup h commands lines =
     report_text form (warning_lines setup.machine commands)
     ++ (tool_warnings form setup.machine commands
-    ++ (language_warnings form (is_on s) setup h commands lines.examined
+    ++ (language_warnings form (is_on s) setup h commands lines.examined lines.notes
     ++ origin_warnings form setup.machine setup.tools h.start h.changes commands))
 
 -- the lowest heights at a setting, and the warnings
@@ -141,15 +158,16 @@ remarks form s setup h commands lines =
     tips_text form (lowest_tips setup.tools h.start h.changes commands)
     ++ warnings form s setup h commands lines
 
--- what fits at a setting, the time and the figures of the tools there, the lowest heights, and the
--- warnings
+-- what fits at a setting, the time and the figures of the tools there, the lowest heights, the
+-- warnings, and which traverses may touch the material
 abbrev pub setting_text : Form → OriginList → Bool → Bool → Setting → Setup → List Command →
-    List Entry → ProgramTimeData → History → ReportedLines → List ℕ
-setting_text form origins first named s setup commands motions time h lines =
+    List Entry → Findings → History → ReportedLines → List ℕ
+setting_text form origins first named s setup commands motions found h lines =
     heading form origins (kept_by setup.machine) first named s
     ++ (report_text form (fit_lines setup.machine commands motions)
-    ++ (duration_text form setup.tools commands time
-    ++ remarks form s setup h commands lines))
+    ++ (duration_text form setup.tools commands found.time
+    ++ (remarks form s setup h commands lines
+    ++ material_text form setup.machine setup.tools found.material)))
 
 -- the warnings about the machine and its tools
 abbrev pub shop_text : Form → Setup → List ℕ
@@ -159,22 +177,21 @@ shop_text Json setup = warning_facts setup.machine setup.tools
 -- the text for both settings, or once if they have the same commands; and the warnings about
 -- machine and tools
 abbrev pub fits_text : Form → OriginList → Bool → Setup → List Command → List Command →
-    CertificateData → ProgramTimeData → ProgramTimeData → History → History → ReportedLines →
-    List ℕ
-fits_text form origins false setup off on c off_time on_time off_h on_h lines =
-    setting_text form origins true false Off setup off c.off off_time off_h lines
+    CertificateData → Findings → Findings → History → History → ReportedLines → List ℕ
+fits_text form origins false setup off on c off_found on_found off_h on_h lines =
+    setting_text form origins true false Off setup off c.off off_found off_h lines
     ++ (shop_text form setup ++ closing form)
-fits_text form origins true setup off on c off_time on_time off_h on_h lines =
-    setting_text form origins true true Off setup off c.off off_time off_h lines
-    ++ (setting_text form origins false true On setup on c.on on_time on_h lines
+fits_text form origins true setup off on c off_found on_found off_h on_h lines =
+    setting_text form origins true true Off setup off c.off off_found off_h lines
+    ++ (setting_text form origins false true On setup on c.on on_found on_h lines
     ++ (shop_text form setup ++ closing form))
 
 -- the text for an accepted program
 abbrev pub accepted_text : Form → OriginList → Bool → AcceptedData → CertificateData →
-    ProgramTimeData → ProgramTimeData → History → History → ReportedLines → List ℕ
-accepted_text form origins named a c off_time on_time off_h on_h lines =
+    Findings → Findings → History → History → ReportedLines → List ℕ
+accepted_text form origins named a c off_found on_found off_h on_h lines =
     fits_text form origins named (record { machine = a.machine; tools = a.tools }) a.off a.on c
-    off_time on_time off_h on_h lines
+    off_found on_found off_h on_h lines
 
 -- the number of the reported fault, which `ngc explain` explains
 abbrev pub hint : Form → ℕ → List ℕ

@@ -6,23 +6,28 @@ ghost use Rattle.ngc_machine_files.specs.Tools.{tools_of};
 ghost use Rattle.ngc_report.specs.Forms.{closing};
 ghost use Rattle.ngc_lowest_tips.specs.Tips.{lowest_tips};
 ghost use Rattle.ngc_program_report.specs.Coordinates.{history_of};
-ghost use Rattle.ngc_program_report.specs.Reported.{reported};
-ghost use Rattle.ngc_program_report.specs.Texts.{accepted_text, duration_text, is_on, language_warnings, remarks};
+ghost use Rattle.ngc_dialect_note_texts.specs.Texts.{notes_text};
+ghost use Rattle.ngc_length_warnings.specs.Spelling.{length_warnings};
+ghost use Rattle.ngc_program_report.specs.Reported.{noted_by, notes_at, reported};
+ghost use Rattle.ngc_program_report.specs.Texts.{accepted_text, duration_text, findings, is_on, language_warnings, remarks};
 ghost use Rattle.ngc_program_report.specs.Texts.{setting_text, shop_text, takes_line, tool_figures};
 ghost use Rattle.ngc_program_report.specs.Texts.{warnings};
 ghost use Rattle.ngc_program_report.specs.Times.{uses_text};
+ghost use Rattle.ngc_stock_report.specs.Texts.{material_text};
 ghost use Rattle.ngc_program_report.specs.Writing.{Writes};
 
 use crate::program_time::ProgramTime;
 use crate::report_frame::{closing, write_heading};
 use crate::report_time::say_takes_line;
-use crate::reported::ReportedText;
+use crate::reported::{OtherText, ReportedText};
 use crate::subject::{Execution, Fit, Heading, Subject};
 use crate::use_times::say_use_times;
 use ngc_certificate::Setting;
 use ngc_certificate_text::MotionList;
 use ngc_checker::Accepted;
 use ngc_commands::Command;
+use ngc_dialect_note_texts::write_notes;
+use ngc_dialect_notes::Notes;
 use ngc_length_warnings::write_length_warnings;
 use ngc_lowest_tips::{LowestTip, write_lowest_tips};
 use ngc_machine_files::Tools;
@@ -31,6 +36,7 @@ use ngc_origins::Origins;
 use ngc_report::{Form, write_fit, write_warnings};
 use ngc_sentences::Page;
 use ngc_setup_sheet::{write_warning_facts, write_warnings as write_shop_warnings};
+use ngc_stock_report::write_material;
 use ngc_text::{Sink, WriteFault, write_all};
 use ngc_tool_figures::write_tool_figures;
 use ngc_tool_warnings::write_tool_warnings;
@@ -97,8 +103,36 @@ pub(crate) fn is_on(setting: Setting) -> bool
     }
 }
 
-// Writes the warnings for the words of a program's lines, at a setting of block delete, or those for
-// the length offsets that they set if the program is for another control.
+// Returns the notes on a program for another control at a setting of block delete.
+fn notes_at<'a>(other: &'a OtherText<'_>, deletes: bool) -> &'a Notes
+    ensures { result.now ≡ notes_at deletes (noted_by other.now) }
+{
+    if deletes { &other.on } else { &other.off }
+}
+
+// Writes the warnings for the length offsets that a program for another control sets, at a setting of
+// block delete, and the notes on its lines.
+fn write_other_words<A: Allocator, W: Sink>(
+    subject: &Subject<A>,
+    other: &OtherText<'_>,
+    deletes: bool,
+    execution: &Execution<A>,
+    output: &mut W,
+) -> Result<(), WriteFault>
+    ensures { Writes (W.written output.old) (W.written output.new) (W.failures output.old)
+        (W.failures output.new) result
+        (length_warnings subject.now.form (file_of subject.now.machine.now)
+        execution.now.history.now.start execution.now.history.now.changes.items
+        execution.now.commands.now
+        ++ notes_text subject.now.form (notes_at deletes (noted_by other.now))) }
+{
+    let (form, machine, commands) = (subject.form, subject.machine, execution.commands);
+    write_length_warnings(form, machine, execution.history, commands, output)?;
+    write_notes(form, notes_at(other, deletes), output)
+}
+
+// Writes the warnings for the words of a program's lines, at a setting of block delete; if the program is
+// for another control, those for the length offsets that they set, and the notes on them.
 fn write_words<A: Allocator, W: Sink>(
     subject: &Subject<A>,
     deletes: bool,
@@ -110,7 +144,8 @@ fn write_words<A: Allocator, W: Sink>(
         (language_warnings subject.now.form deletes
         (setup_of subject.now.machine.now subject.now.tools.now)
         (history_of execution.now.history.now.start execution.now.history.now.changes.items)
-        execution.now.commands.now (reported subject.now.text.now).examined) }
+        execution.now.commands.now (reported subject.now.text.now).examined
+        (reported subject.now.text.now).notes) }
 {
     let (form, machine, table) = (subject.form, subject.machine, subject.tools.tools());
     let commands = execution.commands;
@@ -118,8 +153,8 @@ fn write_words<A: Allocator, W: Sink>(
         ReportedText::Own(program) => {
             write_word_warnings(form, deletes, program, machine, table, commands, output)
         }
-        ReportedText::Other(_) => {
-            write_length_warnings(form, machine, execution.history, commands, output)
+        ReportedText::Other(other) => {
+            write_other_words(subject, other, deletes, execution, output)
         }
     }
 }
@@ -168,8 +203,23 @@ fn write_remarks<A: Allocator, W: Sink>(
     write_setting_warnings(subject, setting, execution, output)
 }
 
+// Writes which traverses of a setting may touch the material of the machine.
+fn write_stock<A: Allocator, W: Sink>(
+    subject: &Subject<A>,
+    fit: &Fit<A>,
+    output: &mut W,
+) -> Result<(), WriteFault>
+    ensures { Writes (W.written output.old) (W.written output.new) (W.failures output.old)
+        (W.failures output.new) result
+        (material_text subject.now.form (file_of subject.now.machine.now)
+        (tools_of subject.now.tools.now) fit.now.material) }
+{
+    let tools = subject.tools.tools();
+    write_material(subject.form, subject.machine, tools, &fit.material, output)
+}
+
 // Writes what fits at a setting, the time and the figures of the tools there, the lowest heights,
-// and the warnings.
+// the warnings, and which traverses may touch the material.
 fn write_setting<A: Allocator, M: MotionList, W: Sink>(
     subject: &Subject<A>,
     heading: Heading,
@@ -185,7 +235,7 @@ fn write_setting<A: Allocator, M: MotionList, W: Sink>(
         (W.failures output.new) result
         (setting_text subject.now.form subject.now.origins.now heading.first heading.named
         heading.setting (setup_of subject.now.machine.now subject.now.tools.now) commands.now
-        (M.entries motions.now) fit.now.time
+        (M.entries motions.now) (findings fit.now.time fit.now.material)
         (history_of fit.now.history.now.start fit.now.history.now.changes.items)
         (reported subject.now.text.now)) }
 {
@@ -201,7 +251,8 @@ fn write_setting<A: Allocator, M: MotionList, W: Sink>(
         &execution,
         fit.tips.as_slice(),
         output,
-    )
+    )?;
+    write_stock(subject, fit, output)
 }
 
 // Writes the warnings about the machine and its tools.
@@ -251,7 +302,7 @@ pub(crate) fn write_once<A: Allocator, M: MotionList, W: Sink>(
         (W.failures output.new) result
         (accepted_text form origins.now false accepted.now
         (record { off = M.entries motions.now; on = M.entries motions.now })
-        fit.now.time fit.now.time
+        (findings fit.now.time fit.now.material) (findings fit.now.time fit.now.material)
         (history_of fit.now.history.now.start fit.now.history.now.changes.items)
         (history_of fit.now.history.now.start fit.now.history.now.changes.items)
         (reported text.now)) }
@@ -302,7 +353,7 @@ pub(crate) fn write_both<A: Allocator, M: MotionList, W: Sink>(
         (W.failures output.new) result
         (accepted_text form origins.now true accepted.now
         (record { off = M.entries off_motions.now; on = M.entries on_motions.now })
-        off.now.time on.now.time
+        (findings off.now.time off.now.material) (findings on.now.time on.now.material)
         (history_of off.now.history.now.start off.now.history.now.changes.items)
         (history_of on.now.history.now.start on.now.history.now.changes.items)
         (reported text.now)) }

@@ -19,6 +19,7 @@ ghost use Rattle.ngc_program_report.specs.JobReports.{first_text};
 ghost use Rattle.ngc_program_report.specs.Reported.{reported};
 ghost use Rattle.ngc_program_report.specs.Texts.{is_on};
 ghost use Rattle.ngc_program_report.specs.Writing.{Writes};
+ghost use Rattle.ngc_stock_report.specs.Walked.{IsWalked};
 
 use crate::fit_writer::{is_on, write_both, write_once};
 use crate::framed::{FramedJob, frames_or};
@@ -37,6 +38,7 @@ use ngc_job::Job;
 use ngc_lowest_tips::{LowestTip, lowest_tips};
 use ngc_origins::Origins;
 use ngc_report::{Form, ReportFault};
+use ngc_stock_report::{Walk, find_walk};
 use ngc_text::{Sink, WriteFault};
 use std::alloc::Allocator;
 
@@ -77,9 +79,27 @@ fn tips_at<A: Allocator + Copy>(
     }
 }
 
+// Returns which traverses of an accepted program may touch material, at a setting of block delete, or
+// 900 if memory runs out.
+fn material_at<A: Allocator + Copy>(
+    alloc: A,
+    accepted: &Accepted<A>,
+    block_delete: bool,
+) -> Result<Option<Walk<A>>, ReportFault>
+    ensures walked { IfOk result
+        (IsWalked accepted.now.machine (commands_at block_delete accepted.now)) }
+    ensures memory { IfErr result (λ fault. fault ≡ ReportFault.Memory) }
+{
+    match find_walk(alloc, accepted.machine(), accepted.commands(block_delete)) {
+        Ok(walk) => Ok(walk),
+        Err(_) => Err(ReportFault::Memory),
+    }
+}
+
 /// Writes the report of a job with plans of its motions: its extent and margins, the use of each
-/// tool, the time, the figures of each tool that feeds, the lowest heights, and the warnings about
-/// its commands, the words of the program and the origins from which it moves. The plans are those of
+/// tool, the time, the figures of each tool that feeds, the lowest heights, the warnings about its
+/// commands, the words of the program and the origins from which it moves, and which straight
+/// traverses may touch the material of the machine. The plans are those of
 /// the job's commands, and their motions are valid for it. `text` is the text of the job's program.
 ///
 /// Nothing is written before the time and the lowest heights are computed, and nothing if memory
@@ -118,11 +138,13 @@ pub fn report_fit<A: Allocator + Copy, W: Sink>(
     let (off_time, accepted) = time_of(alloc, accepted, false)?;
     if !apart {
         let tips = tips_at(alloc, &off, &accepted, false)?;
+        let material = material_at(alloc, &accepted, false)?;
         let motions = motions_at(&accepted, plans, Setting::Off);
         let fit = Fit {
             history: &off,
             time: off_time,
             tips,
+            material,
         };
         write_once(form, origins, text, &accepted, &motions, &fit, output)?;
         return Ok(());
@@ -131,17 +153,21 @@ pub fn report_fit<A: Allocator + Copy, W: Sink>(
     let on_history = frames_or(&off, &on);
     let off_tips = tips_at(alloc, &off, &accepted, false)?;
     let on_tips = tips_at(alloc, on_history, &accepted, true)?;
+    let off_material = material_at(alloc, &accepted, false)?;
+    let on_material = material_at(alloc, &accepted, true)?;
     let off_motions = motions_at(&accepted, plans, Setting::Off);
     let on_motions = motions_at(&accepted, plans, Setting::On);
     let off_fit = Fit {
         history: &off,
         time: off_time,
         tips: off_tips,
+        material: off_material,
     };
     let on_fit = Fit {
         history: on_history,
         time: on_time,
         tips: on_tips,
+        material: on_material,
     };
     write_both(
         form,

@@ -28,7 +28,7 @@ pub use job_report::{report_fit, report_refusal};
 pub use met::met_at;
 pub use refusal_writer::write_rejection;
 pub use report_frame::{opening, write_ending};
-pub use reported::ReportedText;
+pub use reported::{OtherText, ReportedText};
 pub use request::ReportRequest;
 pub use run_time::RunTime;
 pub use time_line::add_time_line;

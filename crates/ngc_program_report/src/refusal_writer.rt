@@ -85,7 +85,7 @@ fn write_quoted<A: Allocator, W: Sink>(
 {
     match text {
         ReportedText::Own(program) => write_line(form, program, number, output),
-        ReportedText::Other(text) => write_text_line(form, text, number, output),
+        ReportedText::Other(other) => write_text_line(form, other.text, number, output),
     }
 }
 

@@ -8,6 +8,7 @@ use ngc_lowest_tips::LowestTip;
 use ngc_machine_files::{Machine, Tools};
 use ngc_origins::Origins;
 use ngc_report::Form;
+use ngc_stock_report::Walk;
 use std::alloc::Allocator;
 
 /// The program that is reported, on its machine with its tools, and the form of the report.
@@ -45,4 +46,6 @@ pub(crate) struct Fit<'a, A: Allocator> {
     pub(crate) history: &'a FrameHistory<A>,
     pub(crate) time: ProgramTime<A>,
     pub(crate) tips: Vec<LowestTip, A>,
+    /// The straight traverses that may touch material, if a walk was made.
+    pub(crate) material: Option<Walk<A>>,
 }

@@ -1,7 +1,8 @@
 use crate::directive::Role;
 use crate::files::RowFiles;
 use crate::text::{Text, around};
-use ngc_simulator::{Options, UsageFault, answer, read_options};
+use ngc_dialect_choice::answer_by_machine;
+use ngc_simulator::{Options, UsageFault, read_options};
 use ngc_test_devices::FailingSink;
 use serde_json::Value;
 use std::alloc::{AllocError, Global};
@@ -36,12 +37,12 @@ pub struct Row {
     once: Vec<String>,
 }
 
-// Calls `answer` without its clauses: they would make the proofs of its callers longer.
+// Calls `answer_by_machine` without its clauses: they would make the proofs of its callers longer.
 fn outcome_of(alloc: Global, row: &Row, shared: &[Text], options: &Options<'_>) -> Outcome {
     let mut files = RowFiles::new(alloc, row, shared);
     let mut output = sink(alloc, row.failing("output"));
     let mut errors = sink(alloc, row.failing("errors"));
-    let status = answer(alloc, options, &mut files, &mut output, &mut errors);
+    let status = answer_by_machine(alloc, options, &mut files, &mut output, &mut errors);
     Outcome {
         status,
         output: output.taken,

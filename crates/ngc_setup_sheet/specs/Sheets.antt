@@ -1,7 +1,8 @@
 -- What a setup sheet says about a machine and its tools. Our own.
 use Rattle.std.specs.Prelude.{ℕ, ◌+◌, min, nat_lt, ℤ, pos, ◌+ℤ◌, ◌*ℤ◌, List, [], ◌∷◌, ◌++◌, map}
-use Rattle.std.specs.Prelude.{filter, flat_map, ◌==◌, Bool, true, false, not, ◌&&◌, if◌then◌else◌}
+use Rattle.std.specs.Prelude.{Option, Some, None, filter, flat_map, ◌==◌, Bool, true, false, not, ◌&&◌, if◌then◌else◌}
 use Rattle.std.specs.Ordering.{int_eq}
+use Rattle.ngc_dialect_names.specs.declared.dialect.Dialect.{Dialect}
 use Rattle.ngc_fixed_length.specs.declared.modes.System.{System}
 use Rattle.ngc_fixed_length.specs.declared.modes.System.TheVariants as systems
 use Rattle.ngc_fixed_length.specs.declared.points.Point3.{Point3}
@@ -11,6 +12,7 @@ use Rattle.ngc_machine_files.specs.declared.machine.ArcFeed.TheVariants as arc_f
 use Rattle.ngc_machine_files.specs.declared.machine.Fixture.{Fixture}
 use Rattle.ngc_machine_files.specs.declared.machine.Rapids.{Rapids}
 use Rattle.ngc_machine_files.specs.declared.machine.Rapids.TheVariants as ways
+use Rattle.ngc_machine_files.specs.declared.machine.StockBox.{StockBox}
 use Rattle.ngc_machine_files.specs.declared.parts.Part.{Part}
 use Rattle.ngc_machine_files.specs.declared.tools.Tool.{Tool}
 use Rattle.ngc_setup_sheet.specs.Figures.{steps_a_millimetre, millimetres_a_minute, acceleration}
@@ -94,6 +96,22 @@ margin_facts m =
     (margin_line facts.TravelMargin m.margins.travel ++
     line_where (is_free m.rapids) (lines.Fact facts.Rapids figures.AnyWay))
 
+-- the language of programs for another control
+abbrev pub dialect_lines : Option Dialect → List Line
+dialect_lines None = []
+dialect_lines (Some d) = lines.Fact facts.Dialect (figures.Language d) ∷ []
+
+abbrev pub dialect_facts : MachineFile → List Line
+dialect_facts m = dialect_lines m.dialect
+
+-- the block of material
+abbrev pub block_lines : Option StockBox → List Line
+block_lines None = []
+block_lines (Some b) = lines.Fact facts.Stock (figures.Block b) ∷ []
+
+abbrev pub stock_facts : MachineFile → List Line
+stock_facts m = block_lines m.stock
+
 abbrev pub rate_facts : MachineFile → List Line
 rate_facts m =
     lines.Fact facts.Acceleration (figures.Acceleration (acceleration m m.change)) ∷
@@ -151,11 +169,16 @@ machine_warnings m =
     ++ (warned (is_short_travel m.low.y m.high.y) (warnings.Travel axes.Y) ++
     warned (is_short_travel m.low.z m.high.z) (warnings.Travel axes.Z)))))
 
+-- its places and origins, the block of material, the note and the warnings
+abbrev pub machine_end : MachineFile → Reach → List Line
+machine_end m r =
+    machine_places m ++ (origins_from m r systems.First m.origins ++ (stock_facts m ++
+    (corner_notes m ++ machine_warnings m)))
+
 unfoldable pub machine_lines : MachineFile → Reach → List Line
 machine_lines m r =
     step_facts m ++ (jump_facts m ++ (rate_facts m ++ (ring_facts m ++ (arc_feed_facts m ++
-    (changer_facts m ++ (margin_facts m ++ (machine_places m ++
-    (origins_from m r systems.First m.origins ++ (corner_notes m ++ machine_warnings m)))))))))
+    (changer_facts m ++ (margin_facts m ++ (dialect_facts m ++ machine_end m r)))))))
 
 -- ---- fixtures
 

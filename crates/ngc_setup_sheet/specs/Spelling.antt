@@ -1,9 +1,11 @@
 -- How the lines of a setup sheet are written. Our own.
-use Rattle.std.specs.Prelude.{ℕ, ◌-ℤ◌, unsigned_abs, List, [], ◌++◌, flat_map, codes}
+use Rattle.std.specs.Prelude.{ℕ, ◌+◌, ◌-◌, nat_le, ◌-ℤ◌, unsigned_abs, List, [], ◌++◌, flat_map, codes}
 use Rattle.std.specs.Prelude.{decimal, length, ◌==◌, if◌then◌else◌}
+use Rattle.ngc_dialect_names.specs.Names.{name_of}
 use Rattle.ngc_fixed_length.specs.declared.modes.System.{System}
 use Rattle.ngc_fixed_length.specs.declared.modes.System.TheVariants as systems
 use Rattle.ngc_fixed_length.specs.declared.points.Point3.{Point3}
+use Rattle.ngc_machine_files.specs.declared.machine.StockBox.{StockBox}
 use Rattle.ngc_text.specs.Millimetres.{size_text, length_text, mm_text}
 use Rattle.ngc_sentences.specs.Parts.{thousandths_text}
 use Rattle.ngc_setup_sheet.specs.declared.line.Axis.TheVariants as axes
@@ -61,6 +63,8 @@ fact_text facts.Changer = codes "  tools are changed     "
 fact_text facts.Margin = codes "  margin to fixtures    "
 fact_text facts.TravelMargin = codes "  margin to the limits  "
 fact_text facts.Rapids = codes "  traverses take        "
+fact_text facts.Dialect = codes "  language of programs  "
+fact_text facts.Stock = codes "  material              "
 fact_text facts.Acceleration = codes "  acceleration          "
 fact_text facts.ArcAcceleration = codes "  acceleration on arcs  "
 fact_text (facts.Speed axes.X) = codes "  speed of X            "
@@ -79,6 +83,16 @@ fact_text (facts.Extent axes.Z) = codes "  on Z                  "
 fact_text facts.Offset = codes "  length offset         "
 fact_text facts.Part = codes "  part                  "
 
+-- the coordinate system of a block of material, 1 to 9 for G54 to G59.3, or 0
+abbrev pub block_system : ℕ → List ℕ
+block_system n =
+    if n == 0 then codes "machine coordinates"
+    else (if nat_le n 6 then codes "G" ++ decimal (n + 53) else codes "G59." ++ decimal (n - 6))
+
+abbrev pub block_text : StockBox → List ℕ
+block_text b =
+    place_text b.low ++ codes " to " ++ place_text b.high ++ codes " in " ++ block_system b.system
+
 unfoldable pub figure_text : Figure → List ℕ
 figure_text (figures.Length z) = mm_text z
 figure_text (figures.PerMillimetre n) = thousandths_text n ++ codes " a mm"
@@ -88,6 +102,8 @@ figure_text figures.ByPlace = codes "at each place"
 figure_text figures.ByPlaceWithTurn = codes "at each place, as is the acceleration"
 figure_text figures.ByMachine = codes "by the machine"
 figure_text figures.AnyWay = codes "any way within the box of their ends"
+figure_text (figures.Language d) = name_of d
+figure_text (figures.Block b) = block_text b
 figure_text (figures.Speed n) = thousandths_text n ++ codes " mm/min"
 figure_text (figures.Acceleration n) = thousandths_text n ++ codes " mm/s^2"
 figure_text (figures.Span s) = span_text s

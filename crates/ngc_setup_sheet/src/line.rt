@@ -1,5 +1,6 @@
+use ngc_dialect_names::Dialect;
 use ngc_fixed_length::{Point3, System};
-use ngc_machine_files::Name;
+use ngc_machine_files::{Name, StockBox};
 
 /// An axis of the machine.
 #[derive(Clone, Copy)]
@@ -40,6 +41,10 @@ pub enum Fact {
     TravelMargin,
     /// The way to the end of a traverse.
     Rapids,
+    /// The language of programs for another control.
+    Dialect,
+    /// The block of material that is cut.
+    Stock,
     Acceleration,
     /// The greatest acceleration towards the centre of an arc that is aimed at.
     ArcAcceleration,
@@ -77,6 +82,8 @@ pub enum Figure {
     ByMachine,
     /// Any way within the box of a traverse's ends.
     AnyWay,
+    Language(Dialect),
+    Block(StockBox),
     /// In thousandths of a millimetre per minute.
     Speed(u128),
     /// In thousandths of a millimetre per second squared.

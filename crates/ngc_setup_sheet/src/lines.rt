@@ -11,7 +11,7 @@ ghost use Rattle.ngc_setup_sheet.specs.Sheets.{jump_facts, ring_facts, arc_feed_
 ghost use Rattle.ngc_setup_sheet.specs.Sheets.{is_zero, origin_lines, next_system, origins_from};
 ghost use Rattle.ngc_setup_sheet.specs.Sheets.{machine_warnings, machine_lines, fixture_facts};
 ghost use Rattle.ngc_setup_sheet.specs.Sheets.{fixture_lines, part_line, part_lines, tool_facts};
-ghost use Rattle.ngc_setup_sheet.specs.Sheets.{tool_lines};
+ghost use Rattle.ngc_setup_sheet.specs.Sheets.{tool_lines, dialect_facts, stock_facts, machine_end};
 ghost use Rattle.ngc_setup_sheet.specs.declared.line.Warning.TheVariants as warnings;
 
 use crate::figures::{acceleration, arc_acceleration, millimetres_a_minute, steps_a_millimetre};
@@ -171,6 +171,31 @@ fn is_free(rapids: Rapids) -> bool
     }
 }
 
+fn add_dialect<A: Allocator>(lines: &mut Lines, machine: &Machine<A>)
+    requires { array_vec_len lines.old < 52 }
+    ensures items { lines.new.items ≡ lines.old.items ++ dialect_facts (file_of machine.now) }
+    ensures few { array_vec_len lines.new ≤ array_vec_len lines.old + 1 }
+{
+    match machine.dialect {
+        None => {}
+        Some(dialect) => add_all(
+            lines,
+            &[Line::Fact(Fact::Dialect, Figure::Language(dialect))],
+        ),
+    }
+}
+
+fn add_stock<A: Allocator>(lines: &mut Lines, machine: &Machine<A>)
+    requires { array_vec_len lines.old < 52 }
+    ensures items { lines.new.items ≡ lines.old.items ++ stock_facts (file_of machine.now) }
+    ensures few { array_vec_len lines.new ≤ array_vec_len lines.old + 1 }
+{
+    match machine.stock {
+        None => {}
+        Some(block) => add_all(lines, &[Line::Fact(Fact::Stock, Figure::Block(block))]),
+    }
+}
+
 fn rate_facts<A: Allocator>(machine: &Machine<A>) -> [Line; 5]
     ensures { result ≡ rate_facts (file_of machine.now) }
 {
@@ -310,6 +335,18 @@ fn warn_of_machine<A: Allocator>(lines: &mut Lines, machine: &Machine<A>)
     );
 }
 
+fn add_end<A: Allocator>(lines: &mut Lines, machine: &Machine<A>, reach: &Reach)
+    requires room { array_vec_len lines.old + 32 ≤ 52 }
+    requires reach { IsReach reach.now }
+    ensures { lines.new.items ≡ lines.old.items ++ machine_end (file_of machine.now) reach.now }
+{
+    add_all(lines, &machine_places(machine));
+    add_origins(lines, machine, reach, &machine.origins);
+    add_stock(lines, machine);
+    add_corner_note(lines, machine);
+    warn_of_machine(lines, machine);
+}
+
 #[tactic(auto, unfolding(crate::specs::Sheets::machine_lines))]
 pub(crate) fn machine_lines<A: Allocator>(machine: &Machine<A>, reach: &Reach) -> Lines
     requires { IsReach reach.now }
@@ -323,10 +360,8 @@ pub(crate) fn machine_lines<A: Allocator>(machine: &Machine<A>, reach: &Reach) -
     add_arc_feed(&mut lines, machine);
     add_changer(&mut lines, machine);
     add_margins(&mut lines, machine);
-    add_all(&mut lines, &machine_places(machine));
-    add_origins(&mut lines, machine, reach, &machine.origins);
-    add_corner_note(&mut lines, machine);
-    warn_of_machine(&mut lines, machine);
+    add_dialect(&mut lines, machine);
+    add_end(&mut lines, machine, reach);
     lines
 }
 

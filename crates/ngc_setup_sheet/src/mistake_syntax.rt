@@ -42,6 +42,10 @@ fn asked(rule: Rule) -> &'static [u8]
             b"In version 2 it must be a whole number from 0 to 100,000,000, or left out: how far programs keep from the travel limits, in nm. Version 1 has no such key.\n",
         Rule::Rapids =>
             b"In version 2 it must be \"straight\" or \"free\", or left out: the way that the control takes to the end of a traverse. Version 1 has no such key.\n",
+        Rule::Dialect =>
+            b"In version 2 it must be \"linuxcnc\", \"grbl\", \"mach3\" or \"fanuc\", or left out: the language of programs for another control. Version 1 has no such key.\n",
+        Rule::Stock =>
+            b"In version 2 it must be a table of `low` below `high`, three numbers each from -1,000,000,000 to 1,000,000,000 in nm, and perhaps `system`, 0 to 9, or left out. Version 1 has no such key.\n",
         Rule::Change =>
             b"It must be a whole number from 1 to 1,000,000: how much the rate may change in a tick, in millionths of a step a tick.\n",
         Rule::Corner =>
@@ -95,7 +99,7 @@ fn known(section: Section) -> &'static [u8]
 {
     match section {
         Section::Machine =>
-            b"Known are `version`, `step`, `ticks_per_second`, `max_rate`, `change`, `corner`, `turn`, `low`, `high`, `start`, `home28`, `home30`, `origins`, `fixture`, and in version 2 `axis_rate`, `jump`, `ring`, `arc_feed`, `changer`, `margin`, `travel_margin` and `rapids`.\n",
+            b"Known are `version`, `step`, `ticks_per_second`, `max_rate`, `change`, `corner`, `turn`, `low`, `high`, `start`, `home28`, `home30`, `origins`, `fixture`, and in version 2 `axis_rate`, `jump`, `ring`, `arc_feed`, `changer`, `margin`, `travel_margin`, `rapids`, `dialect` and `stock`.\n",
         Section::FirstFixture(_) => b"Known are `low` and `high`.\n",
         Section::SecondFixture(_) => b"Known are `low`, `high` and `name`.\n",
         Section::Tools => b"Known are `version` and `tool`.\n",

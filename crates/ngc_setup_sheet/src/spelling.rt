@@ -4,14 +4,14 @@ ghost use Rattle.ngc_text.specs.Millimetres.{mm_text};
 ghost use Rattle.ngc_sentences.specs.Parts.{parts_text};
 ghost use Rattle.ngc_sentences.specs.Saying.{Says};
 ghost use Rattle.ngc_setup_sheet.specs.declared.line.Warning.TheVariants as warnings;
-ghost use Rattle.ngc_setup_sheet.specs.Spelling.{span_text, place_text};
+ghost use Rattle.ngc_setup_sheet.specs.Spelling.{span_text, place_text, block_system, block_text};
 ghost use Rattle.ngc_setup_sheet.specs.Spelling.{system_text, origin_text, fact_text};
 ghost use Rattle.ngc_setup_sheet.specs.Spelling.{figure_text, warning_text};
 ghost use Rattle.ngc_setup_sheet.specs.Spelling.{bracketed, corner_note, line_text};
 
 use crate::line::{Axis, Fact, Figure, Line, Span, Warning};
 use ngc_fixed_length::{Point3, System};
-use ngc_machine_files::Name;
+use ngc_machine_files::{Name, StockBox};
 use ngc_sentences::{Page, Part, say};
 use ngc_text::Sink;
 
@@ -92,6 +92,8 @@ fn fact(fact: &Fact) -> &'static [u8]
         Fact::Margin => b"  margin to fixtures    ",
         Fact::TravelMargin => b"  margin to the limits  ",
         Fact::Rapids => b"  traverses take        ",
+        Fact::Dialect => b"  language of programs  ",
+        Fact::Stock => b"  material              ",
         Fact::Acceleration => b"  acceleration          ",
         Fact::ArcAcceleration => b"  acceleration on arcs  ",
         Fact::Speed(Axis::X) => b"  speed of X            ",
@@ -119,6 +121,32 @@ fn say_length<W: Sink>(nanometres: &i64, page: &mut Page, output: &mut W)
     say!(page, output; Part::Millimetres(*nanometres));
 }
 
+/// Says the coordinate system of a block of material.
+fn say_block_system<W: Sink>(number: u32, page: &mut Page, output: &mut W)
+    ensures { Says (W.written output.old) (W.written output.new)
+        (W.failures output.old) (W.failures output.new) page.old page.new (block_system number) }
+{
+    if number == 0 {
+        say!(page, output; b"machine coordinates");
+    } else if number <= 6 {
+        say!(page, output; b"G", Part::Number(u128::from(number + 53)));
+    } else {
+        say!(page, output; b"G59.", Part::Number(u128::from(number - 6)));
+    }
+}
+
+/// Says the corners of a block of material, and their coordinate system.
+fn say_block<W: Sink>(block: &StockBox, page: &mut Page, output: &mut W)
+    ensures { Says (W.written output.old) (W.written output.new)
+        (W.failures output.old) (W.failures output.new) page.old page.new (block_text block.now) }
+{
+    page.say(output, &place(&block.low));
+    say!(page, output; b" to ");
+    page.say(output, &place(&block.high));
+    say!(page, output; b" in ");
+    say_block_system(block.system, page, output);
+}
+
 #[tactic(auto, unfolding(crate::specs::Spelling::figure_text))]
 fn say_figure<W: Sink>(figure: &Figure, page: &mut Page, output: &mut W)
     ensures { Says (W.written output.old) (W.written output.new)
@@ -136,6 +164,8 @@ fn say_figure<W: Sink>(figure: &Figure, page: &mut Page, output: &mut W)
         Figure::ByPlaceWithTurn => { say!(page, output; b"at each place, as is the acceleration") }
         Figure::ByMachine => say!(page, output; b"by the machine"),
         Figure::AnyWay => say!(page, output; b"any way within the box of their ends"),
+        Figure::Language(dialect) => say!(page, output; Part::Text(dialect.name().as_bytes())),
+        Figure::Block(block) => say_block(block, page, output),
         Figure::Speed(number) => { say!(page, output; Part::Thousandths(*number), b" mm/min") }
         Figure::Acceleration(number) => {
             say!(page, output; Part::Thousandths(*number), b" mm/s^2")

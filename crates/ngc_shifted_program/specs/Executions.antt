@@ -7,7 +7,7 @@ use Rattle.ngc_commands.specs.declared.command.Command.{Command}
 use Rattle.ngc_canonical.specs.Meaning.{Program, meaning, parsed_program}
 use Rattle.ngc_canonical.specs.State.{Setup}
 use Rattle.ngc_dialect_execution.specs.Program.{meaning_in}
-use Rattle.ngc_dialect_reader.specs.declared.dialect.Dialect.{Dialect}
+use Rattle.ngc_dialect_names.specs.declared.dialect.Dialect.{Dialect}
 use Rattle.ngc_job.specs.Job.{JobData, commands_in}
 use Rattle.ngc_shifted_program.specs.declared.program.PartProgram.{PartProgram}
 use Rattle.ngc_shifted_program.specs.declared.program.PartProgram.TheVariants.{Own, Other}

@@ -8,7 +8,7 @@ ghost use Rattle.ngc_shifted_program.specs.Executions.{dialect_execution, execut
 use ngc_canonical::ProgramFault;
 use ngc_dialect_execution::DialectFault;
 use ngc_dialect_job::dialect_job;
-use ngc_dialect_reader::Dialect;
+use ngc_dialect_names::Dialect;
 use ngc_job::Job;
 use ngc_line_reader::Program;
 use ngc_machine_files::{Machine, Tools};

@@ -19,7 +19,7 @@ use Rattle.ngc_inputs.specs.Jobs.{IsMadeOf, IsWrittenAs}
 use Rattle.ngc_simulator.specs.Certifying.{WritesForm}
 use Rattle.ngc_simulator.specs.declared.done.Notes.{Notes}
 use Rattle.ngc_canonical.specs.State.{Setup}
-use Rattle.ngc_dialect_reader.specs.declared.dialect.Dialect.{Dialect}
+use Rattle.ngc_dialect_names.specs.declared.dialect.Dialect.{Dialect}
 use Rattle.ngc_margins.specs.declared.changes.Changes.{Changes}
 use Rattle.ngc_inputs.specs.Setups.{FileBytes, OnPlaced}
 use Rattle.ngc_inputs.specs.Shops.{RefusesPlaced}
@@ -31,7 +31,7 @@ use Rattle.ngc_inputs.proofs.SetupLaws.{on_placed}
 use Rattle.ngc_inputs.proofs.UnreadLaws.{AllRead, all_read, placed_read}
 use Rattle.ngc_simulator.specs.Answers.{DialectComes, dialect_inputs, source_input}
 use Rattle.ngc_simulator.specs.DialectPlaces.{PlacesDialect}
-use Rattle.ngc_simulator.specs.Dialects.{IsRead, IsSent, ListsDialect, OnDialect, StopsDialect, NotesFault, NotesRefusal}
+use Rattle.ngc_simulator.specs.Dialects.{IsRead, IsSent, ListsDialect, OnDialect, StopsDialect, NotesRefusal}
 use Rattle.ngc_simulator.specs.Dialects.{CertifiesDialect, CertifiesJob, ChecksDialect, OnDialectJob}
 use Rattle.ngc_simulator.specs.declared.dialects.DialectFiles.{DialectFiles}
 use Rattle.ngc_simulator.specs.declared.dialects.Sent.{Sent}

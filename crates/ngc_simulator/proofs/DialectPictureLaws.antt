@@ -8,7 +8,7 @@ use Rattle.ngc_certificate_text.specs.declared.fault.CertificateFault.{Certifica
 use Rattle.ngc_command_line.specs.declared.options.DrawOptions.{DrawOptions}
 use Rattle.ngc_commands.specs.declared.command.Command.{Command}
 use Rattle.ngc_dialect_execution.specs.Program.{meaning_in}
-use Rattle.ngc_dialect_reader.specs.declared.dialect.Dialect.{Dialect}
+use Rattle.ngc_dialect_names.specs.declared.dialect.Dialect.{Dialect}
 use Rattle.ngc_drawing.specs.declared.look.Look.{Look}
 use Rattle.ngc_drawing.specs.declared.view.View.{View}
 use Rattle.ngc_machine_files.specs.Machine.{MachineFile}

@@ -1,35 +1,26 @@
 -- The report of a program for another control, from the results of its parts.
-use Rattle.std.proofs.Common.{◌≡◌, ℕ, List, Option, Some, None, Result, Ok, Err, IfErr, inr, refl, subst}
-use Rattle.std.specs.Prelude.{MatchResult}
+use Rattle.std.proofs.Common.{◌≡◌, ℕ, List, Option, Some, None, Result, Ok, Err, IfErr, inr, refl}
 use Rattle.ngc_canonical.specs.State.{Setup}
-use Rattle.ngc_dialect_reader.specs.declared.dialect.Dialect.{Dialect}
+use Rattle.ngc_dialect_names.specs.declared.dialect.Dialect.{Dialect}
 use Rattle.ngc_inputs.specs.Unread.{unread_by}
 use Rattle.ngc_inputs.specs.declared.fault.AnswerFault.{AnswerFault}
 use Rattle.ngc_inputs.specs.declared.fault.AnswerFault.TheVariants as answers
-use Rattle.ngc_certificate.specs.declared.fault.MakeFault.TheVariants.{Memory}
-use Rattle.ngc_program_report.specs.Framed.{FramedData, framed_in}
-use Rattle.ngc_program_report.specs.declared.framed.FramedJob.{FramedJob}
+use Rattle.ngc_program_report.specs.Framed.{FramedData}
 use Rattle.ngc_program_report.specs.Reported.{other_lines}
 use Rattle.ngc_program_report.specs.declared.request.ReportRequest.{ReportRequest}
 use Rattle.ngc_command_line.specs.declared.options.ReportOptions.{ReportOptions}
 use Rattle.ngc_inputs.specs.Setups.{FileBytes}
 use Rattle.ngc_simulator.specs.Answers.{DialectReportResult, DialectReportsOn, StopsReport, requested_form}
 use Rattle.ngc_simulator.specs.Mistaken.{ReportsPlacedRefusal}
-use Rattle.ngc_simulator.specs.DialectReports.{IsFramedDialect, ReportsDialect}
+use Rattle.ngc_simulator.specs.DialectReports.{IsFramedDialect, ReportsDialect, dialect_notes}
 use Rattle.ngc_simulator.specs.Reporting.{ReportsJob}
 use Rattle.ngc_simulator.specs.declared.done.Done.{Done}
-use Rattle.ngc_simulator.specs.declared.done.Notes.{Notes}
 
 -- ---- the report
 
--- what holds of the job that was made
-pub of_framed : {A : Type 0} (P : FramedData → Type 0) (Q : Notes → Type 0) (r : Result (FramedJob A) Notes) (f : FramedJob A) → r ≡ Ok f
-    → MatchResult r (λ x. P (framed_in x)) Q → P (framed_in f)
-of_framed {A} P Q r f is holds = subst (λ (x : Result (FramedJob A) Notes). MatchResult x (λ y. P (framed_in y)) Q) is holds
-
 -- a report that isn't written whole
 pub dialect_stopped : (d : Dialect) (setup : Setup) (source : List ℕ) (request : ReportRequest) (f : FramedData) (old new : Option (List ℕ)) (fault : AnswerFault)
-    → IsFramedDialect d setup source f → ReportsJob f (other_lines source) request old new (Err fault) → ReportsDialect d setup source request old new (Err fault)
+    → IsFramedDialect d setup source f → ReportsJob f (other_lines source (dialect_notes d setup source)) request old new (Err fault) → ReportsDialect d setup source request old new (Err fault)
 dialect_stopped d setup source request f old new answers.Memory framed tells = absurd tells
 dialect_stopped d setup source request f old new _ framed tells = (f, framed, tells)
 

@@ -1,5 +1,5 @@
 -- The result of running a program for another control, from the results of its parts.
-use Rattle.std.proofs.Common.{◌≡◌, ℕ, List, [], ◌∷◌, Option, Some, None, Bool, true, false, Result, Ok, Err, IfSome, inl, inr, subst, sym, refl, ◌∙◌}
+use Rattle.std.proofs.Common.{◌≡◌, ℕ, List, Option, Some, None, Bool, true, false, Result, Ok, Err, IfSome, inl, inr, subst, sym, refl, ◌∙◌}
 use Rattle.std.specs.Prelude.{IsOk, MatchBool, option_map}
 use Rattle.ngc_canonical.specs.Interpreter.{setup_of}
 use Rattle.ngc_canonical.specs.State.{Setup}

@@ -32,7 +32,7 @@ use Rattle.ngc_program_report.specs.Reported.{ReportedLines, own_lines}
 use Rattle.ngc_inputs.specs.Jobs.{IsMadeOf, IsProgram, IsUnmade, WhyNotMade}
 use Rattle.ngc_simulator.specs.Reporting.{IsAllReport, IsFirstReport, IsFitReport, IsJobFit, IsJobMisfit, IsReport, IsReportOf, IsRejectionReport}
 use Rattle.ngc_simulator.specs.Reporting.{Reports, ReportsJob, frames_of}
-use Rattle.ngc_program_report.specs.Texts.{LastsFor}
+use Rattle.ngc_program_report.specs.Texts.{AreFindings}
 use Rattle.ngc_program_report.specs.Texts.{commands_of, fault_text, fits_text, is_on, refusal_text, refusals_text, rejection_text}
 use Rattle.ngc_program_report.specs.declared.request.ReportRequest.{ReportRequest}
 use Rattle.ngc_certificate.specs.Uncleared.{AreUncleared}
@@ -74,17 +74,17 @@ module _ (setup : Setup) (bytes : List ℕ) (request : ReportRequest) (text : Pr
   fit_report c t made is = record {
     certificate = c;
     made = made_for_file setup bytes request.cuts text f.job c is_text have is_job made;
-    off_time = is.off_time;
-    off_lasts = subst (λ (m : MachineFile). LastsFor m f.job.off is.off_time) the_job.machine is.off_lasts;
-    on_time = is.on_time;
-    on_lasts = subst (λ (m : MachineFile). LastsFor m (commands_in true f.job) is.on_time) the_job.machine is.on_lasts;
+    off_found = is.off_found;
+    off_are = subst (λ (m : MachineFile). AreFindings m f.job.off is.off_found) the_job.machine is.off_are;
+    on_found = is.on_found;
+    on_are = subst (λ (m : MachineFile). AreFindings m (commands_in true f.job) is.on_found) the_job.machine is.on_are;
     tells = is.tells
-        ∙ ap (λ (d : Bool). fits_text request.form request.origins d (setup_in f.job) f.job.off (commands_in true f.job) c is.off_time is.on_time
+        ∙ ap (λ (d : Bool). fits_text request.form request.origins d (setup_in f.job) f.job.off (commands_in true f.job) c is.off_found is.on_found
         f.off f.on (own_lines text.lines)) the_job.apart
         ∙ ap (λ (s : Setup). fits_text request.form request.origins (has_deleted (parsed_program text have.readings).lines) s f.job.off (commands_in true f.job) c
-        is.off_time is.on_time f.off f.on (own_lines text.lines)) same_setup
+        is.off_found is.on_found f.off f.on (own_lines text.lines)) same_setup
         ∙ ap₂ (λ (off_h on_h : History). fits_text request.form request.origins (has_deleted (parsed_program text have.readings).lines) setup f.job.off
-        (commands_in true f.job) c is.off_time is.on_time off_h on_h (own_lines text.lines))
+        (commands_in true f.job) c is.off_found is.on_found off_h on_h (own_lines text.lines))
         (frames_at Off) (frames_at On);
   }
 

@@ -1,6 +1,6 @@
 -- The result of a run of the program.
 use Rattle.std.specs.Prelude.{◌≡◌, ◌⊎◌, ℕ, Bool, true, false, List, [], ◌∷◌, ◌++◌, Option, Some}
-use Rattle.std.specs.Prelude.{Result, Ok, Err, IfSome, IsSomeAnd, option_map, MatchOption, None}
+use Rattle.std.specs.Prelude.{Result, Ok, Err, IfSome, option_map, MatchOption, None}
 use Rattle.std.specs.Prelude.{if◌then◌else◌}
 use Rattle.std.specs.Io.KnownBytes.{Appends, Keeps}
 use Rattle.ngc_command_line.specs.declared.options.ListOptions.{ListOptions}
@@ -36,7 +36,7 @@ use Rattle.ngc_inputs.specs.Faults.{OrOfReading, answer_status, fault_line}
 use Rattle.ngc_simulator.specs.declared.writing.Writing.{Writing}
 use Rattle.ngc_simulator.specs.Writing.{writing_named}
 use Rattle.ngc_simulator.specs.Lists.{Lists}
-use Rattle.ngc_dialect_reader.specs.declared.dialect.Dialect.{Dialect}
+use Rattle.ngc_dialect_names.specs.declared.dialect.Dialect.{Dialect}
 use Rattle.ngc_drawing.specs.declared.view.View.{View}
 use Rattle.ngc_simulator.specs.Drawing.{DrawsNamed, DrawsProgram, look_of, view_named}
 use Rattle.ngc_simulator.specs.Showing.{Shows}
@@ -63,12 +63,12 @@ use Rattle.ngc_program_report.specs.Times.{time_line}
 use Rattle.ngc_simulator.specs.Unreadable.{ReportsUnreadableFile}
 use Rattle.ngc_simulator.specs.AllFaults.{ReportsFaults}
 use Rattle.ngc_inputs.specs.Unread.{Input, OfProgram, OfCertificate, OfEvents, OfSource, shop_inputs}
-use Rattle.ngc_adapt_program.specs.declared.request.Request.{Request}
-use Rattle.ngc_adapt_program.specs.Requests.{control_named, dropped_codes}
-use Rattle.ngc_simulator.specs.Adapting.{Adapts, IsRequest}
+use Rattle.ngc_margins.specs.Changes.{no_changes}
+use Rattle.ngc_simulator.specs.Adapting.{AdaptsDialect}
 use Rattle.ngc_simulator.specs.DialectPlaces.{PlacesDialect}
 use Rattle.ngc_simulator.specs.Dialects.{CertifiesDialect, ChecksDialect, ListsDialect, OnDialect}
-use Rattle.ngc_simulator.specs.Dialects.{StopsDialect, named_dialect}
+use Rattle.ngc_dialect_names.specs.Names.{named_dialect}
+use Rattle.ngc_simulator.specs.Dialects.{StopsDialect}
 use Rattle.ngc_simulator.specs.DialectReports.{ReportsDialect}
 use Rattle.ngc_simulator.specs.DialectPictures.{DrawsDialect, DrawsDialectBy}
 use Rattle.ngc_simulator.specs.Making.{Makes, OnDump, has_source}
@@ -597,30 +597,16 @@ LiveResult bytes options (Some form) old new outcome =
 
 -- ---- programs for other controls
 
--- options with an unknown control or unknown codes leave the output unchanged
-abbrev pub NoRequest : AdaptOptions → AnswerFault → Type 0
-NoRequest options answers.UnknownControl = control_named options.from.now ≡ None
-NoRequest options answers.WrongCodes =
-    IsSomeAnd options.drop (λ text. dropped_codes text.now ≡ None)
-NoRequest options _ = ⊥
-
-abbrev pub AdaptsOn : FileBytes → AdaptOptions → Option (List ℕ) → Option (List ℕ) →
-    Result Notes AnswerFault → Type 0
-AdaptsOn bytes options old new outcome =
-    OnSetup bytes (option_map (λ name. name.now) options.machine) None (λ setup.
-    IfSome (bytes (option_map (λ name. name.now) options.program)) (λ file.
-    (request : Request) × IsRequest options setup.machine request
-    × Adapts setup.machine request file old new outcome))
-
+-- of the files that are named; no key of the machine file is replaced
 abbrev pub AdaptResult : FileBytes → AdaptOptions → Option (List ℕ) → Option (List ℕ) →
     Result Done AnswerFault → Type 0
-AdaptResult bytes options old new (Ok Quietly) = ⊥
-AdaptResult bytes options old new (Ok (RunThrough time)) = ⊥
-AdaptResult bytes options old new (Ok (WithNotes notes)) = AdaptsOn bytes options old new (Ok notes)
-AdaptResult bytes options old new (Err fault) =
-    (NoRequest options fault × Keeps old new)
-    ⊎ StopsEarly bytes (option_map (λ name. name.now) options.machine) None old new fault
-    ⊎ AdaptsOn bytes options old new (Err fault)
+AdaptResult bytes options old new outcome =
+    let machine : Option (List ℕ) = option_map (λ name. name.now) options.machine in
+    let tools : Option (List ℕ) = option_map (λ name. name.now) options.tools in
+    DialectComes (StopsDialect options.from.now bytes machine tools no_changes)
+    (λ o. OnDialect options.from.now bytes machine tools no_changes
+    (option_map (λ name. name.now) options.program)
+    (λ d setup source. AdaptsDialect d setup options.delete source old new o)) old new outcome
 
 -- ---- machine files from figures
 
@@ -868,11 +854,10 @@ place_inputs options None = []
 place_inputs options (Some system) =
     place_inputs_in (option_map (λ name. name.now) options.dialect) options
 
--- where the request is known
 abbrev pub adapt_inputs : AdaptOptions → List Input
 adapt_inputs options =
-    shop_inputs (option_map (λ name. name.now) options.machine) None
-    ++ source_input (option_map (λ name. name.now) options.program) ∷ []
+    dialect_inputs (option_map (λ name. name.now) options.machine)
+    (option_map (λ name. name.now) options.tools) (option_map (λ name. name.now) options.program)
 
 abbrev pub dump_inputs : Option (List ℕ) → List Input
 dump_inputs None = []

@@ -1,7 +1,7 @@
 -- The result of finding at which shifts of an origin a program for another control fits. Our own.
 use Rattle.std.specs.Prelude.{ℕ, List, Option, Result}
 use Rattle.ngc_canonical.specs.State.{Setup}
-use Rattle.ngc_dialect_reader.specs.declared.dialect.Dialect.{Dialect}
+use Rattle.ngc_dialect_names.specs.declared.dialect.Dialect.{Dialect}
 use Rattle.ngc_inputs.specs.declared.fault.AnswerFault.{AnswerFault}
 use Rattle.ngc_shifted_program.specs.Executions.{dialect_execution}
 use Rattle.ngc_simulator.specs.Dialects.{OnDialectJob}

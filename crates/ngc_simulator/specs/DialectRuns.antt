@@ -9,7 +9,7 @@ use Rattle.ngc_checker.specs.CheckView.{job_verdict}
 use Rattle.ngc_checker.specs.Held.{accepted_of}
 use Rattle.ngc_checker.specs.declared.fault.CheckFault.{CheckFault}
 use Rattle.ngc_dialect_job.specs.Job.{IsDialectJob}
-use Rattle.ngc_dialect_reader.specs.declared.dialect.Dialect.{Dialect}
+use Rattle.ngc_dialect_names.specs.declared.dialect.Dialect.{Dialect}
 use Rattle.ngc_events.specs.Events.{parsed_events}
 use Rattle.ngc_events.specs.declared.event.EventLine.{EventLine}
 use Rattle.ngc_inputs.specs.Judging.{Verdict}

@@ -1,7 +1,6 @@
 -- The results of commands on a program for another control. Our own.
-use Rattle.std.specs.Prelude.{◌≡◌, ℕ, List, Option, Some, None, Result, Ok, Err, Bool, true, false, codes}
-use Rattle.std.specs.Prelude.{if◌then◌else◌, IfSome, option_map}
-use Rattle.std.specs.Str.{bytes_eq}
+use Rattle.std.specs.Prelude.{◌≡◌, ℕ, List, Option, Some, None, Result, Ok, Err, Bool, true, false}
+use Rattle.std.specs.Prelude.{IfSome, option_map}
 use Rattle.std.specs.Io.KnownBytes.{Appends, Keeps}
 use Rattle.ngc_text.specs.Written.{AppendsPrefix}
 use Rattle.ngc_canonical.specs.State.{Setup}
@@ -19,8 +18,8 @@ use Rattle.ngc_dialect_execution.specs.declared.fault.Cause.{Cause}
 use Rattle.ngc_dialect_execution.specs.declared.fault.DialectFault.TheVariants.{At}
 use Rattle.ngc_dialect_faults.specs.Lines.{fault_line}
 use Rattle.ngc_dialect_job.specs.Job.{IsDialectJob}
-use Rattle.ngc_dialect_reader.specs.declared.dialect.Dialect.{Dialect}
-use Rattle.ngc_dialect_reader.specs.declared.dialect.Dialect.TheVariants as dialects
+use Rattle.ngc_dialect_names.specs.declared.dialect.Dialect.{Dialect}
+use Rattle.ngc_dialect_names.specs.Names.{named_dialect}
 use Rattle.ngc_inputs.specs.Jobs.{IsFormFor, IsUnmade, accepted_text}
 use Rattle.ngc_inputs.specs.Setups.{FileBytes, OnPlaced}
 use Rattle.ngc_inputs.specs.Shops.{PlacedResultIs, RefusesPlaced}
@@ -34,14 +33,6 @@ use Rattle.ngc_simulator.specs.declared.dialects.Sent.{Sent}
 use Rattle.ngc_simulator.specs.declared.done.Done.{Done}
 use Rattle.ngc_simulator.specs.declared.done.Done.TheVariants.{Quietly, RunThrough, WithNotes}
 use Rattle.ngc_simulator.specs.declared.done.Notes.{Notes}
-
--- the dialect of a control
-abbrev pub named_dialect : List ℕ → Option Dialect
-named_dialect name =
-    if bytes_eq name (codes "linuxcnc") then Some dialects.LinuxCnc else (
-    if bytes_eq name (codes "grbl") then Some dialects.Grbl else (
-    if bytes_eq name (codes "mach3") then Some dialects.Mach3 else (
-    if bytes_eq name (codes "fanuc") then Some dialects.Fanuc else None)))
 
 -- ---- the files
 

@@ -24,9 +24,8 @@ use Rattle.ngc_program_report.specs.Framed.{FramedData}
 use Rattle.ngc_program_report.specs.JobReports.{IsFitText, IsRefusalText, IsStartClear, OffBegins}
 use Rattle.ngc_program_report.specs.JobReports.{OnBegins}
 use Rattle.ngc_program_report.specs.Reported.{ReportedLines, own_lines}
-use Rattle.ngc_program_report.specs.Texts.{LastsFor, commands_of, fault_text, fits_text, is_on}
+use Rattle.ngc_program_report.specs.Texts.{AreFindings, Findings, commands_of, fault_text, fits_text, is_on}
 use Rattle.ngc_program_report.specs.Texts.{refusal_text, refusals_text}
-use Rattle.ngc_program_report.specs.Times.{ProgramTimeData}
 use Rattle.ngc_program_report.specs.declared.request.ReportRequest.{ReportRequest}
 
 -- ---- jobs
@@ -70,12 +69,12 @@ pub record IsFitReport (setup : Setup) (bytes : List ℕ) (request : ReportReque
     Type 0 where
   pub certificate : CertificateData
   pub made : IsMadeFor setup bytes request.cuts certificate
-  pub off_time : ProgramTimeData
-  pub off_lasts : LastsFor setup.machine made.off off_time
-  pub on_time : ProgramTimeData
-  pub on_lasts : LastsFor setup.machine made.on on_time
+  pub off_found : Findings
+  pub off_are : AreFindings setup.machine made.off off_found
+  pub on_found : Findings
+  pub on_are : AreFindings setup.machine made.on on_found
   pub tells : text ≡ fits_text request.form request.origins
-      (has_deleted made.means.program.lines) setup made.off made.on certificate off_time on_time
+      (has_deleted made.means.program.lines) setup made.off made.on certificate off_found on_found
       (frames_of setup made.means.program.lines Off) (frames_of setup made.means.program.lines On)
       (own_lines made.means.is_program.text.lines)
 

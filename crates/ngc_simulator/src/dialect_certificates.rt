@@ -18,7 +18,7 @@ use ngc_checker::{CheckReadFault, check_job_source};
 use ngc_command_line::{CertifyOptions, CheckOptions, Format};
 use ngc_dialect_execution::DialectFault;
 use ngc_dialect_job::dialect_job;
-use ngc_dialect_reader::Dialect;
+use ngc_dialect_names::Dialect;
 use ngc_inputs::{AnswerFault, Files, Shop, open_file};
 use ngc_job::Job;
 use ngc_text::{Sink, Source, write_all};

@@ -1,27 +1,29 @@
 //! Reports of programs for other controls.
-ghost use Rattle.std.specs.Prelude.{◌≡◌, ◌∷◌, ◌≤◌, ◌<◌, IfErr, IfOk, MatchResult, Some, length};
+ghost use Rattle.std.specs.Prelude.{◌≡◌, ◌∷◌, ◌≤◌, ◌<◌, IfErr, IfOk, MatchResult, Some, length, unwrap_or};
 ghost use Rattle.ngc_canonical.specs.Interpreter.{setup_of};
 ghost use Rattle.ngc_dialect_execution.specs.Text as spec;
 ghost use Rattle.ngc_inputs.specs.Faults.{FailsByOutput};
 ghost use Rattle.ngc_inputs.specs.Unread.{FailsByInput, SourceFails};
 ghost use Rattle.ngc_line_reader.specs.Program.{split_lines};
-ghost use Rattle.ngc_program_report.specs.Framed.{framed_in};
+ghost use Rattle.ngc_dialect_notes.specs.Notes.{no_notes};
 ghost use Rattle.ngc_simulator.specs.Answers.{DialectReportResult, report_inputs_in};
-ghost use Rattle.ngc_simulator.specs.DialectReports.{IsFramedDialect, ReportsDialect};
+ghost use Rattle.ngc_simulator.specs.DialectReports.{IsNotedJob, ReportsDialect};
 ghost use Rattle.ngc_simulator.specs.DialectReports.{begins_with_slash, has_deleted};
 ghost use Rattle.ngc_simulator.specs.Dialects.{NotesRefusal};
 
-use crate::dialects::{Sent, framed_at, read_sent_reporting};
+use crate::dialects::{Sent, read_sent_reporting, traced_at};
 use crate::done::{Done, Notes};
 use crate::reporting::report_job;
 use crate::reporting_files::request_of;
 use memchr::memchr;
 use ngc_certificate_text::Setting;
 use ngc_command_line::ReportOptions;
-use ngc_dialect_reader::Dialect;
+use ngc_dialect_execution::Wanted;
+use ngc_dialect_names::Dialect;
+use ngc_dialect_notes::Notes as ProgramNotes;
 use ngc_inputs::{AnswerFault, Files, Shop};
 use ngc_job::Job;
-use ngc_program_report::{FramedJob, ReportRequest, ReportedText};
+use ngc_program_report::{FramedJob, OtherText, ReportRequest, ReportedText};
 use ngc_text::Sink;
 use std::alloc::Global;
 
@@ -74,37 +76,81 @@ fn has_deleted_lines(text: &[u8]) -> bool
     false
 }
 
-// Returns the job of a program with the frames of its commands, or notes on why it is refused. If no
-// line begins with `/`, it is executed once.
+const NOTES: Wanted = Wanted {
+    notes: true,
+    lines: false,
+};
+
+/// A job with the frames of its commands, and the notes on its program at each setting.
+#[derive(Drop)]
+struct NotedJob {
+    framed: FramedJob<Global>,
+    off: ProgramNotes,
+    on: ProgramNotes,
+}
+
+// Returns the notes that were collected.
+fn collected(notes: Option<ProgramNotes>) -> ProgramNotes
+    ensures { result ≡ unwrap_or notes no_notes }
+{
+    notes.unwrap_or(ProgramNotes::none())
+}
+
+// Returns the job of a program with the frames of its commands and the notes on it, or notes on why it
+// is refused. If no line begins with `/`, it is executed once.
 fn framed_dialect(
     alloc: Global,
     dialect: Dialect,
     text: &[u8],
     shop: Shop,
-) -> Result<Result<FramedJob<Global>, Notes>, AnswerFault>
+) -> Result<Result<NotedJob, Notes>, AnswerFault>
     ensures framed { IfOk result (λ made. MatchResult made
-        (λ f. IsFramedDialect dialect (setup_of shop.machine shop.tools) text.now (framed_in f))
+        (IsNotedJob dialect (setup_of shop.machine shop.tools) text.now)
         (NotesRefusal dialect (setup_of shop.machine shop.tools) text.now)) }
     ensures fault { IfErr result (λ e. e ≡ AnswerFault.Memory) }
 {
-    let off = match framed_at(alloc, dialect, text, &shop, false, Some(Setting::Off))? {
+    let setting = Some(Setting::Off);
+    let off = match traced_at(alloc, NOTES, dialect, text, &shop, false, setting)? {
         Ok(off) => off,
         Err(notes) => return Ok(Err(notes)),
     };
     if !has_deleted_lines(text) {
         let Shop { machine, tools } = shop;
-        let job = Job::from_commands(machine, tools, off.commands, None);
-        let (off, on) = (off.frames, None);
-        return Ok(Ok(FramedJob { job, off, on }));
+        let job = Job::from_commands(machine, tools, off.framed.commands, None);
+        let framed = FramedJob {
+            job,
+            off: off.framed.frames,
+            on: None,
+        };
+        let notes = collected(off.notes);
+        return Ok(Ok(NotedJob {
+            framed,
+            off: notes,
+            on: notes,
+        }));
     }
-    let on = match framed_at(alloc, dialect, text, &shop, true, Some(Setting::On))? {
+    let setting = Some(Setting::On);
+    let on = match traced_at(alloc, NOTES, dialect, text, &shop, true, setting)? {
         Ok(on) => on,
         Err(notes) => return Ok(Err(notes)),
     };
     let Shop { machine, tools } = shop;
-    let job = Job::from_commands(machine, tools, off.commands, Some(on.commands));
-    let (off, on) = (off.frames, Some(on.frames));
-    Ok(Ok(FramedJob { job, off, on }))
+    let job = Job::from_commands(
+        machine,
+        tools,
+        off.framed.commands,
+        Some(on.framed.commands),
+    );
+    let framed = FramedJob {
+        job,
+        off: off.framed.frames,
+        on: Some(on.framed.frames),
+    };
+    Ok(Ok(NotedJob {
+        framed,
+        off: collected(off.notes),
+        on: collected(on.notes),
+    }))
 }
 
 // Writes the report of a program, or returns notes on why it is refused.
@@ -124,9 +170,14 @@ fn report_sent<W: Sink>(
         text,
     } = sent;
     match framed_dialect(alloc, dialect, text.as_slice(), shop)? {
-        Ok(framed) => {
-            let text = ReportedText::Other(text.as_slice());
-            report_job(alloc, &text, framed, request, output)?;
+        Ok(noted) => {
+            let other = OtherText {
+                text: text.as_slice(),
+                off: noted.off,
+                on: noted.on,
+            };
+            let text = ReportedText::Other(&other);
+            report_job(alloc, &text, noted.framed, request, output)?;
             Ok(Done::Quietly)
         }
         Err(notes) => Ok(Done::WithNotes(notes)),

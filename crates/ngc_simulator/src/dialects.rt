@@ -1,33 +1,33 @@
 //! Programs for other controls that are executed in their own language: their files, their commands, and
 //! why they are refused.
-ghost use Rattle.std.specs.Prelude.{◌≡◌, false, IfErr, IfOk, IsSome, MatchResult, Ok, Some, option_map};
+ghost use Rattle.std.specs.Prelude.{◌≡◌, false, IfErr, IfOk, IfSome, IsSome, MatchResult, OnOk, Ok, Some, option_map};
 ghost use Rattle.ngc_canonical.specs.Interpreter.{setup_of};
 ghost use Rattle.ngc_dialect_execution.specs.Program.{meaning_in};
 ghost use Rattle.ngc_dialect_faults.specs.Lines.{fault_line};
 ghost use Rattle.ngc_simulator.specs.Answers.{StopsReport, dialect_inputs, report_inputs_in};
-ghost use Rattle.ngc_simulator.specs.DialectReports.{dialect_frames};
+ghost use Rattle.ngc_simulator.specs.DialectReports.{IsTraced, dialect_frames};
 ghost use Rattle.ngc_simulator.specs.Dialects.{IsRead, IsSent, NotesFault, StopsSending};
-ghost use Rattle.ngc_simulator.specs.Dialects.{named_dialect};
 ghost use Rattle.ngc_inputs.specs.Faults.{FailsByOutput};
 ghost use Rattle.ngc_inputs.specs.Setups.{KeepsFiles, KeepsNamed};
-ghost use Rattle.ngc_inputs.specs.Unread.{FailsByInput, SourceFails};
+ghost use Rattle.ngc_inputs.specs.Unread.{FailsByInput, ReportsUnread, SourceFails};
 ghost use Rattle.ngc_job.specs.Job.{AreCommands};
 ghost use Rattle.ngc_machine_files.specs.Machine.{file_of};
 ghost use Rattle.ngc_program_report.specs.Framed.{history_in};
 
-use crate::adapting::source_bytes;
 use crate::done::Notes;
 use crate::mistaken_files::read_placed_reporting;
 use crate::reporting_files::requested_form;
 use ngc_certificate_text::Setting;
 use ngc_command_line::ReportOptions;
-use ngc_dialect_execution::{Cause, DialectFault, interpret_dialect_with_frames};
+use ngc_dialect_execution::{
+    Cause, DialectFault, Traced, Wanted, interpret_dialect_with_frames, trace_dialect,
+};
 use ngc_dialect_faults::write_dialect_fault;
-use ngc_dialect_reader::Dialect;
+use ngc_dialect_names::Dialect;
 use ngc_frames::FramedCommands;
-use ngc_inputs::{AnswerFault, Files, Shop, read_placed};
+use ngc_inputs::{AnswerFault, FILE_LIMIT, Files, Shop, open_file, read_placed};
 use ngc_margins::Changes;
-use ngc_text::{Device, Sink};
+use ngc_text::{Device, InputFault, Sink, read_whole};
 use std::alloc::Global;
 
 /// The names of a control and of the files for it.
@@ -49,17 +49,24 @@ pub(crate) struct Sent {
     pub(crate) text: Vec<u8, Global>,
 }
 
-// Returns the dialect of a control.
-fn dialect_named(name: &str) -> Option<Dialect>
-    ensures { result ≡ named_dialect name.now }
+// Returns the bytes of the named file, or of standard input.
+fn source_bytes<F: Files>(
+    alloc: Global,
+    name: Option<&str>,
+    files: &mut F,
+) -> Result<Vec<u8>, InputFault>
+    ensures value { IfSome (F.bytes files.old (option_map (λ n. n.now) name.entry))
+        (λ bytes. IfOk result (λ v. v.items ≡ bytes)) }
+    ensures keeps { IsSome name.entry → KeepsFiles (F.bytes files.old) (F.bytes files.new) }
+    ensures named { KeepsNamed (F.bytes files.old) (F.bytes files.new) }
+    ensures counts { OnOk result (F.failures files.new ≡ F.failures files.old) }
+    ensures unread { IfErr result
+        (ReportsUnread (SourceFails F.R.remaining F.R.failures)
+        (F.bytes files.old (option_map (λ n. n.now) name.entry))
+        (F.failures files.old) (F.failures files.new)) }
 {
-    match name {
-        "linuxcnc" => Some(Dialect::LinuxCnc),
-        "grbl" => Some(Dialect::Grbl),
-        "mach3" => Some(Dialect::Mach3),
-        "fanuc" => Some(Dialect::Fanuc),
-        _ => None,
-    }
+    let mut source = open_file(name, files)?;
+    read_whole(alloc, &mut source, FILE_LIMIT)
 }
 
 /// Reads the files for a control: 724 if it isn't known. The machine file is read first, and then
@@ -78,7 +85,7 @@ pub(crate) fn read_sent<F: Files>(
         (option_map (λ n. n.now) names.now.tools) (option_map (λ n. n.now) names.now.program))
         (F.failures files.old) (F.failures files.new) result }
 {
-    let Some(dialect) = dialect_named(names.control) else {
+    let Some(dialect) = Dialect::named(names.control) else {
         return Err(AnswerFault::UnknownControl);
     };
     let shop = read_placed(alloc, names.machine, names.tools, &names.changes, files)?;
@@ -110,7 +117,7 @@ pub(crate) fn read_sent_reporting<F: Files, W: Sink>(
         (F.failures files.new) result }
     ensures sink { FailsByOutput result (W.failures output.old) (W.failures output.new) }
 {
-    let Some(dialect) = dialect_named(control) else {
+    let Some(dialect) = Dialect::named(control) else {
         return Err(AnswerFault::UnknownControl);
     };
     let form = requested_form(options.json);
@@ -144,6 +151,41 @@ pub(crate) fn refused(
             is_written: false,
         }),
         Err(_) => Err(AnswerFault::Memory),
+    }
+}
+
+/// Executes a program at a setting of block delete, and returns what was executed with what is wanted
+/// besides, or notes on why it is refused. They name the setting where a command needs both.
+pub(crate) fn traced_at(
+    alloc: Global,
+    wanted: Wanted,
+    dialect: Dialect,
+    text: &[u8],
+    shop: &Shop,
+    block_delete: bool,
+    setting: Option<Setting>,
+) -> Result<Result<Traced<Global>, Notes>, AnswerFault>
+    ensures executed { IfOk result (λ made. MatchResult made
+        (IsTraced wanted dialect (setup_of shop.now.machine shop.now.tools) block_delete text.now)
+        (NotesFault dialect (setup_of shop.now.machine shop.now.tools) block_delete text.now
+        setting)) }
+    ensures fault { IfErr result (λ e. e ≡ AnswerFault.Memory) }
+{
+    match trace_dialect(
+        alloc,
+        wanted,
+        dialect,
+        text,
+        &shop.machine,
+        &shop.tools,
+        block_delete,
+    ) {
+        Ok(traced) => Ok(Ok(traced)),
+        Err(DialectFault::Memory) => Err(AnswerFault::Memory),
+        Err(DialectFault::At { line, cause }) => {
+            let notes = refused(alloc, setting, line, &cause)?;
+            Ok(Err(notes))
+        }
     }
 }
 

@@ -10,7 +10,7 @@ export const numberOf = control => OPTIONS.indexOf(control);
 export const controlIn = value => (value === OWN || OPTIONS.includes(value) ? value : null);
 // The dialect that an answer leads to, or null for our own language.
 export const dialectOf = control => (OPTIONS.includes(control) ? control : null);
-// The dialect of the program in use. An example is in our own language, and so is what `ngc adapt` wrote.
+// The dialect of the program in use. An example is in our own language, and so is what `ngc adapt` printed.
 export const dialectNow = ({ files, control }) => (files.program?.isOwn ? null : dialectOf(control));
 
 // What only one control's programs have. The first one that a program has counts. Each looks within a line, so that a long text takes no

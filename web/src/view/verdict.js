@@ -92,7 +92,7 @@ export function makeVerdict(store, actions, editor) {
       buttonsOfCuts(group, store.state.cuts),
       group?.commands[0]?.command.fact === 'command' ? button('Where would it fit?', () => { actions.tab('place'); actions.place(); }) : null,
       mayAsk ? button('Is it for a control\u2026', actions.ask) : null,
-      isRefusal(report) ? button('Rewrite for this control\u2026', actions.adapt) : null,
+      isRefusal(report) && !report.dialect ? button('Rewrite for this control\u2026', actions.adapt) : null,
       report.fault ? button(`What is fault ${report.fault}?`, () => { actions.tab('report'); id('explained').focus(); }, 'small plain') : null);
   }
   function showFigures(group, scene, unit) {

@@ -73,7 +73,7 @@ returns-in-Ok-changes_of-clause-spelled_place c =
 
 pub returns-in-Ok-changes_of-clause-spelled_adapt : goal.returns-in-Ok-changes_of-clause-spelled_adapt
 returns-in-Ok-changes_of-clause-spelled_adapt c =
-    λ from machine tool drop program range spelled. adapt_read _ from machine tool drop program _ range spelled (returns-in-Ok-changes_of-clause-options c)
+    λ from machine tools program delete spelled. adapt_read _ from machine tools program delete _ spelled (returns-in-Ok-changes_of-clause-options c)
 
 pub returns-in-Ok-changes_of-clause-spelled_machine : goal.returns-in-Ok-changes_of-clause-spelled_machine
 returns-in-Ok-changes_of-clause-spelled_machine c =
@@ -133,9 +133,9 @@ returns-in-Err-clause-spelled_place c = λ machine tools program system cuts jso
     (taken_is_memory _ _ c.in-Err.error c.in-Ok.ensures (place_taken _ machine tools program system cuts json range spelled) c.in-Err.ensures.kinds)
 
 pub returns-in-Err-clause-spelled_adapt : goal.returns-in-Err-clause-spelled_adapt
-returns-in-Err-clause-spelled_adapt c = λ from machine tool drop program range spelled.
+returns-in-Err-clause-spelled_adapt c = λ from machine tools program delete spelled.
     c.usage_fault.ensures
-    (taken_is_memory _ _ c.in-Err.error c.in-Ok.ensures (adapt_taken _ from machine tool drop program range spelled) c.in-Err.ensures.kinds)
+    (taken_is_memory _ _ c.in-Err.error c.in-Ok.ensures (adapt_taken _ from machine tools program delete spelled) c.in-Err.ensures.kinds)
 
 pub returns-in-Err-clause-spelled_machine : goal.returns-in-Err-clause-spelled_machine
 returns-in-Err-clause-spelled_machine c = λ source corner ticks frame spelled.
@@ -237,7 +237,7 @@ returns-in-Some-clause-spelled_adapt c =
     let words = texts c.args.words.now in
     let matches = (c.in-Ok-try_get_matches_from.ensures.matches (ap is_simple built ∙ ngc_is_simple)).1 in
     let found = found_from_parts _ _ _ _ _ _ c.in-Some.ensures.name c.in-Some.ensures.rows (matches ∙ ap (λ (app : App). subcommand_of app words) built) in
-    λ from machine tool drop program range spelled. wrong_changes _ _ _ found c.in-Err-changes_of.ensures (adapt_changes _ from machine tool drop program range spelled)
+    λ from machine tools program delete spelled. wrong_changes _ _ _ found c.in-Err-changes_of.ensures (adapt_changes _ from machine tools program delete spelled)
 
 pub returns-in-Some-clause-spelled_machine : goal.returns-in-Some-clause-spelled_machine
 returns-in-Some-clause-spelled_machine c =

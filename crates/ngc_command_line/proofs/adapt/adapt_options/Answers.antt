@@ -7,7 +7,7 @@ pub returns : goal.returns
 returns c = record {
   from = c.required.ensures;
   machine = c.get_str.ensures ∙ first_value-rows (found_of c.args.found.now) (codes "machine");
-  tool = c.tool_of.ensures;
-  drop = c.get_str-2.ensures ∙ first_value-rows (found_of c.args.found.now) (codes "drop");
+  tools = c.get_str-2.ensures ∙ first_value-rows (found_of c.args.found.now) (codes "tools");
   program = c.get_str-3.ensures ∙ first_value-rows (found_of c.args.found.now) (codes "program");
+  delete = c.flag_is_set.ensures;
 }

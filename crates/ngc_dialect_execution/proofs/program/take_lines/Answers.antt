@@ -35,7 +35,7 @@ returns-then-is_ended g c =
     (c.in-Ok-Done.ensures ∙ ap (λ t. Ok (t, progress_in c.take_marked.new.interpreter)) c.in-Ok-Done.field-0-is)
     (sym c.is_ended.ensures ∙ c.if-is_ended.true)
     (noted _ c.command_count-count.result c.frame-frame.result (progress_in c.loop-rest.interpreter) (progress_in c.take_marked.new.interpreter) _ _ c.command_count-count.ensures c.frame-frame.ensures c.in-Ok.ensures)
-    c.into_commands.ensures
+    c.framed_by.ensures
 
 pub loop-rest-preserved : goal.loop-rest-preserved
 loop-rest-preserved g c =

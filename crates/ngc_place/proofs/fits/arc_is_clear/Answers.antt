@@ -4,5 +4,5 @@ use Rattle.ngc_place.proofs.fits.arc_is_clear.Goals as goal
 
 pub returns : goal.returns
 returns g c =
-    arc_is (file_of c.args.machine.now) c.args.tool.now c.args.shifts.now c.args.moves c.args.arc.now _ _ _ c.arc_low-low.ensures c.arc_high-high.ensures
+    arc_is (file_of c.args.machine.now) c.args.tool.now c.args.shifts.now c.args.moves c.args.arc.now _ _ _ c.arc_box.ensures.low c.arc_box.ensures.high
     c.box_is_clear.ensures

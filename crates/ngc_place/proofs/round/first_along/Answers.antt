@@ -14,11 +14,11 @@ returns c =
     let arc = c.args.arc.now in
     let kept : to_z w32 (of_z w32 c.first_within.result) ≡ c.first_within.result = omega (arith, ints) in
     let kept_sum : to_z w64 (of_z w64 c.plus_steps-least.result) ≡ c.plus_steps-least.result = omega (arith, ints) in
-    let kept_margin : to_z w64 (of_z w64 c.margin.result) ≡ c.margin.result = omega (arith, ints) in
-    let kept_least : to_z w64 (of_z w64 c.least_along.result) ≡ c.least_along.result = omega (arith, ints) in
+    let kept_margin : to_z w64 (of_z w64 c.args.reach.now.margin) ≡ c.args.reach.now.margin = omega (arith, ints, c.requires.reach.margin_size) in
+    let kept_least : to_z w64 (of_z w64 c.least.result) ≡ c.least.result = omega (arith, ints) in
     let kept_steps : to_z w32 (of_z w32 c.steps.result) ≡ c.steps.result = omega (arith, ints) in
     let steps = c.steps.ensures.value ∙ ap (λ p. steps_along p axis by) c.plane.ensures in
-    let least = c.plus_steps-least.ensures.value ∙ ap₂ (λ x n. x +ℤ (n *ℤ step)) (kept_least ∙ c.least_along.ensures.value) (kept_steps ∙ steps) in
+    let least = c.plus_steps-least.ensures.value ∙ ap₂ (λ x n. x +ℤ (n *ℤ step)) (kept_least ∙ c.least.ensures ∙ c.requires.reach.least axis) (kept_steps ∙ steps) in
     kept ∙ c.first_within.ensures
-    ∙ ap₂ (λ x m. grid_above step (x -ℤ m)) (kept_sum ∙ least) (kept_margin ∙ c.margin.ensures.value)
+    ∙ ap₂ (λ x m. grid_above step (x -ℤ m)) (kept_sum ∙ least) (kept_margin ∙ c.requires.reach.margin)
     ∙ sym (first_is step by axis arc)

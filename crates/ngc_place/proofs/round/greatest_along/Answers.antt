@@ -1,12 +1,9 @@
-use Rattle.std.proofs.Common.{◌≡◌, to_z, of_z, arith, ap, ap₂, ◌∙◌, lit<, map, fold}
+use Rattle.std.proofs.Common.{◌≡◌, to_z, of_z, arith, ap, ap₂, ◌∙◌, map, fold}
 use Rattle.std.specs.Int.{w64, int_max}
 use Rattle.std.proofs.lemmas.Int.{ints, clamps}
 use Rattle.ngc_fixed_length.specs.Places.{in_plane}
 use Rattle.ngc_place.specs.Inside.{along, greatest_of}
 use Rattle.ngc_place.proofs.round.greatest_along.Goals as goal
-
-pub as_slice-requires : goal.as_slice-requires
-as_slice-requires c = lit< tt
 
 pub greatest-requires : goal.greatest-requires
 greatest-requires c = omega (arith, ints, clamps)
@@ -26,4 +23,4 @@ returns-clause-value c =
     let end = c.along-end.ensures.value ∙ ap (along axis) (c.in_plane-2.ensures ∙ ap₂ in_plane c.plane-2.ensures c.end.ensures.value) in
     let first = c.max.ensures.value ∙ ap₂ int_max (kept_start ∙ start) (kept_end ∙ end) in
     kept ∙ c.greatest.ensures.value
-    ∙ ap₂ (λ z ps. fold int_max z (map (along axis) ps)) (kept_first ∙ first) (c.as_slice.ensures.value ∙ c.extremes.ensures)
+    ∙ ap₂ (λ z ps. fold int_max z (map (along axis) ps)) (kept_first ∙ first) c.requires

@@ -14,11 +14,11 @@ returns c =
     let arc = c.args.arc.now in
     let kept : to_z w32 (of_z w32 c.last_within.result) ≡ c.last_within.result = omega (arith, ints) in
     let kept_sum : to_z w64 (of_z w64 c.plus_steps-greatest.result) ≡ c.plus_steps-greatest.result = omega (arith, ints) in
-    let kept_margin : to_z w64 (of_z w64 c.margin.result) ≡ c.margin.result = omega (arith, ints) in
-    let kept_greatest : to_z w64 (of_z w64 c.greatest_along.result) ≡ c.greatest_along.result = omega (arith, ints) in
+    let kept_margin : to_z w64 (of_z w64 c.args.reach.now.margin) ≡ c.args.reach.now.margin = omega (arith, ints, c.requires.reach.margin_size) in
+    let kept_greatest : to_z w64 (of_z w64 c.greatest.result) ≡ c.greatest.result = omega (arith, ints) in
     let kept_steps : to_z w32 (of_z w32 c.steps.result) ≡ c.steps.result = omega (arith, ints) in
     let steps = c.steps.ensures.value ∙ ap (λ p. steps_along p axis by) c.plane.ensures in
-    let greatest = c.plus_steps-greatest.ensures.value ∙ ap₂ (λ x n. x +ℤ (n *ℤ step)) (kept_greatest ∙ c.greatest_along.ensures.value) (kept_steps ∙ steps) in
+    let greatest = c.plus_steps-greatest.ensures.value ∙ ap₂ (λ x n. x +ℤ (n *ℤ step)) (kept_greatest ∙ c.greatest.ensures ∙ c.requires.reach.greatest axis) (kept_steps ∙ steps) in
     kept ∙ c.last_within.ensures
-    ∙ ap₂ (λ x m. grid_below step (x +ℤ m)) (kept_sum ∙ greatest) (kept_margin ∙ c.margin.ensures.value)
+    ∙ ap₂ (λ x m. grid_below step (x +ℤ m)) (kept_sum ∙ greatest) (kept_margin ∙ c.requires.reach.margin)
     ∙ sym (last_is step by axis arc)

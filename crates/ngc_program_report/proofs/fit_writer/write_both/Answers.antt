@@ -7,6 +7,7 @@ use Rattle.ngc_machine_files.specs.declared.tools.Tool.{Tool}
 use Rattle.ngc_machine_files.specs.Tools.{tools_of}
 use Rattle.ngc_program_report.specs.Coordinates.{history_of}
 use Rattle.ngc_program_report.specs.Reported.{reported}
+use Rattle.ngc_program_report.specs.Texts.{findings}
 use Rattle.ngc_program_report.proofs.FitLaws.{setting_as, shop_as}
 use Rattle.ngc_program_report.proofs.WritingLaws.{stops, then, writes_as}
 use Rattle.ngc_program_report.proofs.WrittenLaws.{appends_as, begins_as}
@@ -30,7 +31,7 @@ write_setting-requires-2 g c =
 
 pub returns-in_err-write_setting : goal.returns-in_err-write_setting
 returns-in_err-write_setting g c =
-    let off = setting_as c.args.form c.args.origins.now true true Off (g.M.MotionList.entries c.args.off_motions.now) c.args.off.now.time
+    let off = setting_as c.args.form c.args.origins.now true true Off (g.M.MotionList.entries c.args.off_motions.now) (findings c.args.off.now.time c.args.off.now.material)
     (history_of c.args.off.now.history.now.start c.args.off.now.history.now.changes.items) (reported c.args.text.now)
     (file_of c.machine-machine.result.now) c.args.accepted.now.machine (tools_of c.tools-tools.result.now) c.args.accepted.now.tools
     c.commands.result.now c.args.accepted.now.off c.machine-machine.ensures.value c.tools-tools.ensures c.commands.ensures in
@@ -38,11 +39,11 @@ returns-in_err-write_setting g c =
 
 pub returns-in_err-write_setting-2 : goal.returns-in_err-write_setting-2
 returns-in_err-write_setting-2 g c =
-    let off = setting_as c.args.form c.args.origins.now true true Off (g.M.MotionList.entries c.args.off_motions.now) c.args.off.now.time
+    let off = setting_as c.args.form c.args.origins.now true true Off (g.M.MotionList.entries c.args.off_motions.now) (findings c.args.off.now.time c.args.off.now.material)
     (history_of c.args.off.now.history.now.start c.args.off.now.history.now.changes.items) (reported c.args.text.now)
     (file_of c.machine-machine.result.now) c.args.accepted.now.machine (tools_of c.tools-tools.result.now) c.args.accepted.now.tools
     c.commands.result.now c.args.accepted.now.off c.machine-machine.ensures.value c.tools-tools.ensures c.commands.ensures in
-    let on = setting_as c.args.form c.args.origins.now false true On (g.M.MotionList.entries c.args.on_motions.now) c.args.on.now.time
+    let on = setting_as c.args.form c.args.origins.now false true On (g.M.MotionList.entries c.args.on_motions.now) (findings c.args.on.now.time c.args.on.now.material)
     (history_of c.args.on.now.history.now.start c.args.on.now.history.now.changes.items) (reported c.args.text.now)
     (file_of c.machine-machine.result.now) c.args.accepted.now.machine (tools_of c.tools-tools.result.now) c.args.accepted.now.tools
     c.commands-2.result.now c.args.accepted.now.on c.machine-machine.ensures.value c.tools-tools.ensures c.commands-2.ensures in
@@ -51,11 +52,11 @@ returns-in_err-write_setting-2 g c =
 
 pub returns : goal.returns
 returns g c =
-    let off = setting_as c.args.form c.args.origins.now true true Off (g.M.MotionList.entries c.args.off_motions.now) c.args.off.now.time
+    let off = setting_as c.args.form c.args.origins.now true true Off (g.M.MotionList.entries c.args.off_motions.now) (findings c.args.off.now.time c.args.off.now.material)
     (history_of c.args.off.now.history.now.start c.args.off.now.history.now.changes.items) (reported c.args.text.now)
     (file_of c.machine-machine.result.now) c.args.accepted.now.machine (tools_of c.tools-tools.result.now) c.args.accepted.now.tools
     c.commands.result.now c.args.accepted.now.off c.machine-machine.ensures.value c.tools-tools.ensures c.commands.ensures in
-    let on = setting_as c.args.form c.args.origins.now false true On (g.M.MotionList.entries c.args.on_motions.now) c.args.on.now.time
+    let on = setting_as c.args.form c.args.origins.now false true On (g.M.MotionList.entries c.args.on_motions.now) (findings c.args.on.now.time c.args.on.now.material)
     (history_of c.args.on.now.history.now.start c.args.on.now.history.now.changes.items) (reported c.args.text.now)
     (file_of c.machine-machine.result.now) c.args.accepted.now.machine (tools_of c.tools-tools.result.now) c.args.accepted.now.tools
     c.commands-2.result.now c.args.accepted.now.on c.machine-machine.ensures.value c.tools-tools.ensures c.commands-2.ensures in

@@ -7,6 +7,7 @@ use Rattle.ngc_machine_files.specs.declared.tools.Tool.{Tool}
 use Rattle.ngc_machine_files.specs.Tools.{tools_of}
 use Rattle.ngc_program_report.specs.Coordinates.{history_of}
 use Rattle.ngc_program_report.specs.Reported.{reported}
+use Rattle.ngc_program_report.specs.Texts.{findings}
 use Rattle.ngc_program_report.proofs.FitLaws.{setting_as, shop_as}
 use Rattle.ngc_program_report.proofs.WritingLaws.{stops, then, writes_as}
 use Rattle.ngc_program_report.proofs.WrittenLaws.{appends_as, begins_as}
@@ -22,7 +23,7 @@ write_setting-requires g c =
 
 pub returns-in_err-write_setting : goal.returns-in_err-write_setting
 returns-in_err-write_setting g c =
-    let off = setting_as c.args.form c.args.origins.now true false Off (g.M.MotionList.entries c.args.motions.now) c.args.fit.now.time
+    let off = setting_as c.args.form c.args.origins.now true false Off (g.M.MotionList.entries c.args.motions.now) (findings c.args.fit.now.time c.args.fit.now.material)
     (history_of c.args.fit.now.history.now.start c.args.fit.now.history.now.changes.items) (reported c.args.text.now)
     (file_of c.machine-machine.result.now) c.args.accepted.now.machine (tools_of c.tools-tools.result.now) c.args.accepted.now.tools
     c.commands.result.now c.args.accepted.now.off c.machine-machine.ensures.value c.tools-tools.ensures c.commands.ensures in
@@ -30,7 +31,7 @@ returns-in_err-write_setting g c =
 
 pub returns : goal.returns
 returns g c =
-    let off = setting_as c.args.form c.args.origins.now true false Off (g.M.MotionList.entries c.args.motions.now) c.args.fit.now.time
+    let off = setting_as c.args.form c.args.origins.now true false Off (g.M.MotionList.entries c.args.motions.now) (findings c.args.fit.now.time c.args.fit.now.material)
     (history_of c.args.fit.now.history.now.start c.args.fit.now.history.now.changes.items) (reported c.args.text.now)
     (file_of c.machine-machine.result.now) c.args.accepted.now.machine (tools_of c.tools-tools.result.now) c.args.accepted.now.tools
     c.commands.result.now c.args.accepted.now.off c.machine-machine.ensures.value c.tools-tools.ensures c.commands.ensures in

@@ -18,4 +18,11 @@ pub returns : goal.returns
 returns g c =
     then _ _ c.in_ok-write_heading.ensures.ok c.in_ok-write_heading.ensures.counts
     (then _ _ c.in_ok-write_fit.ensures.ok c.in_ok-write_fit.ensures.counts
-    (then _ _ c.in_ok-write_duration.ensures.ok c.in_ok-write_duration.ensures.counts c.write_remarks.ensures))
+    (then _ _ c.in_ok-write_duration.ensures.ok c.in_ok-write_duration.ensures.counts (then _ _ c.in_ok-write_remarks.ensures.ok c.in_ok-write_remarks.ensures.counts c.write_stock.ensures)))
+
+pub returns-in_err-write_remarks : goal.returns-in_err-write_remarks
+returns-in_err-write_remarks g c =
+    then _ _ c.in_ok-write_heading.ensures.ok c.in_ok-write_heading.ensures.counts
+    (then _ _ c.in_ok-write_fit.ensures.ok c.in_ok-write_fit.ensures.counts
+    (then _ _ c.in_ok-write_duration.ensures.ok c.in_ok-write_duration.ensures.counts
+    (stops _ _ c.from_residual-in_err-write_remarks.ensures.0 c.in_err-write_remarks.ensures.fault c.in_err-write_remarks.ensures.counts)))

@@ -23,10 +23,10 @@ returns-in_err-write_words g c =
     let m = file_of c.args.subject.now.machine.now in
     let cs = c.args.execution.now.commands.now in
     let h = c.args.execution.now.history.now in
-    let lines = (reported c.args.subject.now.text.now).examined in
+    let lines = reported c.args.subject.now.text.now in
     let setup = setup_of c.args.subject.now.machine.now c.args.subject.now.tools.now in
     let changes = history_of h.start h.changes.items in
-    let words = ap (λ (deletes : Bool). language_warnings c.args.subject.now.form deletes setup changes cs lines) c.is_on.ensures in
+    let words = ap (λ (deletes : Bool). language_warnings c.args.subject.now.form deletes setup changes cs lines.examined lines.notes) c.is_on.ensures in
     then _ _ c.in_ok-write_warnings.ensures.ok c.in_ok-write_warnings.ensures.counts
     (then _ _ c.in_ok-write_tool_warnings.ensures.ok c.in_ok-write_tool_warnings.ensures.counts
     (stops _ _ c.from_residual-in_err-write_words.ensures.0 (begins_as _ _ _ _ words c.in_err-write_words.ensures.fault) c.in_err-write_words.ensures.counts))
@@ -36,10 +36,10 @@ returns g c =
     let m = file_of c.args.subject.now.machine.now in
     let cs = c.args.execution.now.commands.now in
     let h = c.args.execution.now.history.now in
-    let lines = (reported c.args.subject.now.text.now).examined in
+    let lines = reported c.args.subject.now.text.now in
     let setup = setup_of c.args.subject.now.machine.now c.args.subject.now.tools.now in
     let changes = history_of h.start h.changes.items in
-    let words = ap (λ (deletes : Bool). language_warnings c.args.subject.now.form deletes setup changes cs lines) c.is_on.ensures in
+    let words = ap (λ (deletes : Bool). language_warnings c.args.subject.now.form deletes setup changes cs lines.examined lines.notes) c.is_on.ensures in
     let origins = ap (λ (ts : List Tool). origin_warnings c.args.subject.now.form m ts h.start h.changes.items cs) c.tools-table.ensures.tools in
     then _ _ c.in_ok-write_warnings.ensures.ok c.in_ok-write_warnings.ensures.counts
     (then _ _ c.in_ok-write_tool_warnings.ensures.ok c.in_ok-write_tool_warnings.ensures.counts

@@ -2,7 +2,7 @@ use Rattle.std.proofs.Common.{◌≡◌, ℕ, List, true, false, ap, refl, subst
 use Rattle.std.specs.Prelude.{is_some}
 use Rattle.ngc_certificate.specs.Uncleared.{AreUncleared}
 use Rattle.ngc_job.specs.Job.{commands_in}
-use Rattle.ngc_certificate_text.specs.declared.piece.Setting.TheVariants.{Off, On}
+use Rattle.ngc_certificate_text.specs.declared.piece.Setting.TheVariants.{On}
 use Rattle.ngc_machine_files.specs.Machine.{file_of}
 use Rattle.ngc_machine_files.specs.Tools.{tools_of}
 use Rattle.ngc_program_report.specs.Framed.{framed_in, frames_at, history_in}

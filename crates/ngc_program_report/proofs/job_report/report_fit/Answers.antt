@@ -9,8 +9,9 @@ use Rattle.ngc_program_report.specs.Framed.{framed_in}
 use Rattle.ngc_program_report.specs.JobReports.{FailsByWriting, IsFitText, Prints}
 use Rattle.ngc_report.specs.declared.report_fault.ReportFault.TheVariants as faults
 use Rattle.ngc_program_report.specs.Reported.{reported}
-use Rattle.ngc_program_report.proofs.JobTexts.{fit_both, fit_once, lasts_off, lasts_on, planned_as}
-use Rattle.ngc_program_report.proofs.MemoryLaws.{memory_tells}
+use Rattle.ngc_program_report.specs.Texts.{findings}
+use Rattle.ngc_program_report.proofs.JobTexts.{fit_both, fit_once, walked_as, found_off, found_on, planned_as}
+use Rattle.ngc_program_report.proofs.MemoryLaws.{memory_counts, memory_tells}
 use Rattle.ngc_report.proofs.Converted.{turned}
 use Rattle.ngc_program_report.proofs.job_report.report_fit.Goals as goal
 
@@ -43,10 +44,13 @@ returns-then-not-apart-clause-tells g c =
     let none : is_some j.on ≡ false = sym c.has_deleted_lines-apart.ensures ∙ c.if-not-apart.true in
     let is = c.in_ok-off_time.ensures.back ∙ c.accept-accepted.ensures in (
       _,
-      fit_once f said c.args.form c.args.origins.now c.in_ok-off_time.accepted (planned_by c.motions_at-motions.result) c.in_ok-off_time.off_time
+      fit_once f said c.args.form c.args.origins.now c.in_ok-off_time.accepted (planned_by c.motions_at-motions.result) (findings c.in_ok-off_time.off_time c.in_ok-material.material)
           (reported c.args.text.now) none is
           (c.motions_at-motions.ensures ∙ planned_as j c.in_ok-off_time.accepted false (plan_at Off c.args.plans.now) is)
-          (lasts_off c.accept-accepted.result j c.in_ok-off_time.off_time c.accept-accepted.ensures c.in_ok-off_time.ensures.lasts),
+          (found_off c.accept-accepted.result j (findings c.in_ok-off_time.off_time c.in_ok-material.material) c.accept-accepted.ensures (record {
+            lasts = c.in_ok-off_time.ensures.lasts;
+            walked = walked_as _ _ _ false c.in_ok-off_time.ensures.back c.in_ok-material.ensures.walked;
+          })),
       c.in_ok-write_once.ensures.ok,
     )
 
@@ -62,10 +66,13 @@ returns-in_err-write_once-clause-tells g c =
     (g.W.Sink.written c.write_once.new.output) r)
     c.from_residual-in_err-write_once.ensures.1 (
       _,
-      fit_once f said c.args.form c.args.origins.now c.in_ok-off_time.accepted (planned_by c.motions_at-motions.result) c.in_ok-off_time.off_time
+      fit_once f said c.args.form c.args.origins.now c.in_ok-off_time.accepted (planned_by c.motions_at-motions.result) (findings c.in_ok-off_time.off_time c.in_ok-material.material)
           (reported c.args.text.now) none is
           (c.motions_at-motions.ensures ∙ planned_as j c.in_ok-off_time.accepted false (plan_at Off c.args.plans.now) is)
-          (lasts_off c.accept-accepted.result j c.in_ok-off_time.off_time c.accept-accepted.ensures c.in_ok-off_time.ensures.lasts),
+          (found_off c.accept-accepted.result j (findings c.in_ok-off_time.off_time c.in_ok-material.material) c.accept-accepted.ensures (record {
+            lasts = c.in_ok-off_time.ensures.lasts;
+            walked = walked_as _ _ _ false c.in_ok-off_time.ensures.back c.in_ok-material.ensures.walked;
+          })),
       c.in_err-write_once.ensures.fault,
     )
 
@@ -79,12 +86,19 @@ returns-clause-tells g c =
     let is = c.in_ok-on_time.ensures.back ∙ before in (
       _,
       fit_both f c.frames_or-on_history.result.now said c.args.form c.args.origins.now c.in_ok-on_time.accepted
-          (planned_by c.motions_at-off_motions.result) (planned_by c.motions_at-on_motions.result) c.in_ok-off_time.off_time c.in_ok-on_time.on_time
+          (planned_by c.motions_at-off_motions.result) (planned_by c.motions_at-on_motions.result) (findings c.in_ok-off_time.off_time c.in_ok-off_material.off_material)
+          (findings c.in_ok-on_time.on_time c.in_ok-on_material.on_material)
           (reported c.args.text.now) some is
           (c.motions_at-off_motions.ensures ∙ planned_as j c.in_ok-on_time.accepted false (plan_at Off c.args.plans.now) is)
           (c.motions_at-on_motions.ensures ∙ planned_as j c.in_ok-on_time.accepted true (plan_at On c.args.plans.now) is)
-          (lasts_off c.accept-accepted.result j c.in_ok-off_time.off_time c.accept-accepted.ensures c.in_ok-off_time.ensures.lasts)
-          (lasts_on c.in_ok-off_time.accepted j c.in_ok-on_time.on_time before c.in_ok-on_time.ensures.lasts)
+          (found_off c.accept-accepted.result j (findings c.in_ok-off_time.off_time c.in_ok-off_material.off_material) c.accept-accepted.ensures (record {
+            lasts = c.in_ok-off_time.ensures.lasts;
+            walked = walked_as _ _ _ false (c.in_ok-on_time.ensures.back ∙ c.in_ok-off_time.ensures.back) c.in_ok-off_material.ensures.walked;
+          }))
+          (found_on c.in_ok-off_time.accepted j (findings c.in_ok-on_time.on_time c.in_ok-on_material.on_material) before (record {
+            lasts = c.in_ok-on_time.ensures.lasts;
+            walked = walked_as _ _ _ true c.in_ok-on_time.ensures.back c.in_ok-on_material.ensures.walked;
+          }))
           c.frames_or-on_history.ensures,
       c.in_ok-write_both.ensures.ok,
     )
@@ -103,12 +117,19 @@ returns-in_err-write_both-clause-tells g c =
     c.from_residual-in_err-write_both.ensures.1 (
       _,
       fit_both f c.frames_or-on_history.result.now said c.args.form c.args.origins.now c.in_ok-on_time.accepted
-          (planned_by c.motions_at-off_motions.result) (planned_by c.motions_at-on_motions.result) c.in_ok-off_time.off_time c.in_ok-on_time.on_time
+          (planned_by c.motions_at-off_motions.result) (planned_by c.motions_at-on_motions.result) (findings c.in_ok-off_time.off_time c.in_ok-off_material.off_material)
+          (findings c.in_ok-on_time.on_time c.in_ok-on_material.on_material)
           (reported c.args.text.now) some is
           (c.motions_at-off_motions.ensures ∙ planned_as j c.in_ok-on_time.accepted false (plan_at Off c.args.plans.now) is)
           (c.motions_at-on_motions.ensures ∙ planned_as j c.in_ok-on_time.accepted true (plan_at On c.args.plans.now) is)
-          (lasts_off c.accept-accepted.result j c.in_ok-off_time.off_time c.accept-accepted.ensures c.in_ok-off_time.ensures.lasts)
-          (lasts_on c.in_ok-off_time.accepted j c.in_ok-on_time.on_time before c.in_ok-on_time.ensures.lasts)
+          (found_off c.accept-accepted.result j (findings c.in_ok-off_time.off_time c.in_ok-off_material.off_material) c.accept-accepted.ensures (record {
+            lasts = c.in_ok-off_time.ensures.lasts;
+            walked = walked_as _ _ _ false (c.in_ok-on_time.ensures.back ∙ c.in_ok-off_time.ensures.back) c.in_ok-off_material.ensures.walked;
+          }))
+          (found_on c.in_ok-off_time.accepted j (findings c.in_ok-on_time.on_time c.in_ok-on_material.on_material) before (record {
+            lasts = c.in_ok-on_time.ensures.lasts;
+            walked = walked_as _ _ _ true c.in_ok-on_time.ensures.back c.in_ok-on_material.ensures.walked;
+          }))
           c.frames_or-on_history.ensures,
       c.in_err-write_both.ensures.fault,
     )
@@ -152,3 +173,32 @@ returns-in_err-write_once-clause-counts g c =
     turned _ (faults.Write c.in_err-write_once.field-0.0)
     (λ r. FailsByWriting r (g.W.Sink.failures c.args.output.now) (g.W.Sink.failures c.write_once.new.output))
     c.from_residual-in_err-write_once.ensures.1 c.in_err-write_once.ensures.counts
+
+pub returns-in_err-material-clause-tells : goal.returns-in_err-material-clause-tells
+returns-in_err-material-clause-tells g c =
+    let j = c.args.framed.job in
+    let said = both_planned j.machine.step j.off (commands_in true j) c.args.plans.now in
+    memory_tells (IsFitText (framed_in c.args.framed) said c.args.form c.args.origins.now (reported c.args.text.now)) (g.W.Sink.written c.args.output.now) _
+    c.in_err-material.field-0.0 c.from_residual-in_err-material.ensures.1 c.in_err-material.ensures.memory
+
+pub returns-in_err-off_material-clause-tells : goal.returns-in_err-off_material-clause-tells
+returns-in_err-off_material-clause-tells g c =
+    let j = c.args.framed.job in
+    let said = both_planned j.machine.step j.off (commands_in true j) c.args.plans.now in
+    memory_tells (IsFitText (framed_in c.args.framed) said c.args.form c.args.origins.now (reported c.args.text.now)) (g.W.Sink.written c.args.output.now) _
+    c.in_err-off_material.field-0.0 c.from_residual-in_err-off_material.ensures.1 c.in_err-off_material.ensures.memory
+
+pub returns-in_err-on_material-clause-tells : goal.returns-in_err-on_material-clause-tells
+returns-in_err-on_material-clause-tells g c =
+    let j = c.args.framed.job in
+    let said = both_planned j.machine.step j.off (commands_in true j) c.args.plans.now in
+    memory_tells (IsFitText (framed_in c.args.framed) said c.args.form c.args.origins.now (reported c.args.text.now)) (g.W.Sink.written c.args.output.now) _
+    c.in_err-on_material.field-0.0 c.from_residual-in_err-on_material.ensures.1 c.in_err-on_material.ensures.memory
+
+pub returns-in_err-off_material-clause-counts : goal.returns-in_err-off_material-clause-counts
+returns-in_err-off_material-clause-counts g c =
+    memory_counts (g.W.Sink.failures c.args.output.now) _ c.in_err-off_material.field-0.0 c.from_residual-in_err-off_material.ensures.1 c.in_err-off_material.ensures.memory
+
+pub returns-in_err-on_material-clause-counts : goal.returns-in_err-on_material-clause-counts
+returns-in_err-on_material-clause-counts g c =
+    memory_counts (g.W.Sink.failures c.args.output.now) _ c.in_err-on_material.field-0.0 c.from_residual-in_err-on_material.ensures.1 c.in_err-on_material.ensures.memory

@@ -22,4 +22,5 @@ invariant_of-shifted g c =
           All-set (IsSized PLACE_LIMIT) m.origins c.index_of-index.result c.in-Some.origin c.in-Some.ensures.range m.origins_in_range;
       fixtures_in_range = m.fixtures_in_range;
       margins_in_range = m.margins_in_range;
+      stock_in_range = m.stock_in_range;
     }

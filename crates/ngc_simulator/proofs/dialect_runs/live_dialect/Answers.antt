@@ -1,5 +1,4 @@
 use Rattle.std.proofs.Common.{[], ◌∷◌, ◌++◌, List, ℕ, Option, None, Some, Ok, Err, refl, subst, sym, inl, inr, ap, ◌∙◌}
-use Rattle.std.specs.Prelude.{option_map}
 use Rattle.ngc_report.proofs.Converted.{turned}
 use Rattle.ngc_inputs.proofs.JobLaws.{if_known, keeps_same}
 use Rattle.ngc_inputs.proofs.SetupLaws.{of_file}

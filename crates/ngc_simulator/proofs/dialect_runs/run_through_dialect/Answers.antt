@@ -1,4 +1,4 @@
-use Rattle.std.proofs.Common.{[], List, ℕ, Option, Some, Ok, Err, refl, subst, sym, inl, inr, ◌∙◌}
+use Rattle.std.proofs.Common.{[], List, ℕ, Option, Some, Ok, Err, refl, subst, sym, inr, ◌∙◌}
 use Rattle.std.specs.Prelude.{option_map}
 use Rattle.ngc_report.proofs.Converted.{turned}
 use Rattle.ngc_inputs.proofs.JobLaws.{if_known, keeps_same}

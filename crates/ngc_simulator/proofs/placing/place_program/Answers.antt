@@ -1,7 +1,7 @@
 use Rattle.ngc_canonical.specs.Interpreter.{setup_of}
 use Rattle.ngc_line_reader.specs.ProgramView.{text_in}
 use Rattle.ngc_inputs.proofs.JobLaws.{if_known}
-use Rattle.ngc_simulator.proofs.PlaceLaws.{certifying, not_placed, not_read, placed}
+use Rattle.ngc_simulator.proofs.PlaceLaws.{certifying, not_placed, placed}
 use Rattle.ngc_simulator.proofs.placing.place_program.Goals as goal
 
 pub returns-in-Err-clause-writes : goal.returns-in-Err-clause-writes

@@ -22,6 +22,7 @@ invariant_of-result c = record {
   fixtures_in_range =
       fixtures_in_range _ _ (c.in_ok-fixtures.ensures ∙ ap (map fixture_of) c.as_slice.ensures.value) c.requires.fixture_count c.requires.fixtures;
   margins_in_range = c.margins.ensures.range;
+  stock_in_range = c.stock.ensures.range;
 }
 
 pub returns : goal.returns
@@ -55,4 +56,5 @@ returns c =
       c.origins.ensures,
       fixtures,
       c.margins.ensures.value,
+      c.stock.ensures.value,
     ) refl

@@ -25,4 +25,5 @@ invariant_of-machine g c =
           (replaced_sized c.self.inside.systems m.origins c.self.invariant.sized m.origins_in_range);
       fixtures_in_range = m.fixtures_in_range;
       margins_in_range = m.margins_in_range;
+      stock_in_range = m.stock_in_range;
     }

@@ -1,4 +1,0 @@
-//! How adapted lines read in the grammar of our language.
-#![tactic(auto)]
-
-pub mod laws;

@@ -1,4 +1,0 @@
-pub mod Laws
-pub mod Programs
-pub mod Requests
-pub mod ToolNumbers

@@ -1,0 +1,459 @@
+-- What a program does doesn't depend on what is collected while it is executed.
+use Rattle.std.proofs.Common.{◌≡◌, ℕ, zero, suc, ℤ, slice_get, List, [], ◌∷◌, ◌++◌, Bool, true, false, Result, Ok, Err, refl, ◌∙◌, ap}
+use Rattle.std.specs.Prelude.{if◌then◌else◌, ◌&&◌, Option, Some, None, is_some}
+use Rattle.ngc_canonical.specs.declared.fault.Fault.{Fault}
+use Rattle.ngc_canonical.specs.declared.fault.Fault.TheVariants.{NoEnd}
+use Rattle.ngc_canonical.specs.State.{Setup, State}
+use Rattle.ngc_canonical.specs.Steps.{◌>>=◌}
+use Rattle.ngc_frames.specs.declared.change.FrameChange.{FrameChange}
+use Rattle.ngc_dialect_parameters.specs.declared.statement.Statement.{Statement}
+use Rattle.ngc_dialect_parameters.specs.declared.statement.Word.{Word}
+use Rattle.ngc_dialect_parameters.specs.Stored.{Stored}
+use Rattle.ngc_dialect_parameters.specs.Storing.{called, set_by_all}
+use Rattle.ngc_dialect_names.specs.declared.dialect.Dialect.{Dialect}
+use Rattle.ngc_dialect_reader.specs.declared.part.Part.{Part}
+use Rattle.ngc_dialect_reader.specs.Line.{line_of}
+use Rattle.ngc_dialect_reader.specs.Text.{text}
+use Rattle.ngc_canned_cycles.specs.declared.cycle.CycleMove.{CycleMove}
+use Rattle.ngc_dialect_drilling.specs.Holes.{cycle_of}
+use Rattle.ngc_dialect_drilling.specs.Moves.{move_lines, stop_lines}
+use Rattle.ngc_dialect_notes.specs.declared.kind.Kind.TheVariants as kinds
+use Rattle.ngc_dialect_notes.specs.Notes.{counted}
+use Rattle.ngc_dialect_rules.specs.declared.code.Code.{Code}
+use Rattle.ngc_dialect_rules.specs.declared.front.KeptSeries.{KeptSeries}
+use Rattle.ngc_dialect_rules.specs.declared.plain.Plain.{Plain}
+use Rattle.ngc_dialect_rules.specs.declared.plan.LineCycle.{LineCycle}
+use Rattle.ngc_dialect_rules.specs.declared.plan.LineResult.{LineResult}
+use Rattle.ngc_dialect_rules.specs.Rules.{plain_lines}
+use Rattle.ngc_line_reader.specs.Program.{split_lines}
+use Rattle.ngc_dialect_path.specs.declared.step.PathStep.{PathStep}
+use Rattle.ngc_dialect_path.specs.Paths.{held_line}
+use Rattle.ngc_dialect_path.specs.Steps.{Written, path_end, path_step}
+use Rattle.ngc_dialect_flow.specs.declared.effect.Effect.{Effect}
+use Rattle.ngc_dialect_flow.specs.declared.effect.Effect.TheVariants as effects
+use Rattle.ngc_dialect_flow.specs.Next.{needs_values, next, skipped}
+use Rattle.ngc_dialect_flow.specs.Places.{Plan}
+use Rattle.ngc_dialect_flow.specs.Returning.{returned}
+use Rattle.ngc_dialect_flow.specs.State.{Flow, begun}
+use Rattle.ngc_dialect_execution.specs.declared.beside.StepLines.{StepLines}
+use Rattle.ngc_dialect_execution.specs.declared.beside.WaitingLine.{WaitingLine}
+use Rattle.ngc_dialect_execution.specs.declared.fault.Cause.{Cause}
+use Rattle.ngc_dialect_execution.specs.declared.fault.Cause.TheVariants as causes
+use Rattle.ngc_dialect_execution.specs.declared.fault.DialectFault.{DialectFault}
+use Rattle.ngc_dialect_execution.specs.declared.lines.Taken.{Taken}
+use Rattle.ngc_dialect_execution.specs.declared.lines.Taken.TheVariants.{Done, HasFlow}
+use Rattle.ngc_dialect_execution.specs.declared.run.Wanted.{Wanted}
+use Rattle.ngc_dialect_execution.specs.declared.text.LinesBefore.{LinesBefore}
+use Rattle.ngc_dialect_execution.specs.declared.text.Mark.{Mark}
+use Rattle.ngc_dialect_execution.specs.declared.text.Mark.TheVariants.{Begins, Ends, IsLine}
+use Rattle.ngc_dialect_execution.specs.Ending.{Framed, Outcome, at, changed_by, ended_only, finished, with_changes}
+use Rattle.ngc_dialect_execution.specs.Executed.{PlainLine, Run, execute_plain, kept_with, line_run, lines_at, run}
+use Rattle.ngc_dialect_execution.specs.Faults.{◌>>=◌ as ◌>>=c◌, caused, stored_cause}
+use Rattle.ngc_dialect_execution.specs.Flow.{FlowProgress, effect_done, effect_taken, ends, flow_line_taken, flow_statements_taken, flow_taken, line_or_end, number_at, other_words, others_taken, passed_over, said_if, stepped, then_on, turned, values_from, with_values}
+use Rattle.ngc_dialect_execution.specs.Mounting.{before_lines, first_number, mounted, mounting, with_between, with_mounted}
+use Rattle.ngc_dialect_execution.specs.Program.{changes_of, commands_in, from_begun, go_from, go_on, lines_taken, marked_taken, traced_in}
+use Rattle.ngc_dialect_execution.specs.Taken.{Between, Progress, Said, END, cycle_if, cycle_taken, done_at, end_noted, ended_at, has_flow, is_deleted, known_of, line_taken, made_taken, move_taken, moves_taken, nothing_wanted, own_taken, path_ended, path_taken, plain_taken, plain_words_taken, put_off, released_if, run_of, said_at, start_progress, start_taken, statements_taken, step_carried, step_lines, step_taken, waiting_taken, with_notes, with_run, with_series, words_executed, words_noted, words_of, words_taken}
+use Rattle.ngc_dialect_execution.specs.Text.{ProgramLines, first_byte, is_end, lines_after, mark_of, no_lines, number_of, program_of}
+
+-- ---- nothing collected
+
+abbrev bare_run : Run → Run
+bare_run r = record { state = r.state; kept = None }
+
+abbrev bare : Between → Between
+bare b = record b { notes = None; kept = None }
+
+abbrev bare_progress : Progress → Progress
+bare_progress p = record { values = p.values; between = bare p.between }
+
+abbrev bare_flow : FlowProgress → FlowProgress
+bare_flow r = record { progress = bare_progress r.progress; flow = r.flow }
+
+abbrev bare_taken : Taken × Progress → Taken × Progress
+bare_taken x = (x.0, bare_progress x.1)
+
+abbrev bare_effect : Effect × FlowProgress → Effect × FlowProgress
+bare_effect x = (x.0, bare_flow x.1)
+
+abbrev bare_framed : Framed → Framed
+bare_framed f = record f { notes = None; lines = None }
+
+-- a result with its value changed
+abbrev mapped : {A B E : Type 0} → (A → B) → Result A E → Result B E
+mapped f (Ok x) = Ok (f x)
+mapped f (Err e) = Err e
+
+-- ---- one step after another
+
+after : {A B : Type 0} (g : B → B) (r : Result A Cause) (f h : A → Result B Cause) → ((a : A) → f a ≡ mapped g (h a)) → (r >>=c f) ≡ mapped g (r >>=c h)
+after g (Ok a) f h same = same a
+after g (Err e) f h same = refl
+
+chain : {A B : Type 0} (k : A → A) (g : B → B) (s r : Result A Cause) (f h : A → Result B Cause) → s ≡ mapped k r → ((a : A) → f (k a) ≡ mapped g (h a))
+    → (s >>=c f) ≡ mapped g (r >>=c h)
+chain k g s (Ok a) f h is same = ap (λ t. t >>=c f) is ∙ same a
+chain k g s (Err e) f h is same = ap (λ t. t >>=c f) is
+
+either : {B : Type 0} (g : B → B) (b : Bool) (x y v w : Result B Cause) → x ≡ mapped g v → y ≡ mapped g w
+    → (if b then x else y) ≡ mapped g (if b then v else w)
+either g true x y v w e f = e
+either g false x y v w e f = f
+
+-- ---- plain lines
+
+rest_runs : (l : PlainLine) (r : Run) (rest : Run → Result Run Fault) (q : Result State Fault) →
+    ((u : Run) → rest (bare_run u) ≡ mapped bare_run (rest u)) →
+    ((q >>= λ s. Ok (record { state = s; kept = kept_with l (bare_run r).kept })) >>= rest)
+    ≡ mapped bare_run ((q >>= λ s. Ok (record { state = s; kept = kept_with l r.kept })) >>= rest)
+rest_runs l r rest (Ok s) same = same (record { state = s; kept = kept_with l r.kept })
+rest_runs l r rest (Err e) same = refl
+
+runs : (setup : Setup) (ls : List PlainLine) (r : Run) → run setup ls (bare_run r) ≡ mapped bare_run (run setup ls r)
+unfolding run
+runs setup [] r = refl
+runs setup (l ∷ ls) r = by r.state.ended (rest_runs l r (λ u. run setup ls u) (execute_plain setup l r.state) (λ u. runs setup ls u)) where
+  by : (b : Bool) → (line_run setup l (bare_run r) >>= λ u. run setup ls u) ≡ mapped bare_run (line_run setup l r >>= λ u. run setup ls u)
+      → (let same : Result Run Fault = Ok (bare_run r) in if b then same else (line_run setup l (bare_run r) >>= λ u. run setup ls u))
+      ≡ (let same : Result Run Fault = Ok r in mapped bare_run (if b then same else (line_run setup l r >>= λ u. run setup ls u)))
+  by true e = refl
+  by false e = e
+
+caused_same : (r s : Result Run Fault) → s ≡ mapped bare_run r → caused causes.Plain s ≡ mapped bare_run (caused causes.Plain r)
+caused_same (Ok u) s e = ap (caused causes.Plain) e
+caused_same (Err fault) s e = ap (caused causes.Plain) e
+
+ran : (setup : Setup) (ls : List PlainLine) (r : Run) →
+    caused causes.Plain (run setup ls (bare_run r)) ≡ mapped bare_run (caused causes.Plain (run setup ls r))
+ran setup ls r = caused_same (run setup ls r) (run setup ls (bare_run r)) (runs setup ls r)
+
+plain : (setup : Setup) (line : ℕ) (ps : List Plain) (b : Between) → plain_taken setup line ps (bare b) ≡ mapped bare (plain_taken setup line ps b)
+plain setup line ps b =
+    chain bare_run bare _ (caused causes.Plain (run setup (lines_at line ps) (run_of b))) (λ r. Ok (with_run (bare b) b.front r)) (λ r. Ok (with_run b b.front r))
+    (ran setup (lines_at line ps) (run_of b)) (λ r. refl)
+
+move : (setup : Setup) (line : ℕ) (m : CycleMove) (b : Between) → move_taken setup line m (bare b) ≡ mapped bare (move_taken setup line m b)
+move setup line m b = after bare (caused causes.Rule (move_lines (known_of b) m)) _ _ (λ ps. plain setup line ps b)
+
+moves : (setup : Setup) (line : ℕ) (ms : List CycleMove) (b : Between) → moves_taken setup line ms (bare b) ≡ mapped bare (moves_taken setup line ms b)
+moves setup line [] b = refl
+moves setup line (m ∷ ms) b =
+    chain bare bare _ (move_taken setup line m b) (λ c. moves_taken setup line ms c) (λ c. moves_taken setup line ms c) (move setup line m b)
+    (λ c. moves setup line ms c)
+
+start : (setup : Setup) (line : ℕ) (stop : Option Code) (kept : KeptSeries) (ms : List CycleMove) (b : Between) →
+    start_taken setup line stop kept ms (bare b) ≡ mapped bare (start_taken setup line stop kept ms b)
+unfolding start_taken
+start setup line stop kept ms b =
+    chain bare bare _ (moves_taken setup line ms (with_series kept b)) (λ c. plain_taken setup line (stop_lines stop) c)
+    (λ c. plain_taken setup line (stop_lines stop) c) (moves setup line ms (with_series kept b)) (λ c. plain setup line (stop_lines stop) c)
+
+cycle : (setup : Setup) (line : ℕ) (words : List Word) (c : LineCycle) (b : Between) →
+    cycle_taken setup line words c (bare b) ≡ mapped bare (cycle_taken setup line words c b)
+cycle setup line words c b =
+    after bare (caused causes.Rule (cycle_of (known_of b) c.code words)) _ _ (λ s. start setup line c.stop s.0 s.1 b)
+
+cycles : (setup : Setup) (line : ℕ) (words : List Word) (c : Option LineCycle) (b : Between) →
+    cycle_if setup line words c (bare b) ≡ mapped bare (cycle_if setup line words c b)
+cycles setup line words None b = refl
+cycles setup line words (Some c) b = cycle setup line words c b
+
+made : (setup : Setup) (line : ℕ) (words : List Word) (m : LineResult) (ps : List Plain) (b : Between) →
+    made_taken setup line words m ps (bare b) ≡ mapped bare (made_taken setup line words m ps b)
+unfolding made_taken
+made setup line words m ps b =
+    chain bare_run bare _ (caused causes.Plain (run setup (lines_at line ps) (run_of b))) (λ r. cycle_if setup line words m.cycle (with_run (bare b) m.front r))
+    (λ r. cycle_if setup line words m.cycle (with_run b m.front r)) (ran setup (lines_at line ps) (run_of b))
+    (λ r. cycles setup line words m.cycle (with_run b m.front r))
+
+-- ---- beside a path
+
+waiting : (setup : Setup) (ws : List WaitingLine) (r : Run) → waiting_taken setup ws (bare_run r) ≡ mapped bare_run (waiting_taken setup ws r)
+unfolding waiting_taken
+waiting setup [] r = refl
+waiting setup (w ∷ ws) r =
+    chain bare_run bare_run _ (caused causes.Plain (run setup (lines_at w.line w.plain.items) r)) (λ u. waiting_taken setup ws u) (λ u. waiting_taken setup ws u)
+    (ran setup (lines_at w.line w.plain.items) r) (λ u. waiting setup ws u)
+
+releases : (setup : Setup) (b : Bool) (held : ℕ) (m : List Plain) (ws : List WaitingLine) (r : Run) →
+    released_if setup b held m ws (bare_run r) ≡ mapped bare_run (released_if setup b held m ws r)
+releases setup false held m ws r = refl
+releases setup true held m ws r =
+    chain bare_run bare_run _ (caused causes.Plain (run setup (lines_at held m) r)) (λ u. waiting_taken setup ws u) (λ u. waiting_taken setup ws u)
+    (ran setup (lines_at held m) r) (λ u. waiting setup ws u)
+
+own : (setup : Setup) (b : Bool) (line : ℕ) (ps : List Plain) (r : Run) → own_taken setup b line ps (bare_run r) ≡ mapped bare_run (own_taken setup b line ps r)
+own setup true line ps r = refl
+own setup false line ps r = ran setup (lines_at line ps) r
+
+step : (setup : Setup) (at : StepLines) (s : PathStep) (w : Written) (ws : List WaitingLine) (r : Run) →
+    step_taken setup at s w ws (bare_run r) ≡ mapped bare_run (step_taken setup at s w ws r)
+step setup at s w ws r =
+    chain bare_run bare_run _ (released_if setup s.releases at.held w.made ws r) (λ u. own_taken setup s.waits at.own w.own u)
+    (λ u. own_taken setup s.waits at.own w.own u) (releases setup s.releases at.held w.made ws r) (λ u. own setup s.waits at.own w.own u)
+
+carried : (setup : Setup) (at : StepLines) (s : PathStep) (w : Written) (b : Between) →
+    step_carried setup at s w (bare b) ≡ mapped bare (step_carried setup at s w b)
+unfolding step_carried
+carried setup at s w b =
+    chain bare_run bare _ (step_taken setup at s w b.waiting (run_of b)) _ _ (step setup at s w b.waiting (run_of b))
+    (λ r. after bare (put_off at.own s w.own b.waiting) _ _ (λ ws. refl))
+
+path : (setup : Setup) (line : ℕ) (words : List Word) (b : Between) → path_taken setup line words (bare b) ≡ mapped bare (path_taken setup line words b)
+unfolding path_taken
+path setup line words b =
+    after bare (caused causes.Rule (path_step (known_of b) setup.tools line b.path words)) _ _ (λ x. carried setup (step_lines b.path line) x.0 x.1 b)
+
+-- ---- the words of a line
+
+plain_words : (setup : Setup) (line : ℕ) (words : List Word) (b : Between) →
+    plain_words_taken setup line words (bare b) ≡ mapped bare (plain_words_taken setup line words b)
+unfolding plain_words_taken
+plain_words setup line words b =
+    after bare (caused causes.Rule (plain_lines (known_of b) words)) _ _
+    (λ m. either bare (is_some m.0.compensation) _ _ _ _ (path setup line words b) (made setup line words m.0 m.1 b))
+
+executes : (setup : Setup) (line : ℕ) (words : List Word) (b : Between) → words_executed setup line words (bare b) ≡ mapped bare (words_executed setup line words b)
+unfolding words_executed
+executes setup line words b = either bare (is_some b.path) _ _ _ _ (path setup line words b) (plain_words setup line words b)
+
+words_same : (setup : Setup) (line : ℕ) (words : List Word) (b : Between) → words_taken setup line words (bare b) ≡ mapped bare (words_taken setup line words b)
+words_same setup line words b = executes setup line words (words_noted line words b)
+
+path_over : (setup : Setup) (b : Between) → path_ended setup (bare b) ≡ mapped bare (path_ended setup b)
+unfolding path_ended
+path_over setup b =
+    after bare (caused causes.Rule (path_end (known_of b) b.path)) _ _
+    (λ e. chain bare_run bare _ (released_if setup e.0 (held_line b.path) e.1 b.waiting (run_of b)) (λ r. Ok (with_run (bare b) b.front r))
+    (λ r. Ok (with_run b b.front r)) (releases setup e.0 (held_line b.path) e.1 b.waiting (run_of b)) (λ r. refl))
+
+end_bare : (line : ℕ) (b : Between) → end_noted line (bare b) ≡ bare (end_noted line b)
+end_bare line b = by b.state.ended where
+  by : (e : Bool) → (if e then bare b else with_notes (counted line kinds.ProgramEnd) (bare b)) ≡ bare (if e then b else with_notes (counted line kinds.ProgramEnd) b)
+  by true = refl
+  by false = refl
+
+over : (setup : Setup) (line : ℕ) (b : Between) → ended_at setup line (bare b) ≡ mapped bare (ended_at setup line b)
+unfolding ended_at
+over setup line b =
+    chain bare bare _ (path_ended setup (end_noted line b)) (λ c. plain_taken setup line END c) (λ c. plain_taken setup line END c)
+    (ap (path_ended setup) (end_bare line b) ∙ path_over setup (end_noted line b)) (λ c. plain setup line END c)
+
+-- ---- a line
+
+effect : (setup : Setup) (line : ℕ) (bytes : List ℕ) (said : List Statement) (words : List Word) (p : Progress) →
+    done_at setup line bytes said words (bare_progress p) ≡ mapped bare_progress (done_at setup line bytes said words p)
+unfolding done_at
+effect setup line bytes said words p =
+    after bare_progress (caused stored_cause (set_by_all bytes said p.values)) _ _
+    (λ k. chain bare bare_progress _ (words_taken setup line words (with_notes _ p.between)) (λ b. Ok (record { values = k; between = b }))
+    (λ b. Ok (record { values = k; between = b })) (words_same setup line words (with_notes _ p.between)) (λ b. refl))
+
+statements : (setup : Setup) (line : ℕ) (bytes : List ℕ) (parts : List Part) (p : Progress) →
+    statements_taken setup line bytes parts (bare_progress p) ≡ mapped bare_taken (statements_taken setup line bytes parts p)
+unfolding statements_taken
+statements setup line bytes parts p =
+    after bare_taken (said_at p.values bytes parts) _ _
+    (λ said. either bare_taken (has_flow p.between.dialect said.statements) _ _ _ _ refl
+    (chain bare_progress bare_taken _ (done_at setup line bytes said.statements (words_of said.statements) p) (λ q. Ok (Done, q)) (λ q. Ok (Done, q))
+    (effect setup line bytes said.statements (words_of said.statements) p) (λ q. refl)))
+
+line_same : (setup : Setup) (block_delete : Bool) (line : ℕ) (bytes : List ℕ) (p : Progress) →
+    line_taken setup block_delete line bytes (bare_progress p) ≡ mapped bare_taken (line_taken setup block_delete line bytes p)
+unfolding line_taken
+line_same setup block_delete line bytes p =
+    after bare_taken (caused causes.Reading (line_of p.between.dialect bytes)) _ _
+    (λ parts. either bare_taken (block_delete && is_deleted parts) _ _ _ _ refl (statements setup line (text bytes) parts p))
+
+marked : (setup : Setup) (block_delete : Bool) (line : ℕ) (mark : Mark) (bytes : List ℕ) (p : Progress) →
+    marked_taken setup block_delete line mark bytes (bare_progress p) ≡ mapped bare_taken (marked_taken setup block_delete line mark bytes p)
+marked setup block_delete line Begins bytes p = refl
+marked setup block_delete line Ends bytes p = refl
+marked setup block_delete line IsLine bytes p = line_same setup block_delete line bytes p
+
+-- ---- a line of the flow
+
+valued : (p : Progress) (r : Result Stored Cause) → with_values (bare_progress p) r ≡ mapped bare_progress (with_values p r)
+valued p (Ok k) = refl
+valued p (Err e) = refl
+
+effects_same : (e : Effect) (arguments : List (Option ℤ)) (p : Progress) →
+    effect_taken e arguments (bare_progress p) ≡ mapped bare_progress (effect_taken e arguments p)
+effects_same effects.Stay arguments p = refl
+effects_same effects.Enter arguments p = valued p (caused stored_cause (called arguments p.values))
+effects_same (effects.Return value) arguments p = valued p (caused stored_cause (returned value p.values))
+effects_same effects.End arguments p = refl
+
+abbrev bare_done : Effect × Progress → Effect × Progress
+bare_done x = (x.0, bare_progress x.1)
+
+effect_same : (e : Effect) (arguments : List (Option ℤ)) (p : Progress) → effect_done e arguments (bare_progress p) ≡ mapped bare_done (effect_done e arguments p)
+effect_same e arguments p =
+    chain bare_progress bare_done _ (effect_taken e arguments p) (λ q. Ok (e, q)) (λ q. Ok (e, q)) (effects_same e arguments p) (λ q. refl)
+
+stepped_same : (plan : Plan) (bytes : List ℕ) (said : Said) (s : Flow) (p : Progress) →
+    stepped plan bytes said s (bare_progress p) ≡ mapped bare_effect (stepped plan bytes said s p)
+unfolding stepped
+stepped_same plan bytes said s p =
+    after bare_effect (caused causes.Flow (next plan (values_from bytes said) s)) _ _
+    (λ x. chain bare_done bare_effect _ (effect_done x.1 said.arguments p) (λ done. Ok (done.0, record { progress = done.1; flow = x.0 }))
+    (λ done. Ok (done.0, record { progress = done.1; flow = x.0 })) (effect_same x.1 said.arguments p) (λ done. refl))
+
+turned_same : (plan : Plan) (bytes : List ℕ) (said : Said) (s : Flow) (p : Progress) →
+    turned plan bytes said s (bare_progress p) ≡ mapped bare_effect (turned plan bytes said s p)
+turned_same plan bytes said s p = either bare_effect p.between.state.ended _ _ _ _ refl (stepped_same plan bytes said s p)
+
+others : (setup : Setup) (plan : Plan) (line : ℕ) (bytes : List ℕ) (said : Said) (r : FlowProgress) →
+    others_taken setup plan line bytes said (bare_flow r) ≡ mapped bare_effect (others_taken setup plan line bytes said r)
+unfolding others_taken
+others setup plan line bytes said r =
+    chain bare_progress bare_effect _ (done_at setup line bytes said.statements (other_words (words_of said.statements)) r.progress)
+    (λ p. turned plan bytes said r.flow p) (λ p. turned plan bytes said r.flow p)
+    (effect setup line bytes said.statements (other_words (words_of said.statements)) r.progress) (λ p. turned_same plan bytes said r.flow p)
+
+flow_statements : (setup : Setup) (plan : Plan) (line : ℕ) (bytes : List ℕ) (parts : List Part) (r : FlowProgress) →
+    flow_statements_taken setup plan line bytes parts (bare_flow r) ≡ mapped bare_effect (flow_statements_taken setup plan line bytes parts r)
+unfolding flow_statements_taken
+flow_statements setup plan line bytes parts r =
+    after bare_effect (said_if (needs_values plan r.flow) r.progress.values bytes parts) _ _ (λ said. others setup plan line bytes said r)
+
+passed : (r : FlowProgress) → passed_over (bare_flow r) ≡ mapped bare_effect (passed_over r)
+passed r = after bare_effect (caused causes.Flow (skipped r.flow)) _ _ (λ s. refl)
+
+flow_line : (setup : Setup) (block_delete : Bool) (plan : Plan) (line : ℕ) (bytes : List ℕ) (r : FlowProgress) →
+    flow_line_taken setup block_delete plan line bytes (bare_flow r) ≡ mapped bare_effect (flow_line_taken setup block_delete plan line bytes r)
+unfolding flow_line_taken
+flow_line setup block_delete plan line bytes r =
+    after bare_effect (caused causes.Reading (line_of r.progress.between.dialect bytes)) _ _
+    (λ parts. either bare_effect (block_delete && is_deleted parts) _ _ _ _ (passed r) (flow_statements setup plan line (text bytes) parts r))
+
+-- ---- a program
+
+abbrev bare_outcome : Outcome → Outcome
+bare_outcome o = mapped bare_framed o
+
+at_same : {A : Type 0} (g : A → A) (line : ℕ) (s r : Result A Cause) → s ≡ mapped g r → at line s ≡ mapped g (at line r)
+at_same g line s (Ok x) e = ap (at line) e
+at_same g line s (Err c) e = ap (at line) e
+
+ended_bare : (b : Between) → ended_only (bare b) ≡ mapped bare (ended_only b)
+ended_bare b = by b.state.ended where
+  by : (e : Bool) → (let none : Result Between Cause = Err (causes.Plain NoEnd) in (if e then Ok (bare b) else none) ≡ mapped bare (if e then Ok b else none))
+  by true = refl
+  by false = refl
+
+finish : (setup : Setup) (last : ℕ) (p : Progress) → finished setup last (bare_progress p) ≡ mapped bare (finished setup last p)
+unfolding finished
+finish setup last p =
+    at_same bare last _ (ended_at setup last p.between >>=c λ b. ended_only b)
+    (chain bare bare _ (ended_at setup last p.between) (λ b. ended_only b) (λ b. ended_only b) (over setup last p.between) (λ b. ended_bare b))
+
+changed : (cs : List FrameChange) (s r : Result Between DialectFault) → s ≡ mapped bare r → with_changes cs s ≡ bare_outcome (with_changes cs r)
+changed cs s (Ok b) e = ap (with_changes cs) e
+changed cs s (Err f) e = ap (with_changes cs) e
+
+last_same : (setup : Setup) (last : ℕ) (cs : List FrameChange) (p : Progress) →
+    with_changes cs (finished setup last (bare_progress p)) ≡ bare_outcome (with_changes cs (finished setup last p))
+last_same setup last cs p = changed cs _ (finished setup last p) (finish setup last p)
+
+either_outcome : (b : Bool) (x y v w : Outcome) → x ≡ bare_outcome v → y ≡ bare_outcome w → (if b then x else y) ≡ bare_outcome (if b then v else w)
+either_outcome true x y v w e f = e
+either_outcome false x y v w e f = f
+
+then_same : (setup : Setup) (line : ℕ) (p : Progress) (cs : List FrameChange) (s r : Result (Effect × FlowProgress) DialectFault)
+    (rest : FlowProgress → List FrameChange → Outcome) → s ≡ mapped bare_effect r
+    → ((q : FlowProgress) (more : List FrameChange) → rest (bare_flow q) more ≡ bare_outcome (rest q more))
+    → then_on setup line (bare_progress p) cs s rest ≡ bare_outcome (then_on setup line p cs r rest)
+then_same setup line p cs s (Err e) rest is same = ap (λ t. then_on setup line (bare_progress p) cs t rest) is
+then_same setup line p cs s (Ok x) rest is same =
+    let now : List FrameChange = cs ++ changed_by line p x.1.progress in
+    ap (λ t. then_on setup line (bare_progress p) cs t rest) is
+    ∙ either_outcome (ends x.0) _ _ _ _ (last_same setup line now x.1.progress) (same x.1 now)
+
+line_or : (found : Option (List ℕ)) (x v : Outcome) (f g : List ℕ → Outcome) → x ≡ bare_outcome v → ((bytes : List ℕ) → f bytes ≡ bare_outcome (g bytes))
+    → line_or_end found x f ≡ bare_outcome (line_or_end found v g)
+line_or None x v f g e same = e
+line_or (Some bytes) x v f g e same = same bytes
+
+flow_same : (setup : Setup) (block_delete : Bool) (plan : Plan) (program : ProgramLines) (fuel : ℕ) (r : FlowProgress) (cs : List FrameChange) →
+    flow_taken setup block_delete plan program fuel (bare_flow r) cs ≡ bare_outcome (flow_taken setup block_delete plan program fuel r cs)
+unfolding flow_taken
+flow_same setup block_delete plan program zero r cs =
+    line_or (slice_get program.lines r.flow.line) _ _ _ _ (last_same setup program.last cs r.progress) (λ bytes. refl)
+flow_same setup block_delete plan program (suc fuel) r cs =
+    line_or (slice_get program.lines r.flow.line) _ _ _ _ (last_same setup program.last cs r.progress)
+    (λ bytes. then_same setup (number_at r) r.progress cs _ (at (number_at r) (flow_line_taken setup block_delete plan (number_at r) bytes r)) _
+    (at_same bare_effect (number_at r) _ _ (flow_line setup block_delete plan (number_at r) bytes r))
+    (λ q more. flow_same setup block_delete plan program fuel q more))
+
+went : (t : Taken) (q : Progress) (cs : List FrameChange) (flow : Progress → Outcome) (rest : Progress → List FrameChange → Outcome) →
+    flow (bare_progress q) ≡ bare_outcome (flow q) → rest (bare_progress q) cs ≡ bare_outcome (rest q cs)
+    → go_from t (bare_progress q) cs flow rest ≡ bare_outcome (go_from t q cs flow rest)
+went HasFlow q cs flow rest f m = f
+went Done q cs flow rest f m = either_outcome q.between.state.ended _ _ _ _ refl m
+
+go_same : (line : ℕ) (p : Progress) (cs : List FrameChange) (s r : Result (Taken × Progress) DialectFault) (flow : Progress → Outcome)
+    (rest : Progress → List FrameChange → Outcome) → s ≡ mapped bare_taken r
+    → ((q : Progress) → flow (bare_progress q) ≡ bare_outcome (flow q))
+    → ((q : Progress) (more : List FrameChange) → rest (bare_progress q) more ≡ bare_outcome (rest q more))
+    → go_on line (bare_progress p) cs s flow rest ≡ bare_outcome (go_on line p cs r flow rest)
+go_same line p cs s (Err e) flow rest is f m = ap (λ t. go_on line (bare_progress p) cs t flow rest) is
+go_same line p cs s (Ok x) flow rest is f m =
+    ap (λ t. go_on line (bare_progress p) cs t flow rest) is
+    ∙ went x.0 x.1 (cs ++ changed_by line p x.1) flow rest (f x.1) (m x.1 (cs ++ changed_by line p x.1))
+
+lines_same : (setup : Setup) (block_delete : Bool) (program : ProgramLines) (before : LinesBefore) (lines : List (List ℕ)) (p : Progress)
+    (cs : List FrameChange) →
+    lines_taken setup block_delete program before lines (bare_progress p) cs ≡ bare_outcome (lines_taken setup block_delete program before lines p cs)
+unfolding lines_taken
+lines_same setup block_delete program before [] p cs = last_same setup (number_of before.count) cs p
+lines_same setup block_delete program before (bytes ∷ rest) p cs =
+    let now : LinesBefore = lines_after before (first_byte bytes) in
+    let mark : Mark = mark_of before p.between.dialect (first_byte bytes) in
+    let number : ℕ = number_of now.count in
+    either_outcome (is_end mark) _ _ _ _ (last_same setup number cs p)
+    (go_same number p cs _ (at number (marked_taken setup block_delete number mark bytes p)) _ _
+    (at_same bare_taken number _ _ (marked setup block_delete number mark bytes p))
+    (λ q. flow_same setup block_delete _ program _ (record { progress = q; flow = begun before.count }) cs)
+    (λ q more. lines_same setup block_delete program now rest q more))
+
+mounts : (setup : Setup) (n : Option ℕ) (b : Between) → mounted setup n (bare b) ≡ mapped bare (mounted setup n b)
+mounts setup None b = refl
+mounts setup (Some n) b = plain setup 1 (mounting n) (with_notes (counted 1 kinds.FirstTool) b)
+
+before : (w : Wanted) (d : Dialect) (setup : Setup) → before_lines nothing_wanted d setup ≡ mapped bare_progress (before_lines w d setup)
+before w d setup =
+    let p : Progress = start_progress w d setup.machine in
+    at_same bare_progress 1 _ (with_mounted setup (first_number d setup.tools) p)
+    (chain bare bare_progress _ (mounted setup (first_number d setup.tools) p.between) (λ b. Ok (with_between (bare_progress p) b)) (λ b. Ok (with_between p b))
+    (mounts setup (first_number d setup.tools) p.between) (λ b. refl))
+
+begun_same : (s r : Result Progress DialectFault) (rest : Progress → Outcome) → s ≡ mapped bare_progress r
+    → ((p : Progress) → rest (bare_progress p) ≡ bare_outcome (rest p)) → from_begun s rest ≡ bare_outcome (from_begun r rest)
+begun_same s (Ok p) rest is same = ap (λ t. from_begun t rest) is ∙ same p
+begun_same s (Err e) rest is same = ap (λ t. from_begun t rest) is
+
+pub nothing_changes : (w : Wanted) (d : Dialect) (setup : Setup) (block_delete : Bool) (text : List ℕ) →
+    traced_in nothing_wanted d setup block_delete text ≡ bare_outcome (traced_in w d setup block_delete text)
+nothing_changes w d setup block_delete text =
+    begun_same _ (before_lines w d setup) _ (before w d setup)
+    (λ p. lines_same setup block_delete (program_of d text) no_lines (split_lines text) p [])
+
+bare_commands : (o : Outcome) → commands_in (bare_outcome o) ≡ commands_in o
+bare_commands (Ok f) = refl
+bare_commands (Err e) = refl
+
+bare_changes : (o : Outcome) → changes_of (bare_outcome o) ≡ changes_of o
+bare_changes (Ok f) = refl
+bare_changes (Err e) = refl
+
+-- the commands don't depend on what is wanted
+pub same_commands : (w : Wanted) (d : Dialect) (setup : Setup) (block_delete : Bool) (text : List ℕ) →
+    commands_in (traced_in nothing_wanted d setup block_delete text) ≡ commands_in (traced_in w d setup block_delete text)
+same_commands w d setup block_delete text =
+    ap commands_in (nothing_changes w d setup block_delete text) ∙ bare_commands (traced_in w d setup block_delete text)
+
+-- nor do the changes of the frame
+pub same_changes : (w : Wanted) (d : Dialect) (setup : Setup) (block_delete : Bool) (text : List ℕ) →
+    changes_of (traced_in nothing_wanted d setup block_delete text) ≡ changes_of (traced_in w d setup block_delete text)
+same_changes w d setup block_delete text =
+    ap changes_of (nothing_changes w d setup block_delete text) ∙ bare_changes (traced_in w d setup block_delete text)

@@ -1,0 +1,13 @@
+use Rattle.std.proofs.Common.{ap}
+use Rattle.ngc_dialect_note_texts.specs.Texts.{notes_text}
+use Rattle.ngc_program_report.proofs.WritingLaws.{stops, then, writes_text}
+use Rattle.ngc_program_report.proofs.fit_writer.write_other_words.Goals as goal
+
+pub returns-in_err-write_length_warnings : goal.returns-in_err-write_length_warnings
+returns-in_err-write_length_warnings g c =
+    stops _ _ c.from_residual.ensures.0 c.in_err-write_length_warnings.ensures.fault c.in_err-write_length_warnings.ensures.counts
+
+pub returns : goal.returns
+returns g c =
+    then _ _ c.in_ok-write_length_warnings.ensures.ok c.in_ok-write_length_warnings.ensures.counts
+    (writes_text _ _ (ap (notes_text c.args.subject.now.form) c.notes_at.ensures) c.write_notes.ensures.ok c.write_notes.ensures.fault c.write_notes.ensures.counts)

@@ -1,0 +1,2 @@
+-- Prefixes: prefixes of texts that are written in order.
+pub mod Prefixes

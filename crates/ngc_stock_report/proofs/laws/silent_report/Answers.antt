@@ -1,0 +1,9 @@
+use Rattle.std.proofs.Common.{◌∷◌, ◌++◌}
+use Rattle.ngc_commands.specs.Reached.{at_start}
+use Rattle.ngc_material.proofs.Reports.{nothing}
+use Rattle.ngc_stock.proofs.Silences.{silence}
+use Rattle.ngc_stock_report.proofs.laws.silent_report.Goals as goal
+
+pub returns : goal.returns
+returns c m before after command stock walk =
+    silence stock (at_start m) before after command walk.grid (nothing stock (at_start m) (before ++ command ∷ after) walk.found)

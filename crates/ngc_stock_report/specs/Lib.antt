@@ -1,0 +1,4 @@
+pub mod Placed
+pub mod Walked
+pub mod Texts
+pub mod Silent

@@ -1,0 +1,62 @@
+-- What a report says of the material. Our own.
+use Rattle.std.specs.Prelude.{ℕ, List, [], ◌∷◌, ◌++◌, codes, Option, Some, None}
+use Rattle.ngc_fixed_length.specs.declared.points.Point3.{Point3}
+use Rattle.ngc_machine_files.specs.Machine.{MachineFile}
+use Rattle.ngc_machine_files.specs.declared.machine.StockBox.{StockBox}
+use Rattle.ngc_machine_files.specs.declared.tools.Tool.{Tool}
+use Rattle.ngc_cells.specs.Stretches.{spot}
+use Rattle.ngc_cells.specs.declared.stretch.Spot.{Spot}
+use Rattle.ngc_material.specs.declared.walk.Found.{Found}
+use Rattle.ngc_material_report.specs.Sentences.{touches_text, untested_text}
+use Rattle.ngc_report.specs.declared.form.Form.{Form}
+use Rattle.ngc_report.specs.declared.form.Form.TheVariants.{Words, Json}
+use Rattle.ngc_stock_report.specs.Placed.{origin_at}
+use Rattle.ngc_stock_report.specs.Walked.{WalkData}
+
+-- the origin of the block's coordinate system, from which places are written
+abbrev pub spot_of : Point3 → Spot
+spot_of p = spot p.x p.y
+
+abbrev pub block_origin : MachineFile → Option StockBox → Spot
+block_origin m None = spot_of (origin_at m 0)
+block_origin m (Some b) = spot_of (origin_at m b.system)
+
+-- at most this number of traverses have a line
+abbrev pub MOST_LINES : ℕ
+MOST_LINES = 10
+
+-- arcs aren't followed: a traverse that is reported may go where one has cut
+unfoldable pub arcs_words : List ℕ
+arcs_words = codes "Cuts along arcs are not counted: the material may be gone there.\n"
+
+abbrev pub arcs_line : Form → List Found → List ℕ
+arcs_line Words [] = []
+arcs_line Words (f ∷ fs) = arcs_words
+arcs_line Json found = []
+
+-- the block, or a straight motion, is too far from the machine's zero
+unfoldable pub far_words : List ℕ
+far_words =
+    codes "The material, or a straight motion, is more than 2 m from the machine's zero: traverses were not tested for material.\n"
+
+unfoldable pub far_fact : List ℕ
+far_fact = codes ",\n{\"fact\":\"material_far\"}"
+
+abbrev pub far_line : Form → List ℕ
+far_line Words = far_words
+far_line Json = far_fact
+
+-- without a block of material nothing is said of it
+abbrev pub unwalked_text : Form → Option StockBox → List ℕ
+unwalked_text form None = []
+unwalked_text form (Some b) = far_line form
+
+abbrev pub walk_text : Form → MachineFile → List Tool → WalkData → List ℕ
+walk_text form m tools w =
+    touches_text form MOST_LINES (block_origin m m.stock) w.found
+    ++ (arcs_line form w.found ++ untested_text form w.stock.grid tools)
+
+-- the traverses that may touch material, and what isn't tested
+abbrev pub material_text : Form → MachineFile → List Tool → Option WalkData → List ℕ
+material_text form m tools None = unwalked_text form m.stock
+material_text form m tools (Some w) = walk_text form m tools w

@@ -1,0 +1,38 @@
+-- What the traverses of a program may touch of a machine's material. Our own.
+use Rattle.std.specs.Prelude.{◌≡◌, ◌⊎◌, List, Option, Some, None, IsTrue}
+use Rattle.ngc_machine_files.specs.Machine.{MachineFile}
+use Rattle.ngc_commands.specs.declared.command.Command.{Command}
+use Rattle.ngc_commands.specs.Reached.{at_start}
+use Rattle.ngc_cells.specs.Grids.{IsGrid}
+use Rattle.ngc_stock.specs.declared.stock.Stock.{Stock}
+use Rattle.ngc_stock.specs.Walk.{uncut}
+use Rattle.ngc_material.specs.declared.walk.Found.{Found}
+use Rattle.ngc_material.specs.Heights.{are_reached}
+use Rattle.ngc_material.specs.Walks.{AreFound}
+use Rattle.ngc_stock_report.specs.Placed.{IsPlaced}
+
+-- the material in the machine, and the straight traverses that may touch it
+pub record WalkData : Type 0 where
+  pub stock : Stock
+  pub found : List Found
+
+-- some of the cells, or the end of a straight motion, is more than two metres from the machine's zero
+abbrev pub IsFar : Stock → List Command → Type 0
+IsFar s commands = ¬ (IsGrid s.grid) ⊎ ¬ (IsTrue (are_reached commands))
+
+pub record IsFarFrom (m : MachineFile) (commands : List Command) : Type 0 where
+  pub stock : Stock
+  pub placed : IsPlaced m stock
+  pub far : IsFar stock commands
+
+-- what a walk over the commands finds in the uncut material
+pub record IsWalk (m : MachineFile) (commands : List Command) (w : WalkData) : Type 0 where
+  pub placed : IsPlaced m w.stock
+  pub grid : IsGrid w.stock.grid
+  pub near : IsTrue (are_reached commands)
+  pub found : AreFound w.stock (at_start m) (uncut w.stock) 0 commands w.found
+
+-- no walk without a block of material, and none where it or a motion is far
+abbrev pub IsWalked : MachineFile → List Command → Option WalkData → Type 0
+IsWalked m commands None = (m.stock ≡ None) ⊎ IsFarFrom m commands
+IsWalked m commands (Some w) = IsWalk m commands w

@@ -1,0 +1,13 @@
+//! What the straight traverses of a program may touch of the material of a machine file, and the lines
+//! of a report about it.
+#![tactic(auto)]
+
+mod cells;
+mod grids;
+pub mod laws;
+mod placed;
+mod walked;
+mod written;
+
+pub use walked::{Walk, find_walk};
+pub use written::write_material;

@@ -1,0 +1,57 @@
+//! A walk over a program's commands, through the material of its machine.
+ghost use Rattle.std.specs.Prelude.{IfOk};
+ghost use Rattle.ngc_machine_files.specs.Machine.{file_of};
+ghost use Rattle.ngc_cells.specs.Grids.{IsGrid};
+ghost use Rattle.ngc_stock_report.specs.Walked.{IsWalked};
+
+use crate::grids::is_grid;
+use crate::placed::stock_in;
+use ngc_commands::{Command, Reached};
+use ngc_machine_files::Machine;
+use ngc_material::{Found, WalkFault, find_touches};
+use ngc_stock::Stock;
+use std::alloc::{AllocError, Allocator};
+use std::marker::Model;
+
+/// The material of a machine, and the straight traverses of a program that may touch it.
+#[derive(Drop)]
+pub struct Walk<A: Allocator> {
+    pub(crate) stock: Stock,
+    pub(crate) found: Vec<Found, A>,
+    ghost holds: { IsGrid stock.grid },
+}
+
+impl<A: Allocator> Model for Walk<A> {
+    ghost use Rattle.ngc_stock_report.specs.Walked.{WalkData};
+
+    ghost Value = { WalkData };
+
+    ghost view = { λ w. record { stock = w.stock; found = w.found.items } };
+
+    ghost invariant = { λ w. Unit {0} };
+}
+
+/// Returns the straight traverses of a program that may touch the material of its machine: `commands`
+/// are its commands at a setting of block delete. It returns `None` if the machine has no block of
+/// material, or if some of it, or a straight motion, is more than two metres from the machine's zero.
+///
+/// It fails if memory is refused.
+pub fn find_walk<A: Allocator + Copy, B: Allocator>(
+    alloc: A,
+    machine: &Machine<B>,
+    commands: &[Command],
+) -> Result<Option<Walk<A>>, AllocError>
+    ensures { IfOk result (IsWalked (file_of machine.now) commands.now) }
+{
+    let Some(stock) = stock_in(machine) else {
+        return Ok(None);
+    };
+    if !is_grid(&stock.grid) {
+        return Ok(None);
+    }
+    match find_touches(alloc, &stock, &Reached::at_start(machine), commands) {
+        Ok(found) => Ok(Some(Walk { stock, found })),
+        Err(WalkFault::Far) => Ok(None),
+        Err(WalkFault::Memory) => Err(AllocError),
+    }
+}

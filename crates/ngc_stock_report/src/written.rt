@@ -1,0 +1,114 @@
+//! The lines of a report about material.
+ghost use Rattle.std.specs.Prelude.{◌≡◌, OnOk, OnErr};
+ghost use Rattle.std.specs.Io.KnownBytes.{Appends};
+ghost use Rattle.ngc_text.specs.Failures.{CountsFailure};
+ghost use Rattle.ngc_text.specs.Written.{AppendsPrefix};
+ghost use Rattle.ngc_machine_files.specs.Machine.{file_of};
+ghost use Rattle.ngc_stock_report.specs.Texts.{block_origin, arcs_words, arcs_line, far_words, far_fact, far_line};
+ghost use Rattle.ngc_stock_report.specs.Texts.{unwalked_text, walk_text, material_text};
+
+use crate::placed::origin_at;
+use crate::walked::Walk;
+use ngc_cells::Spot;
+use ngc_machine_files::{Machine, Tool};
+use ngc_material::Found;
+use ngc_material_report::{write_touches, write_untested};
+use ngc_report::Form;
+use ngc_text::{Sink, WriteFault, write_all};
+use std::alloc::Allocator;
+
+/// At most this number of traverses have a line.
+const MOST_LINES: usize = 10;
+
+// Returns the origin of the block's coordinate system.
+fn block_origin<A: Allocator>(machine: &Machine<A>) -> Spot
+    ensures { result ≡ block_origin (file_of machine.now) (file_of machine.now).stock }
+{
+    let origin = match &machine.stock {
+        None => origin_at(machine, 0),
+        Some(block) => origin_at(machine, block.system),
+    };
+    Spot {
+        x: origin.x.nanometres(),
+        y: origin.y.nanometres(),
+    }
+}
+
+#[tactic(auto, unfolding(crate::specs::Texts::arcs_words))]
+fn arcs_words() -> &'static [u8]
+    ensures { result.now ≡ arcs_words }
+{
+    b"Cuts along arcs are not counted: the material may be gone there.\n"
+}
+
+fn arcs_line(form: Form, found: &[Found]) -> &'static [u8]
+    ensures { result.now ≡ arcs_line form found.now }
+{
+    match form {
+        Form::Words => { if found.is_empty() { b"" } else { arcs_words() } }
+        Form::Json => b"",
+    }
+}
+
+#[tactic(auto, unfolding(crate::specs::Texts::far_words, crate::specs::Texts::far_fact))]
+fn far_line(form: Form) -> &'static [u8]
+    ensures { result.now ≡ far_line form }
+{
+    match form {
+        Form::Words =>
+            b"The material, or a straight motion, is more than 2 m from the machine's zero: traverses were not tested for material.\n",
+        Form::Json => b",\n{\"fact\":\"material_far\"}",
+    }
+}
+
+fn unwalked<A: Allocator>(form: Form, machine: &Machine<A>) -> &'static [u8]
+    ensures { result.now ≡ unwalked_text form (file_of machine.now).stock }
+{
+    match machine.stock {
+        None => b"",
+        Some(_) => far_line(form),
+    }
+}
+
+fn write_walk<A: Allocator, B: Allocator, W: Sink>(
+    form: Form,
+    machine: &Machine<B>,
+    tools: &[Tool],
+    walk: &Walk<A>,
+    output: &mut W,
+) -> Result<(), WriteFault>
+    ensures ok { OnOk result (Appends (W.written output.old) (W.written output.new)
+        (walk_text form (file_of machine.now) tools.now walk.now)) }
+    ensures fault { OnErr result (AppendsPrefix (W.written output.old) (W.written output.new)
+        (walk_text form (file_of machine.now) tools.now walk.now)) }
+    ensures counts { CountsFailure (W.failures output.old) (W.failures output.new) result }
+{
+    let found = walk.found.as_slice();
+    write_touches(form, MOST_LINES, &block_origin(machine), found, output)?;
+    write_all(output, arcs_line(form, found))?;
+    write_untested(form, &walk.stock.grid, tools, output)
+}
+
+/// Writes what a walk has found: the straight traverses that may touch material, and what isn't
+/// tested. Without a block of material nothing is written; if the walk wasn't made because of a
+/// distance, one line says so.
+///
+/// After a fault (902, only if the sink failed) a prefix of the text is written.
+pub fn write_material<A: Allocator, B: Allocator, W: Sink>(
+    form: Form,
+    machine: &Machine<B>,
+    tools: &[Tool],
+    walk: &Option<Walk<A>>,
+    output: &mut W,
+) -> Result<(), WriteFault>
+    ensures ok { OnOk result (Appends (W.written output.old) (W.written output.new)
+        (material_text form (file_of machine.now) tools.now walk.now)) }
+    ensures fault { OnErr result (AppendsPrefix (W.written output.old) (W.written output.new)
+        (material_text form (file_of machine.now) tools.now walk.now)) }
+    ensures counts { CountsFailure (W.failures output.old) (W.failures output.new) result }
+{
+    match walk {
+        None => write_all(output, unwalked(form, machine)),
+        Some(walk) => write_walk(form, machine, tools, walk, output),
+    }
+}
