@@ -7,7 +7,7 @@ A program is checked once its size and time stay the same for a second, so that 
 tool table changes, all programs are checked again. Ctrl+C ends it.
 
 With --once it checks each program of the folder, in the order of their names, and ends. Its status is then the greatest one of
-`ngc report`."""
+`ngc report`, as docs/FORMATS.md has them under "Exit statuses"."""
 import argparse
 import sys
 import time

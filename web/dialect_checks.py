@@ -118,6 +118,25 @@ ASKED_ABOUT = {
 }
 
 
+def named_by_the_machine(checks, page):
+    """The machine file's key `dialect` answers the question, and an answer of the user wins over it."""
+    begin(page)
+    named = page.read(MACHINE).replace("version = 2\n", 'version = 2\ndialect = "linuxcnc"\n', 1)
+    page.give({"loop.ngc": LOOP, "named.toml": named, "mine_tools.toml": page.read(TOOLS)})
+    checks.expect("a machine file that names a control answers the question", page.title.startswith("Fits: ") and page.title.endswith(". Read as LinuxCNC."), page.title)
+    checks.equal("  nothing is asked, and the choice shows it", [page.value(ASKED), page.value(f"{CHOICE}.value")], ["", "linuxcnc"])
+    page.do(choose("own"))
+    checks.begins("the user's answer wins over the machine file", page.title, "Line 7 can't be read")
+    page.give({"again.ngc": LOOP})
+    checks.begins("  also for the next program", page.title, "Line 7 can't be read")
+    page.do("ngc.actions.removeFixture(1)")
+    checks.equal("  and when the machine is changed here", page.value(CONTROL), "own")
+    page.give({"other.toml": named.replace("linuxcnc", "grbl")})
+    checks.equal("the next machine file answers again", page.value(CONTROL), "grbl")
+    page.give({"none.toml": page.read(MACHINE)})
+    checks.equal("one that names none leaves it open", page.value(CONTROL), None)
+
+
 def keeping_control(checks, page):
     """The answer is kept with the machine file."""
     begin(page)
@@ -338,4 +357,4 @@ def without_webgl(checks, page):
     checks.expect("an example has its drawing", page.value("document.querySelector('#labels img.drawing') !== null"))
 
 
-DIALECT_GROUPS = (asking, keeping_control, changing_control, refusals, dialect_files)
+DIALECT_GROUPS = (asking, named_by_the_machine, keeping_control, changing_control, refusals, dialect_files)

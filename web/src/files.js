@@ -156,6 +156,10 @@ export function makeFiles(store, getJobs, notice) {
       if (machine.source !== 'example') { keepDemands(demands); keepControl(control); }
       for (const [kind, file] of Object.entries({ machine, tools })) if (file.source !== 'example') keepFile(kind, file.name, file.bytes);
     });
+    // Without an answer, programs are for the control that the machine file names.
+    store.watch(state => [current(state, 'scene')?.scene?.dialect ?? null, state.control], (named, control) => {
+      if (named && control === null) store.dispatch({ type: 'control', control: named });
+    });
     // All dropped programs are checked again on another machine, for another control, and with other zeros and margins.
     store.watch(state => [state.files.machine, state.files.tools, state.origins, state.demands, state.control], () => { if (store.state.programs.length) checkPrograms(); });
   }

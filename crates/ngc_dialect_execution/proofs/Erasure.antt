@@ -52,6 +52,13 @@ use Rattle.ngc_dialect_execution.specs.Faults.{◌>>=◌ as ◌>>=c◌, caused, 
 use Rattle.ngc_dialect_execution.specs.Flow.{FlowProgress, effect_done, effect_taken, ends, flow_line_taken, flow_statements_taken, flow_taken, line_or_end, number_at, other_words, others_taken, passed_over, said_if, stepped, then_on, turned, values_from, with_values}
 use Rattle.ngc_dialect_execution.specs.Mounting.{before_lines, first_number, mounted, mounting, with_between, with_mounted}
 use Rattle.ngc_dialect_execution.specs.Program.{changes_of, commands_in, from_begun, go_from, go_on, lines_taken, marked_taken, traced_in}
+use Rattle.ngc_dialect_repeats.specs.declared.polar.PolarLine.{PolarLine}
+use Rattle.ngc_dialect_repeats.specs.declared.turns.Turning.{Turning}
+use Rattle.ngc_dialect_repeats.specs.Kept.{line_words}
+use Rattle.ngc_dialect_repeats.specs.Polar.{end_of, has_polar, polar_step}
+use Rattle.ngc_dialect_repeats.specs.Turns.{turn_step}
+use Rattle.ngc_dialect_execution.specs.Faults.{polar_caused}
+use Rattle.ngc_dialect_execution.specs.Taken.{all_taken, polar_in, polar_step_taken, polar_steps_taken, polar_taken, turn_taken, turned_by, turned_taken, turning_in, turns_taken, with_polar}
 use Rattle.ngc_dialect_execution.specs.Taken.{Between, Progress, Said, END, cycle_if, cycle_taken, done_at, end_noted, ended_at, has_flow, is_deleted, known_of, line_taken, made_taken, move_taken, moves_taken, nothing_wanted, own_taken, path_ended, path_taken, plain_taken, plain_words_taken, put_off, released_if, run_of, said_at, start_progress, start_taken, statements_taken, step_carried, step_lines, step_taken, waiting_taken, with_notes, with_run, with_series, words_executed, words_noted, words_of, words_taken}
 use Rattle.ngc_dialect_execution.specs.Text.{ProgramLines, first_byte, is_end, lines_after, mark_of, no_lines, number_of, program_of}
 
@@ -219,6 +226,50 @@ executes setup line words b = either bare (is_some b.path) _ _ _ _ (path setup l
 words_same : (setup : Setup) (line : ℕ) (words : List Word) (b : Between) → words_taken setup line words (bare b) ≡ mapped bare (words_taken setup line words b)
 words_same setup line words b = executes setup line words (words_noted line words b)
 
+-- the turns of an arc, and lines with polar words
+turn : (setup : Setup) (line : ℕ) (t : Turning) (words : List Word) (left : ℕ) (b : Between) →
+    turn_taken setup line t words left (bare b) ≡ mapped bare (turn_taken setup line t words left b)
+turn setup line t words left b = after bare (caused causes.Polar (turn_step t left)) _ _ (λ l. words_same setup line (line_words l words) b)
+
+turns : (setup : Setup) (line : ℕ) (t : Turning) (words : List Word) (left : ℕ) (b : Between) →
+    turns_taken setup line t words left (bare b) ≡ mapped bare (turns_taken setup line t words left b)
+unfolding turns_taken
+turns setup line t words zero b = refl
+turns setup line t words (suc left) b =
+    chain bare bare _ (turn_taken setup line t words (suc left) b) (λ c. turns_taken setup line t words left c) (λ c. turns_taken setup line t words left c)
+    (turn setup line t words (suc left) b) (λ c. turns setup line t words left c)
+
+turning_same : (setup : Setup) (line : ℕ) (words : List Word) (t : Option Turning) (b : Between) →
+    turned_by setup line words t (bare b) ≡ mapped bare (turned_by setup line words t b)
+turning_same setup line words None b = words_same setup line words b
+turning_same setup line words (Some t) b = turns setup line t words t.count (with_notes (counted line kinds.SeveralTurns) b)
+
+turned_words : (setup : Setup) (line : ℕ) (words : List Word) (b : Between) → turned_taken setup line words (bare b) ≡ mapped bare (turned_taken setup line words b)
+turned_words setup line words b = turning_same setup line words (turning_in words b) b
+
+polar_one : (setup : Setup) (line : ℕ) (p : PolarLine) (words : List Word) (left : ℕ) (b : Between) →
+    polar_step_taken setup line p words left (bare b) ≡ mapped bare (polar_step_taken setup line p words left b)
+polar_one setup line p words left b = after bare (caused causes.Polar (polar_step p left)) _ _ (λ l. turned_words setup line (line_words l words) b)
+
+polar_all : (setup : Setup) (line : ℕ) (p : PolarLine) (words : List Word) (left : ℕ) (b : Between) →
+    polar_steps_taken setup line p words left (bare b) ≡ mapped bare (polar_steps_taken setup line p words left b)
+unfolding polar_steps_taken
+polar_all setup line p words zero b = refl
+polar_all setup line p words (suc left) b =
+    chain bare bare _ (polar_step_taken setup line p words (suc left) b) (λ c. polar_steps_taken setup line p words left c)
+    (λ c. polar_steps_taken setup line p words left c) (polar_one setup line p words (suc left) b) (λ c. polar_all setup line p words left c)
+
+polar_same : (setup : Setup) (line : ℕ) (words : List Word) (b : Between) → polar_taken setup line words (bare b) ≡ mapped bare (polar_taken setup line words b)
+polar_same setup line words b =
+    after bare (polar_caused (polar_in words b)) _ _
+    (λ p. chain bare bare _ (polar_steps_taken setup line p words p.count (with_notes (counted line kinds.PolarWords) b))
+    (λ c. Ok (with_polar (end_of p) c)) (λ c. Ok (with_polar (end_of p) c))
+    (polar_all setup line p words p.count (with_notes (counted line kinds.PolarWords) b)) (λ c. refl))
+
+all_same : (setup : Setup) (line : ℕ) (words : List Word) (b : Between) → all_taken setup line words (bare b) ≡ mapped bare (all_taken setup line words b)
+unfolding all_taken
+all_same setup line words b = either bare (has_polar words) _ _ _ _ (polar_same setup line words b) (turned_words setup line words b)
+
 path_over : (setup : Setup) (b : Between) → path_ended setup (bare b) ≡ mapped bare (path_ended setup b)
 unfolding path_ended
 path_over setup b =
@@ -245,8 +296,8 @@ effect : (setup : Setup) (line : ℕ) (bytes : List ℕ) (said : List Statement)
 unfolding done_at
 effect setup line bytes said words p =
     after bare_progress (caused stored_cause (set_by_all bytes said p.values)) _ _
-    (λ k. chain bare bare_progress _ (words_taken setup line words (with_notes _ p.between)) (λ b. Ok (record { values = k; between = b }))
-    (λ b. Ok (record { values = k; between = b })) (words_same setup line words (with_notes _ p.between)) (λ b. refl))
+    (λ k. chain bare bare_progress _ (all_taken setup line words (with_notes _ p.between)) (λ b. Ok (record { values = k; between = b }))
+    (λ b. Ok (record { values = k; between = b })) (all_same setup line words (with_notes _ p.between)) (λ b. refl))
 
 statements : (setup : Setup) (line : ℕ) (bytes : List ℕ) (parts : List Part) (p : Progress) →
     statements_taken setup line bytes parts (bare_progress p) ≡ mapped bare_taken (statements_taken setup line bytes parts p)

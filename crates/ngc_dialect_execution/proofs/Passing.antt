@@ -1,5 +1,5 @@
 -- What a step returns, passed on by the steps after it; and the moves of a canned cycle, one after another.
-use Rattle.std.proofs.Common.{◌≡◌, ℕ, List, [], ◌∷◌, Bool, true, false, Result, Ok, Err, refl, sym, ◌∙◌, ap, subst}
+use Rattle.std.proofs.Common.{◌≡◌, ℕ, zero, suc, ◌+◌, ◌-◌, ◌<◌, List, [], ◌∷◌, Bool, true, false, Result, Ok, Err, refl, sym, ◌∙◌, ap, subst, arith}
 use Rattle.std.specs.Prelude.{Option, is_some, if◌then◌else◌}
 use Rattle.ngc_canned_cycles.specs.declared.cycle.CycleMove.{CycleMove}
 use Rattle.ngc_canonical.specs.State.{Setup}
@@ -19,6 +19,9 @@ use Rattle.ngc_dialect_execution.specs.declared.fault.Refusal.{Refusal}
 use Rattle.ngc_dialect_execution.specs.declared.fault.Refusal.TheVariants.{Because, Memory}
 use Rattle.ngc_dialect_execution.specs.Executed.{Run, lines_at, run}
 use Rattle.ngc_dialect_execution.specs.Faults.{◌>>=◌, caused, Says}
+use Rattle.ngc_dialect_repeats.specs.declared.polar.PolarLine.{PolarLine}
+use Rattle.ngc_dialect_repeats.specs.declared.turns.Turning.{Turning}
+use Rattle.ngc_dialect_execution.specs.Taken.{polar_step_taken, polar_steps_taken, turn_taken, turns_taken}
 use Rattle.ngc_dialect_execution.specs.Taken.{Between, known_of, run_of, with_run, with_series, plain_taken, move_taken, moves_taken, start_taken, cycle_taken, made_or_path, made_taken, path_taken, plain_words_taken}
 
 -- a step that always succeeds after another
@@ -65,6 +68,52 @@ moves_stop setup line ms rest m b c whole seen refusal is says e =
 pub moves_end : (setup : Setup) (line : ℕ) (ms : List CycleMove) (b : Between) (whole : Result Between Cause) →
     ms ≡ [] → moves_taken setup line ms b ≡ whole → whole ≡ Ok b
 moves_end setup line ms b whole is e = sym e ∙ ap (λ (l : List CycleMove). moves_taken setup line l b) is
+
+-- ---- lines of other words
+
+pub turns_next : (setup : Setup) (line : ℕ) (t : Turning) (words : List Word) (left : ℕ) (b c : Between) (whole : Result Between Cause) →
+    0 < left → turn_taken setup line t words left b ≡ Ok c → turns_taken setup line t words left b ≡ whole → turns_taken setup line t words (left - 1) c ≡ whole
+unfolding turns_taken
+turns_next setup line t words zero b c whole some taken e = absurd (omega arith)
+turns_next setup line t words (suc left) b c whole some taken e =
+    let one : suc left - 1 ≡ left = omega arith in
+    ap (λ (n : ℕ). turns_taken setup line t words n c) one ∙ (sym (ap (λ (r : Result Between Cause). r >>= λ d. turns_taken setup line t words left d) taken) ∙ e)
+
+pub turns_stop : {W : Type 0} (setup : Setup) (line : ℕ) (t : Turning) (words : List Word) (left : ℕ) (b c : Between) (whole : Result Between Cause)
+    (seen : W → Between) (refusal : Refusal) → 0 < left → Says (λ (x : Unit {0}). c) (Err refusal) (turn_taken setup line t words left b)
+    → turns_taken setup line t words left b ≡ whole → Says seen (Err refusal) whole
+unfolding turns_taken
+turns_stop setup line t words zero b c whole seen refusal some says e = absurd (omega arith)
+turns_stop setup line t words (suc left) b c whole seen refusal some says e =
+    subst (λ (r : Result Between Cause). Says seen (Err refusal) r) e
+    (stops (λ (x : Unit {0}). c) seen (λ d. turns_taken setup line t words left d) refusal (turn_taken setup line t words (suc left) b) says)
+
+pub turns_end : (setup : Setup) (line : ℕ) (t : Turning) (words : List Word) (left : ℕ) (b : Between) (whole : Result Between Cause) →
+    left ≡ 0 → turns_taken setup line t words left b ≡ whole → whole ≡ Ok b
+unfolding turns_taken
+turns_end setup line t words left b whole is e = sym e ∙ ap (λ (n : ℕ). turns_taken setup line t words n b) is
+
+pub polar_steps_next : (setup : Setup) (line : ℕ) (p : PolarLine) (words : List Word) (left : ℕ) (b c : Between) (whole : Result Between Cause) →
+    0 < left → polar_step_taken setup line p words left b ≡ Ok c → polar_steps_taken setup line p words left b ≡ whole → polar_steps_taken setup line p words (left - 1) c ≡ whole
+unfolding polar_steps_taken
+polar_steps_next setup line p words zero b c whole some taken e = absurd (omega arith)
+polar_steps_next setup line p words (suc left) b c whole some taken e =
+    let one : suc left - 1 ≡ left = omega arith in
+    ap (λ (n : ℕ). polar_steps_taken setup line p words n c) one ∙ (sym (ap (λ (r : Result Between Cause). r >>= λ d. polar_steps_taken setup line p words left d) taken) ∙ e)
+
+pub polar_steps_stop : {W : Type 0} (setup : Setup) (line : ℕ) (p : PolarLine) (words : List Word) (left : ℕ) (b c : Between) (whole : Result Between Cause)
+    (seen : W → Between) (refusal : Refusal) → 0 < left → Says (λ (x : Unit {0}). c) (Err refusal) (polar_step_taken setup line p words left b)
+    → polar_steps_taken setup line p words left b ≡ whole → Says seen (Err refusal) whole
+unfolding polar_steps_taken
+polar_steps_stop setup line p words zero b c whole seen refusal some says e = absurd (omega arith)
+polar_steps_stop setup line p words (suc left) b c whole seen refusal some says e =
+    subst (λ (r : Result Between Cause). Says seen (Err refusal) r) e
+    (stops (λ (x : Unit {0}). c) seen (λ d. polar_steps_taken setup line p words left d) refusal (polar_step_taken setup line p words (suc left) b) says)
+
+pub polar_steps_end : (setup : Setup) (line : ℕ) (p : PolarLine) (words : List Word) (left : ℕ) (b : Between) (whole : Result Between Cause) →
+    left ≡ 0 → polar_steps_taken setup line p words left b ≡ whole → whole ≡ Ok b
+unfolding polar_steps_taken
+polar_steps_end setup line p words left b whole is e = sym e ∙ ap (λ (n : ℕ). polar_steps_taken setup line p words n b) is
 
 pub move_refused : (setup : Setup) (line : ℕ) (m : CycleMove) (b : Between) (fault : RuleFault) →
     move_lines (known_of b) m ≡ Err fault → move_taken setup line m b ≡ Err (causes.Rule fault)

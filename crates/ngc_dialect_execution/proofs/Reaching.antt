@@ -58,6 +58,13 @@ use Rattle.ngc_dialect_execution.specs.declared.run.Wanted.{Wanted}
 use Rattle.ngc_dialect_notes.specs.declared.kind.Kind.TheVariants as kinds
 use Rattle.ngc_dialect_notes.specs.Noted.{statements_noted}
 use Rattle.ngc_dialect_notes.specs.Notes.{counted}
+use Rattle.ngc_dialect_repeats.specs.declared.polar.PolarLine.{PolarLine}
+use Rattle.ngc_dialect_repeats.specs.declared.turns.Turning.{Turning}
+use Rattle.ngc_dialect_repeats.specs.Kept.{line_words}
+use Rattle.ngc_dialect_repeats.specs.Polar.{end_of, has_polar, polar_step}
+use Rattle.ngc_dialect_repeats.specs.Turns.{turn_step}
+use Rattle.ngc_dialect_execution.specs.Faults.{polar_caused}
+use Rattle.ngc_dialect_execution.specs.Taken.{all_taken, polar_in, polar_step_taken, polar_steps_taken, polar_taken, turn_taken, turned_by, turned_taken, turning_in, turns_taken, with_polar}
 use Rattle.ngc_dialect_execution.specs.Taken.{Between, Progress, Said, END, done_at, ended_at, has_flow, is_deleted, known_of, line_taken, nothing_wanted, parts_taken, said_at, start_progress, run_of, start_kept, statements_taken, with_notes, with_run, words_executed, words_noted, words_of, words_taken, end_noted, plain_taken, move_taken, moves_taken, with_series, start_taken, cycle_taken, cycle_if, made_taken, own_taken, path_ended, path_taken, plain_words_taken, put_off, released_if, step_carried, step_lines, step_taken, waiting_taken}
 use Rattle.ngc_dialect_execution.specs.Text.{ProgramLines, first_byte, is_end, lines_after, mark_of, no_lines, number_of, program_of}
 use Rattle.ngc_dialect_execution.proofs.Lawful.{are_lawful, in_order}
@@ -300,6 +307,55 @@ words_executed_lead setup line words b =
 words_lead : (setup : Setup) (line : ℕ) (words : List Word) (b : Between) → KnownLeads setup (run_of b) (words_taken setup line words b)
 words_lead setup line words b = words_executed_lead setup line words (words_noted line words b)
 
+-- the turns of an arc, and lines with polar words
+turn_leads : (setup : Setup) (line : ℕ) (t : Turning) (words : List Word) (left : ℕ) (b : Between) →
+    KnownLeads setup (run_of b) (turn_taken setup line t words left b)
+turn_leads setup line t words left b =
+    after_any (λ (c : Between). Leads setup (run_of b) (run_of c)) (caused causes.Polar (turn_step t left)) _
+    (λ l. words_lead setup line (line_words l words) b)
+
+turns_lead : (setup : Setup) (line : ℕ) (t : Turning) (words : List Word) (left : ℕ) (b : Between) →
+    KnownLeads setup (run_of b) (turns_taken setup line t words left b)
+unfolding turns_taken
+turns_lead setup line t words zero b = stays_there setup (run_of b)
+turns_lead setup line t words (suc left) b =
+    chain setup (run_of b) (turn_taken setup line t words (suc left) b) (λ c. turns_taken setup line t words left c)
+    (turn_leads setup line t words (suc left) b) (λ c. turns_lead setup line t words left c)
+
+turned_by_leads : (setup : Setup) (line : ℕ) (words : List Word) (t : Option Turning) (b : Between) →
+    KnownLeads setup (run_of b) (turned_by setup line words t b)
+turned_by_leads setup line words None b = words_lead setup line words b
+turned_by_leads setup line words (Some t) b =
+    turns_lead setup line t words t.count (with_notes (counted line kinds.SeveralTurns) b)
+
+turning_leads : (setup : Setup) (line : ℕ) (words : List Word) (b : Between) → KnownLeads setup (run_of b) (turned_taken setup line words b)
+turning_leads setup line words b = turned_by_leads setup line words (turning_in words b) b
+
+polar_step_leads : (setup : Setup) (line : ℕ) (p : PolarLine) (words : List Word) (left : ℕ) (b : Between) →
+    KnownLeads setup (run_of b) (polar_step_taken setup line p words left b)
+polar_step_leads setup line p words left b =
+    after_any (λ (c : Between). Leads setup (run_of b) (run_of c)) (caused causes.Polar (polar_step p left)) _
+    (λ l. turning_leads setup line (line_words l words) b)
+
+polar_steps_lead : (setup : Setup) (line : ℕ) (p : PolarLine) (words : List Word) (left : ℕ) (b : Between) →
+    KnownLeads setup (run_of b) (polar_steps_taken setup line p words left b)
+unfolding polar_steps_taken
+polar_steps_lead setup line p words zero b = stays_there setup (run_of b)
+polar_steps_lead setup line p words (suc left) b =
+    chain setup (run_of b) (polar_step_taken setup line p words (suc left) b) (λ c. polar_steps_taken setup line p words left c)
+    (polar_step_leads setup line p words (suc left) b) (λ c. polar_steps_lead setup line p words left c)
+
+polar_leads : (setup : Setup) (line : ℕ) (words : List Word) (b : Between) → KnownLeads setup (run_of b) (polar_taken setup line words b)
+polar_leads setup line words b =
+    after_any (λ (c : Between). Leads setup (run_of b) (run_of c)) (polar_caused (polar_in words b)) _
+    (λ p. chain setup (run_of b) (polar_steps_taken setup line p words p.count (with_notes (counted line kinds.PolarWords) b))
+    (λ c. Ok (with_polar (end_of p) c)) (polar_steps_lead setup line p words p.count (with_notes (counted line kinds.PolarWords) b))
+    (λ c. stays_there setup (run_of c)))
+
+all_lead : (setup : Setup) (line : ℕ) (words : List Word) (b : Between) → KnownLeads setup (run_of b) (all_taken setup line words b)
+unfolding all_taken
+all_lead setup line words b = either_known setup (run_of b) (has_polar words) _ _ (polar_leads setup line words b) (turning_leads setup line words b)
+
 -- the end of the program
 path_end_leads : (setup : Setup) (b : Between) → KnownLeads setup (run_of b) (path_ended setup b)
 unfolding path_ended
@@ -332,8 +388,8 @@ unfolding done_at
 effect_leads setup line text said words p =
     after_any (λ (q : Progress). Leads setup (run_of p.between) (run_of q.between)) (caused stored_cause (set_by_all text said p.values)) _
     (λ k. after_step (λ (c : Between). Leads setup (run_of p.between) (run_of c)) (λ (q : Progress). Leads setup (run_of p.between) (run_of q.between))
-    (words_taken setup line words (with_notes (statements_noted line said) p.between)) _
-    (words_lead setup line words (with_notes (statements_noted line said) p.between)) (λ b leads. leads))
+    (all_taken setup line words (with_notes (statements_noted line said) p.between)) _
+    (all_lead setup line words (with_notes (statements_noted line said) p.between)) (λ b leads. leads))
 
 either_leads : (setup : Setup) (s : Run) (b : Bool) (x y : Result (Taken × Progress) Cause) → LeadsOn setup s x → LeadsOn setup s y
     → LeadsOn setup s (if b then x else y)

@@ -8,6 +8,9 @@ use Rattle.ngc_dialect_parameters.specs.declared.fault.StoreFault.{StoreFault}
 use Rattle.ngc_dialect_parameters.specs.declared.fault.StoreFault.TheVariants as stores
 use Rattle.ngc_dialect_reader.specs.Faults.{fault_number as reading_number}
 use Rattle.ngc_dialect_rules.specs.Faults.{fault_number as rule_number}
+use Rattle.ngc_dialect_repeats.specs.Refusals.{refusal_number as polar_number}
+use Rattle.ngc_dialect_repeats.specs.declared.refusal.PolarFault.{PolarFault}
+use Rattle.ngc_dialect_repeats.specs.declared.refusal.PolarFault.TheVariants as polar
 use Rattle.ngc_dialect_execution.specs.declared.fault.Cause.{Cause}
 use Rattle.ngc_dialect_execution.specs.declared.fault.Cause.TheVariants as causes
 use Rattle.ngc_dialect_execution.specs.declared.fault.DialectFault.{DialectFault}
@@ -21,6 +24,7 @@ cause_number (causes.Value cause) = value_number cause
 cause_number causes.TooManyNames = 139
 cause_number (causes.Flow cause) = flow_number cause
 cause_number (causes.Rule fault) = rule_number fault.cause
+cause_number (causes.Polar refusal) = polar_number refusal
 cause_number (causes.Plain fault) = plain_number fault
 
 abbrev pub dialect_number : DialectFault → ℕ
@@ -41,6 +45,14 @@ abbrev pub ◌>>=◌ : {A B : Type 0} → Result A Cause → (A → Result B Cau
 abbrev pub caused : {A E : Type 0} → (E → Cause) → Result A E → Result A Cause
 caused as_cause (Ok x) = Ok x
 caused as_cause (Err e) = Err (as_cause e)
+
+-- why polar words are refused
+abbrev pub polar_cause : PolarFault → Cause
+polar_cause (polar.Rule fault) = causes.Rule fault
+polar_cause (polar.Polar refusal) = causes.Polar refusal
+
+abbrev pub polar_caused : {A : Type 0} → Result A PolarFault → Result A Cause
+polar_caused r = caused polar_cause r
 
 -- why parameters aren't stored; the definitions know no lack of memory
 abbrev pub stored_cause : StoreFault → Cause

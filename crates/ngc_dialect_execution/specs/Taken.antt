@@ -1,6 +1,6 @@
 -- A line of another control: its parts are read, its values computed, and its words become plain
 -- lines, which are executed. Our own.
-use Rattle.std.specs.Prelude.{ℕ, ◌*◌, ◌==◌, nat_le, ℤ, pos, ◌&&◌, ◌||◌, List, [], ◌∷◌, ◌++◌, length}
+use Rattle.std.specs.Prelude.{ℕ, zero, suc, ◌*◌, ◌==◌, nat_le, ℤ, pos, ◌&&◌, ◌||◌, List, [], ◌∷◌, ◌++◌, length}
 use Rattle.std.specs.Prelude.{Bool, true, false, Option, Some, None, is_some, option_map, Result, Ok, Err}
 use Rattle.std.specs.Prelude.{if◌then◌else◌}
 use Rattle.std.specs.List.{list_any}
@@ -56,7 +56,17 @@ use Rattle.ngc_dialect_execution.specs.declared.fault.Cause.TheVariants as cause
 use Rattle.ngc_dialect_execution.specs.declared.lines.Taken.{Taken}
 use Rattle.ngc_dialect_execution.specs.declared.lines.Taken.TheVariants.{Done, HasFlow}
 use Rattle.ngc_dialect_execution.specs.Executed.{PlainLine, Run, lines_at, run}
-use Rattle.ngc_dialect_execution.specs.Faults.{◌>>=◌, caused, stored_cause}
+use Rattle.ngc_dialect_repeats.specs.declared.point.PolarEnd.{PolarEnd}
+use Rattle.ngc_dialect_repeats.specs.declared.polar.PolarLine.{PolarLine}
+use Rattle.ngc_dialect_repeats.specs.declared.refusal.PolarFault.{PolarFault}
+use Rattle.ngc_dialect_repeats.specs.declared.refusal.PolarRefusal.{PolarRefusal}
+use Rattle.ngc_dialect_repeats.specs.declared.turns.Turning.{Turning}
+use Rattle.ngc_dialect_repeats.specs.Kept.{line_words}
+use Rattle.ngc_dialect_repeats.specs.Polar.{end_of, has_polar, polar_line, polar_step}
+use Rattle.ngc_dialect_repeats.specs.Turns.{turning_of, turn_step}
+use Rattle.ngc_dialect_execution.specs.declared.fault.Refusal.{Refusal}
+use Rattle.ngc_dialect_execution.specs.declared.fault.Refusal.TheVariants.{Because}
+use Rattle.ngc_dialect_execution.specs.Faults.{◌>>=◌, caused, polar_caused, stored_cause}
 
 -- what is known between two lines, besides the program's parameters
 pub record Between : Type 0 where
@@ -67,6 +77,7 @@ pub record Between : Type 0 where
   pub waiting : List WaitingLine
   pub notes : Option Notes
   pub kept : Option (List PlainLine)
+  pub polar : Option PolarEnd
 
 abbrev pub nothing_wanted : Wanted
 nothing_wanted = record { notes = false; lines = false }
@@ -88,6 +99,7 @@ start w d machine = record {
   waiting = [];
   notes = start_notes w.notes;
   kept = start_kept w.lines;
+  polar = None;
 }
 
 -- what is known between two lines of a program: also what it has set
@@ -338,12 +350,76 @@ abbrev pub is_deleted : List Part → Bool
 is_deleted [] = false
 is_deleted (p ∷ parts) = is_delete p.kind
 
+-- ---- lines of other words: polar words become X and Y, and a repeated polar hole and an arc of several
+-- turns become several lines
+
+abbrev pub because : PolarRefusal → Refusal
+because refusal = Because (causes.Polar refusal)
+
+-- ---- the turns of an arc
+
+abbrev pub turn_taken : Setup → ℕ → Turning → List Word → ℕ → Between → Result Between Cause
+turn_taken setup line t words left b = do
+  l ← caused causes.Polar (turn_step t left)
+  words_taken setup line (line_words l words) b
+
+-- the turns that are left
+unfoldable pub turns_taken : Setup → ℕ → Turning → List Word → ℕ → Between → Result Between Cause
+turns_taken setup line t words zero b = Ok b
+turns_taken setup line t words (suc left) b =
+    turn_taken setup line t words (suc left) b >>= λ c. turns_taken setup line t words left c
+
+-- beside a path an arc has one turn
+abbrev pub turning_in : List Word → Between → Option Turning
+turning_in words b = if is_some b.path then None else turning_of (known_of b) words
+
+abbrev pub turned_by : Setup → ℕ → List Word → Option Turning → Between → Result Between Cause
+turned_by setup line words None b = words_taken setup line words b
+turned_by setup line words (Some t) b =
+    turns_taken setup line t words t.count (with_notes (counted line notes.SeveralTurns) b)
+
+abbrev pub turned_taken : Setup → ℕ → List Word → Between → Result Between Cause
+turned_taken setup line words b = turned_by setup line words (turning_in words b) b
+
+-- ---- polar words
+
+abbrev pub polar_step_taken : Setup → ℕ → PolarLine → List Word → ℕ → Between → Result Between Cause
+polar_step_taken setup line p words left b = do
+  l ← caused causes.Polar (polar_step p left)
+  turned_taken setup line (line_words l words) b
+
+-- the lines that are left
+unfoldable pub polar_steps_taken : Setup → ℕ → PolarLine → List Word → ℕ → Between → Result Between Cause
+polar_steps_taken setup line p words zero b = Ok b
+polar_steps_taken setup line p words (suc left) b =
+    polar_step_taken setup line p words (suc left) b
+    >>= λ c. polar_steps_taken setup line p words left c
+
+-- where polar words lead: from the programmed point, if a path is beside it
+abbrev pub polar_in : List Word → Between → Result PolarLine PolarFault
+polar_in words b = polar_line (programmed (known_of b) b.path) b.polar words
+
+abbrev pub with_polar : Option PolarEnd → Between → Between
+with_polar end b = record b { polar = end }
+
+abbrev pub polar_taken : Setup → ℕ → List Word → Between → Result Between Cause
+polar_taken setup line words b = do
+  p ← polar_caused (polar_in words b)
+  c ← polar_steps_taken setup line p words p.count (with_notes (counted line notes.PolarWords) b)
+  Ok (with_polar (end_of p) c)
+
+-- ---- all words
+
+unfoldable pub all_taken : Setup → ℕ → List Word → Between → Result Between Cause
+all_taken setup line words b =
+    if has_polar words then polar_taken setup line words b else turned_taken setup line words b
+
 -- a line with this text takes effect: its settings are made, and its words executed
 unfoldable pub done_at : Setup → ℕ → List ℕ → List Statement → List Word → Progress →
     Result Progress Cause
 done_at setup line text said words p = do
   k ← caused stored_cause (set_by_all text said p.values)
-  b ← words_taken setup line words (with_notes (statements_noted line said) p.between)
+  b ← all_taken setup line words (with_notes (statements_noted line said) p.between)
   Ok (record { values = k; between = b })
 
 -- what was done, and what is known then

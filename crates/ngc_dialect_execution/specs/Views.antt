@@ -37,6 +37,7 @@ between_of i = record {
   waiting = i.waiting.items;
   notes = i.notes;
   kept = kept_in i.run.kept;
+  polar = i.polar;
 }
 
 abbrev pub progress_of : {A : Type 0} → Execution A → Progress

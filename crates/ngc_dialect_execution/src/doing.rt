@@ -10,6 +10,7 @@ ghost use Rattle.ngc_dialect_execution.specs.Taken as spec;
 ghost use Rattle.ngc_dialect_execution.specs.Views.{progress_of, said_in};
 
 use crate::fault::{Cause, Refusal, stored};
+use crate::repeats::{LineSpace, take_all};
 use crate::run::Wanted;
 use crate::words::WordInterpreter;
 use ngc_canonical::{Machine, Tools};
@@ -24,6 +25,7 @@ use std::alloc::{AllocError, Allocator};
 pub(crate) struct Execution<A: Allocator> {
     pub(crate) words: WordInterpreter<A>,
     pub(crate) parameters: Parameters<A>,
+    space: LineSpace<A>,
 }
 
 impl<A: Allocator + Copy> Execution<A> {
@@ -43,7 +45,15 @@ impl<A: Allocator + Copy> Execution<A> {
         let Ok(parameters) = Parameters::new(alloc, dialect) else {
             return Err(AllocError);
         };
-        Ok(Execution { words, parameters })
+        let space = LineSpace {
+            polar: Vec::new(alloc),
+            turn: Vec::new(alloc),
+        };
+        Ok(Execution {
+            words,
+            parameters,
+            space,
+        })
     }
 
     /// Makes the settings of a line, and executes its words.
@@ -67,7 +77,14 @@ impl<A: Allocator + Copy> Execution<A> {
         }
         self.words
             .note_statements(number, values.statements.as_slice());
-        self.words.take_words(machine, tools, number, words)
+        take_all(
+            &mut self.words,
+            &mut self.space,
+            machine,
+            tools,
+            number,
+            words,
+        )
     }
 
     // Begins or ends a call.

@@ -9,6 +9,7 @@ ghost use Rattle.ngc_dialect_execution.specs.Faults.{at_line as located};
 use ngc_dialect_flow::Cause as FlowCause;
 use ngc_dialect_parameters::{Cause as ValueCause, StoreFault};
 use ngc_dialect_reader::LineFault;
+use ngc_dialect_repeats::PolarRefusal;
 use ngc_dialect_rules::Fault as RuleFault;
 use thiserror::Error;
 
@@ -25,6 +26,8 @@ pub enum Cause {
     Flow(FlowCause),
     /// 101, 204, 205, 211, 252: the dialect's rules refuse the line.
     Rule(RuleFault),
+    /// 101, 211: polar words.
+    Polar(PolarRefusal),
     /// The fault of a plain line that the line became.
     Plain(ngc_canonical::Fault),
 }
@@ -42,6 +45,7 @@ impl Cause {
             Cause::TooManyNames => 139,
             Cause::Flow(cause) => cause.number(),
             Cause::Rule(fault) => fault.cause.number(),
+            Cause::Polar(refusal) => refusal.number(),
             Cause::Plain(fault) => fault.number(),
         }
     }

@@ -11,6 +11,7 @@ pub mod laws;
 mod lines;
 mod program;
 mod reading;
+mod repeats;
 mod run;
 mod text;
 mod words;

@@ -6,6 +6,7 @@ ghost use Rattle.ngc_canonical.specs.Interpreter.{setup_of};
 ghost use Rattle.ngc_frames.specs.Changes.{frame_of};
 ghost use Rattle.ngc_dialect_execution.specs.Faults.{Says};
 ghost use Rattle.ngc_dialect_execution.specs.Mounting.{mounted};
+ghost use Rattle.ngc_dialect_path.specs.Paths.{programmed as programmed_of};
 ghost use Rattle.ngc_dialect_path.specs.Steps.{written_in};
 ghost use Rattle.ngc_dialect_execution.specs.Taken as spec;
 ghost use Rattle.ngc_dialect_execution.specs.Taken.{END};
@@ -25,6 +26,7 @@ use ngc_dialect_names::Dialect;
 use ngc_dialect_notes::{Kind, Notes};
 use ngc_dialect_parameters::{Statement, Word};
 use ngc_dialect_path::{Path, PathLines, PathStep, held_line, path_end, path_step, programmed};
+use ngc_dialect_repeats::PolarEnd;
 use ngc_dialect_rules::{
     Code, Front, Known, LineCycle, LineResult, Plain, PlainLines, plain_lines,
 };
@@ -45,6 +47,7 @@ pub struct WordInterpreter<A: Allocator> {
     pub(crate) path: Option<Path>,
     pub(crate) waiting: Vec<WaitingLine, A>,
     path_lines: PathLines,
+    pub(crate) polar: Option<PolarEnd>,
 }
 
 /// The commands of a program, and what was collected while it was executed.
@@ -131,6 +134,7 @@ impl<A: Allocator + Copy> WordInterpreter<A> {
                 made: ArrayVec::new(),
                 own: ArrayVec::new(),
             },
+            polar: None,
         })
     }
 
@@ -402,6 +406,13 @@ impl<A: Allocator + Copy> WordInterpreter<A> {
         }
     }
 
+    /// Returns what the rules know before a line, with the programmed point if a path is beside it.
+    pub(crate) fn programmed(&self) -> Known
+        ensures { result ≡ programmed_of (spec.known_of (between_of self.now)) (between_of self.now).path }
+    {
+        programmed(&self.known(), &self.path)
+    }
+
     // Notes a line by what its words are read by.
     fn note_words(&mut self, line: u32, words: &[Word])
         ensures { between_of self.new ≡ spec.words_noted line words.now (between_of self.old) }
@@ -409,7 +420,7 @@ impl<A: Allocator + Copy> WordInterpreter<A> {
         if self.notes.is_none() {
             return;
         }
-        let known = programmed(&self.known(), &self.path);
+        let known = self.programmed();
         if let Some(notes) = &mut self.notes {
             notes.add(line, &known, words);
         }
@@ -425,8 +436,8 @@ impl<A: Allocator + Copy> WordInterpreter<A> {
         }
     }
 
-    // Notes a kind that occurred in a line.
-    fn note(&mut self, line: u32, kind: Kind)
+    /// Notes a kind that occurred in a line.
+    pub(crate) fn note(&mut self, line: u32, kind: Kind)
         ensures { between_of self.new ≡ spec.with_notes (counted line kind)
             (between_of self.old) }
     {

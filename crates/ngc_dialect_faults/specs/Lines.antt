@@ -7,7 +7,7 @@ use Rattle.ngc_certificate_text.specs.declared.piece.Setting.{Setting}
 use Rattle.ngc_certificate_text.specs.declared.piece.Setting.TheVariants.{Off, On}
 use Rattle.ngc_dialect_execution.specs.Faults.{cause_number}
 use Rattle.ngc_dialect_execution.specs.declared.fault.Cause.{Cause}
-use Rattle.ngc_dialect_execution.specs.declared.fault.Cause.TheVariants.{Reading, Value, TooManyNames, Flow, Rule, Plain}
+use Rattle.ngc_dialect_execution.specs.declared.fault.Cause.TheVariants.{Reading, Value, TooManyNames, Flow, Rule, Polar, Plain}
 use Rattle.ngc_dialect_rules.specs.declared.code.Code.{Code}
 use Rattle.ngc_dialect_rules.specs.declared.code.Code.TheVariants.{G, M}
 use Rattle.ngc_dialect_rules.specs.declared.fault.About.{About}
@@ -15,7 +15,7 @@ use Rattle.ngc_dialect_rules.specs.declared.fault.About.TheVariants as about
 use Rattle.ngc_dialect_rules.specs.declared.fault.Fault.{Fault as RuleFault}
 use Rattle.ngc_dialect_faults.specs.Flow.{flow_words}
 use Rattle.ngc_dialect_faults.specs.Plain.{plain_words}
-use Rattle.ngc_dialect_faults.specs.Rules.{rule_end, rule_words}
+use Rattle.ngc_dialect_faults.specs.Rules.{polar_words, rule_end, rule_words}
 use Rattle.ngc_dialect_faults.specs.Values.{reading_words, value_words}
 
 -- ---- the word that a fault is about
@@ -56,6 +56,7 @@ cause_text (Value cause) = value_words cause
 cause_text TooManyNames = codes "over 10,000 names"
 cause_text (Flow cause) = flow_words cause
 cause_text (Rule fault) = rule_text fault
+cause_text (Polar refusal) = polar_words refusal
 cause_text (Plain fault) = plain_words fault ++ plain_end fault
 
 -- ---- the line

@@ -4,6 +4,8 @@ use Rattle.ngc_compensation.specs.declared.refusal.Refusal.{Refusal as Compensat
 use Rattle.ngc_compensation.specs.declared.refusal.Refusal.TheVariants as compensation
 use Rattle.ngc_dialect_arcs.specs.declared.refusal.ArcRefusal.{ArcRefusal}
 use Rattle.ngc_dialect_arcs.specs.declared.refusal.ArcRefusal.TheVariants as arcs
+use Rattle.ngc_dialect_repeats.specs.declared.refusal.PolarRefusal.{PolarRefusal}
+use Rattle.ngc_dialect_repeats.specs.declared.refusal.PolarRefusal.TheVariants as polar
 use Rattle.ngc_dialect_rules.specs.declared.fault.Cause.{Cause as RuleCause}
 use Rattle.ngc_dialect_rules.specs.declared.fault.Cause.TheVariants as rules
 use Rattle.ngc_dialect_rules.specs.declared.fault.LeftOut.{LeftOut}
@@ -56,6 +58,16 @@ compensation_words compensation.Backwards = codes "the tool does not fit: a move
 compensation_words compensation.TooFar = codes "a place over 4 metres, or a radius of 0 or over 0.1 metres"
 compensation_words compensation.PlaneYz = codes "no cutter compensation in G19"
 compensation_words compensation.AlreadyOn = codes "cutter compensation is on already"
+
+-- polar words are refused
+abbrev pub polar_words : PolarRefusal → List ℕ
+polar_words polar.Twice = codes "@ or ^ is on the line twice"
+polar_words polar.AxisBeside = codes "X or Y beside @ or ^"
+polar_words polar.CodeBeside = codes "@ and ^ beside a code that they can't be used with"
+polar_words polar.OtherPlane = codes "@ and ^ need the plane XY"
+polar_words polar.AtOrigin = codes "@ and ^ in G91 at the origin, which has no angle"
+polar_words polar.BelowZero = codes "@ leads to a distance below 0"
+polar_words polar.TooFar = codes "@ and ^ lead over 100 metres away"
 
 -- a line is refused
 abbrev pub rule_words : RuleCause → List ℕ

@@ -12,7 +12,7 @@ ghost use Rattle.ngc_dialect_faults.specs.Lines.{point_text, rule_text, tenths_t
 use crate::flow::flow_words;
 use crate::plain::plain_words;
 use crate::reading::{reading_words, value_words};
-use crate::rules::{rule_end, rule_words};
+use crate::rules::{polar_words, rule_end, rule_words};
 use ngc_canonical::Fault as PlainFault;
 use ngc_certificate_text::Setting;
 use ngc_dialect_execution::Cause;
@@ -94,6 +94,7 @@ fn say_cause<W: Sink>(cause: &Cause, page: &mut Page, output: &mut W)
         Cause::TooManyNames => say!(page, output; b"over 10,000 names"),
         Cause::Flow(cause) => say!(page, output; Part::Text(flow_words(*cause))),
         Cause::Rule(fault) => say_rule(fault, page, output),
+        Cause::Polar(refusal) => say!(page, output; Part::Text(polar_words(*refusal))),
         Cause::Plain(fault) =>
             say!(page, output; Part::Text(plain_words(*fault)), plain_end(fault)),
     }

@@ -1,10 +1,11 @@
 //! Why the rules of a dialect refuse a line, in words.
 ghost use Rattle.std.specs.Prelude.{◌≡◌};
 ghost use Rattle.ngc_dialect_faults.specs.Rules.{arc_words, compensation_words, left_out_words};
-ghost use Rattle.ngc_dialect_faults.specs.Rules.{rule_end, rule_words};
+ghost use Rattle.ngc_dialect_faults.specs.Rules.{polar_words, rule_end, rule_words};
 
 use ngc_compensation::Refusal as CompensationRefusal;
 use ngc_dialect_arcs::ArcRefusal;
+use ngc_dialect_repeats::PolarRefusal;
 use ngc_dialect_rules::{Cause as RuleCause, LeftOut};
 
 fn left_out_words(left_out: LeftOut) -> &'static [u8]
@@ -66,6 +67,20 @@ fn compensation_words(refusal: CompensationRefusal) -> &'static [u8]
             b"a place over 4 metres, or a radius of 0 or over 0.1 metres",
         CompensationRefusal::PlaneYz => b"no cutter compensation in G19",
         CompensationRefusal::AlreadyOn => b"cutter compensation is on already",
+    }
+}
+
+pub(crate) fn polar_words(refusal: PolarRefusal) -> &'static [u8]
+    ensures { result.now ≡ polar_words refusal }
+{
+    match refusal {
+        PolarRefusal::Twice => b"@ or ^ is on the line twice",
+        PolarRefusal::AxisBeside => b"X or Y beside @ or ^",
+        PolarRefusal::CodeBeside => b"@ and ^ beside a code that they can't be used with",
+        PolarRefusal::OtherPlane => b"@ and ^ need the plane XY",
+        PolarRefusal::AtOrigin => b"@ and ^ in G91 at the origin, which has no angle",
+        PolarRefusal::BelowZero => b"@ leads to a distance below 0",
+        PolarRefusal::TooFar => b"@ and ^ lead over 100 metres away",
     }
 }
 

@@ -1,7 +1,7 @@
 -- What notes say, and the remark after it. Our own.
 use Rattle.std.specs.Prelude.{ℕ, List, codes}
 use Rattle.ngc_dialect_notes.specs.declared.kind.Class.{Class}
-use Rattle.ngc_dialect_notes.specs.declared.kind.Class.TheVariants.{Exact, Told, Chosen}
+use Rattle.ngc_dialect_notes.specs.declared.kind.Class.TheVariants.{Exact, Told, Chosen, Bound}
 use Rattle.ngc_dialect_notes.specs.declared.kind.Kind.{Kind}
 use Rattle.ngc_dialect_notes.specs.declared.kind.Kind.TheVariants as kinds
 
@@ -9,6 +9,7 @@ abbrev pub class_text : Class → List ℕ
 class_text Exact = codes "exact"
 class_text Told = codes "told"
 class_text Chosen = codes "chosen"
+class_text Bound = codes "bound"
 
 -- what is noted
 unfoldable pub kind_text : Kind → List ℕ
@@ -60,6 +61,9 @@ kind_text kinds.Homing = codes "$H left out"
 kind_text kinds.DeleteLevel = codes "/2 to /9"
 kind_text kinds.FirstTool = codes "a tool mounted before the first line"
 kind_text kinds.ProgramEnd = codes "a program without M2 and M30"
+kind_text kinds.PolarWords = codes "@ and ^"
+kind_text kinds.SeveralTurns = codes "arcs of several turns"
+kind_text kinds.CutterRadius = codes "cutter compensation"
 
 -- what execution does
 unfoldable pub remark_text : Kind → List ℕ
@@ -113,3 +117,7 @@ remark_text kinds.Homing = codes "the axes don't go home"
 remark_text kinds.DeleteLevel = codes "each is executed as /"
 remark_text kinds.FirstTool = codes "it is the only tool of the tool table"
 remark_text kinds.ProgramEnd = codes "it ends after its last line, as by M2"
+remark_text kinds.PolarWords = codes "X and Y are rounded to the nanometre"
+remark_text kinds.SeveralTurns = codes "heights between turns are rounded to the nanometre"
+remark_text kinds.CutterRadius =
+    codes "the path is that of the radius in the tool table, or of half of D of G41.1 and G42.1"

@@ -11,6 +11,7 @@ pub(crate) fn class_text(class: Class) -> &'static [u8]
         Class::Exact => b"exact",
         Class::Told => b"told",
         Class::Chosen => b"chosen",
+        Class::Bound => b"bound",
     }
 }
 
@@ -68,6 +69,9 @@ pub(crate) fn kind_text(kind: Kind) -> &'static [u8]
         Kind::DeleteLevel => b"/2 to /9",
         Kind::FirstTool => b"a tool mounted before the first line",
         Kind::ProgramEnd => b"a program without M2 and M30",
+        Kind::PolarWords => b"@ and ^",
+        Kind::SeveralTurns => b"arcs of several turns",
+        Kind::CutterRadius => b"cutter compensation",
     }
 }
 
@@ -126,5 +130,9 @@ pub(crate) fn remark_text(kind: Kind) -> &'static [u8]
         Kind::DeleteLevel => b"each is executed as /",
         Kind::FirstTool => b"it is the only tool of the tool table",
         Kind::ProgramEnd => b"it ends after its last line, as by M2",
+        Kind::PolarWords => b"X and Y are rounded to the nanometre",
+        Kind::SeveralTurns => b"heights between turns are rounded to the nanometre",
+        Kind::CutterRadius =>
+            b"the path is that of the radius in the tool table, or of half of D of G41.1 and G42.1",
     }
 }

@@ -40,7 +40,8 @@ by_left_out k line words =
     ∷ (is_lone codes.MACHINE_PLACE k.dialect line words, kinds.LoneMachinePlace)
     ∷ (is_lone codes.CYCLES k.dialect line words, kinds.LoneCycle)
     ∷ (has noted.OLD_UNITS line, kinds.OldUnits)
-    ∷ (has noted.TOOL_CENTRE line, kinds.ToolCentre) ∷ []
+    ∷ (has noted.TOOL_CENTRE line, kinds.ToolCentre)
+    ∷ (has codes.COMPENSATION line, kinds.CutterRadius) ∷ []
 
 -- ---- tools
 

@@ -52,3 +52,6 @@ number_of kinds.Homing = 44
 number_of kinds.DeleteLevel = 45
 number_of kinds.FirstTool = 46
 number_of kinds.ProgramEnd = 47
+number_of kinds.PolarWords = 48
+number_of kinds.SeveralTurns = 49
+number_of kinds.CutterRadius = 50

@@ -1,6 +1,6 @@
 -- What execution keeps of a construct, by its kind of note. Our own.
 use Rattle.ngc_dialect_notes.specs.declared.kind.Class.{Class}
-use Rattle.ngc_dialect_notes.specs.declared.kind.Class.TheVariants.{Exact, Told, Chosen}
+use Rattle.ngc_dialect_notes.specs.declared.kind.Class.TheVariants.{Exact, Told, Chosen, Bound}
 use Rattle.ngc_dialect_notes.specs.declared.kind.Kind.{Kind}
 use Rattle.ngc_dialect_notes.specs.declared.kind.Kind.TheVariants as kinds
 
@@ -53,3 +53,6 @@ class_of kinds.Homing = Told
 class_of kinds.DeleteLevel = Told
 class_of kinds.FirstTool = Told
 class_of kinds.ProgramEnd = Told
+class_of kinds.PolarWords = Bound
+class_of kinds.SeveralTurns = Bound
+class_of kinds.CutterRadius = Bound

@@ -168,6 +168,8 @@ impl Notes {
         self.note_if(lone_cycle, line, Kind::LoneCycle);
         self.note_if(has(&noted::OLD_UNITS, codes), line, Kind::OldUnits);
         self.note_if(has(&noted::TOOL_CENTRE, codes), line, Kind::ToolCentre);
+        let compensated = has(&codes::COMPENSATION, codes);
+        self.note_if(compensated, line, Kind::CutterRadius);
     }
 
     #[tactic(auto, unfolding(crate::specs::Notes::all_noted, crate::specs::CodeNotes::by_tool))]

@@ -12,6 +12,8 @@ pub enum Class {
     Told,
     /// Controls differ, or a setting decides. The note says which meaning is executed.
     Chosen,
+    /// The path is the program's but for what the note says: rounding, or the cutter's radius.
+    Bound,
 }
 
 /// A kind of note: what is left out, or which meaning is executed.
@@ -120,6 +122,14 @@ pub enum Kind {
     FirstTool,
     /// A program without M2 and M30.
     ProgramEnd,
+
+    // What is computed.
+    /// `@` and `^`.
+    PolarWords,
+    /// P of an arc.
+    SeveralTurns,
+    /// G41, G41.1, G42 and G42.1.
+    CutterRadius,
 }
 
 impl Kind {
@@ -177,6 +187,7 @@ impl Kind {
             | Kind::PeckClearance
             | Kind::ChipBreaking
             | Kind::KeptWords => Class::Chosen,
+            Kind::PolarWords | Kind::SeveralTurns | Kind::CutterRadius => Class::Bound,
         }
     }
 
@@ -234,6 +245,9 @@ impl Kind {
             Kind::DeleteLevel => 45,
             Kind::FirstTool => 46,
             Kind::ProgramEnd => 47,
+            Kind::PolarWords => 48,
+            Kind::SeveralTurns => 49,
+            Kind::CutterRadius => 50,
         }
     }
 }

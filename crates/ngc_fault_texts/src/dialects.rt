@@ -95,7 +95,8 @@ pub(crate) fn dialects() -> &'static [Row]
             number: 223,
             rule: "Cutter compensation doesn't allow this word: end it first, with `G40` and a straight move.\n\
              While it is on, moves home or in machine coordinates, cycles, and changes of plane, unit,\n\
-             origin, length, feed mode or tool aren't allowed, nor compensation again (our own).",
+             origin, length, feed mode, path control or tool aren't allowed, nor compensation again\n\
+             (our own).",
             example: "command with `--dialect linuxcnc`: `F60`, `G41.1 D2 G1 X9`, `G53 G0 Z0`",
             answer: "`ngc: fault 223 line 3: not while cutter compensation is on, at G53`",
             place: None,

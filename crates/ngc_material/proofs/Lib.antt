@@ -4,3 +4,7 @@ pub mod Tips
 pub mod Deepest
 -- What a walk reports, command by command, and what that means.
 pub mod Reports
+-- A line that passes the tests on its ends follows the arc at each of its points.
+pub mod Chords
+-- The heights after one chord more, and after one list of chords and then another.
+pub mod Sweeps

@@ -22,9 +22,9 @@ is_reached p = is_within REACH p.x && is_within REACH p.y
 
 abbrev pub is_way_reached : Way → Bool
 is_way_reached (Line a b) = is_reached a && is_reached b
-is_way_reached (Arc arc) = true
+is_way_reached (Arc arc) = is_reached arc.end
 
--- a motion, if it is a straight one, is within two metres
+-- a motion ends within two metres, and a straight one also begins there
 abbrev pub is_action_reached : Action → Bool
 is_action_reached (Move m) = is_way_reached m.way
 is_action_reached _ = true

@@ -1,4 +1,5 @@
 pub mod Heights
+pub mod Chords
 pub mod Touches
 pub mod Walks
 pub mod Silences

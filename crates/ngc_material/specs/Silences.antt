@@ -22,8 +22,8 @@ abbrev pub Nothing : Type 0
 Nothing = (s : Stock) (r : Reached) (commands : List Command) →
     AreFound s r (uncut s) 0 commands [] → IsSilent s r (uncut s) commands
 
--- each straight traverse that a walk doesn't report meets nothing that the straight feeds and the
--- reported traverses before it have left, for a cutter smaller by the margin and raised
+-- each straight traverse that a walk doesn't report meets nothing that the feeds and the reported
+-- traverses before it have left, for a cutter smaller by the margin and raised
 abbrev pub Unreported : Type 0
 Unreported = (s : Stock) (r : Reached) (commands : List Command) (found : List Found)
     (before after : List Command) (c : Command) → IsGrid s.grid →

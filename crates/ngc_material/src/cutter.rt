@@ -26,7 +26,7 @@ pub(crate) fn kappa(grid: &Grid) -> u64
     root_ceil(2 * (half * half))
 }
 
-/// Returns what arcs will take as room for their chords.
+/// Returns the room for the chords of arcs.
 pub(crate) fn sigma(grid: &Grid) -> u64
     ensures value { result ≡ sigma grid.now }
     ensures bound { result ≤ 300000000 }

@@ -11,9 +11,9 @@ pub fn nothing()
     ensures { Nothing }
 {}
 
-/// States that each straight traverse that a walk doesn't report meets no material that the straight
-/// feeds and the reported traverses before it have left, for a cutter smaller by a margin and raised
-/// by a tolerance.
+/// States that each straight traverse that a walk doesn't report meets no material that the feeds and
+/// the reported traverses before it have left, for a cutter smaller by a margin and raised by a
+/// tolerance.
 pub fn unreported()
     ensures { Unreported }
 {}

@@ -1,13 +1,16 @@
-//! A walk over the commands of a machine that keeps the heights of the material that straight feeds
-//! leave, and finds straight traverses that may touch it.
+//! A walk over the commands of a machine that keeps the heights of the material that feeds leave, and
+//! finds straight traverses that may touch it.
 #![tactic(auto)]
 
+mod chord;
 mod cutter;
 mod cutting;
 pub mod laws;
 mod line;
 mod material;
 mod reach;
+mod spoke;
+mod sweep;
 mod touch;
 mod walk;
 

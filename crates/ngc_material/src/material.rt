@@ -3,7 +3,9 @@ ghost use Rattle.ngc_material.specs.Heights.{AreHeights};
 
 use crate::cutting::cut;
 use crate::line::Line;
+use crate::sweep::cut_arc;
 use crate::touch::{Touch, deepest_touch};
+use ngc_arc_geometry::Arc;
 use ngc_commands::{Action, Motion, Pace, Way};
 use ngc_machine_files::Tool;
 use ngc_stock::Stock;
@@ -19,8 +21,9 @@ pub(crate) struct Material<A: Allocator> {
 
 impl<A: Allocator> Material<A> {
     ghost use Rattle.std.specs.Prelude.{◌≡◌, IfNone, IfSome, IfOk, IsTrue};
+    ghost use Rattle.ngc_commands.specs.declared.movement.Feed.{Feed};
     ghost use Rattle.ngc_cells.specs.Grids.{IsGrid};
-    ghost use Rattle.ngc_stock.specs.Walk.{IsStep, IsMotion, AreCut, uncut};
+    ghost use Rattle.ngc_stock.specs.Walk.{IsStep, IsMotion, AreCut, IsArcCut, uncut};
     ghost use Rattle.ngc_material.specs.Heights.{is_action_reached, is_way_reached, is_reached};
     ghost use Rattle.ngc_material.specs.Walks.{IsTouched, IsTouchedOn};
 
@@ -38,8 +41,8 @@ impl<A: Allocator> Material<A> {
     }
 
     /// Follows an action with a mounted tool, and returns where it may touch material if it is a
-    /// straight traverse. A straight feed lowers the material, and so does a traverse that may touch
-    /// it. Arcs, and motions without a tool, change nothing.
+    /// straight traverse. A feed lowers the material, and so does a traverse that may touch it.
+    /// Motions without a tool change nothing.
     pub(crate) fn follow(&mut self, tool: &Option<Tool>, action: &Action) -> Option<Touch>
         requires { IsTrue (is_action_reached action.now) }
         ensures stock { self.new.stock ≡ self.old.stock }
@@ -62,13 +65,44 @@ impl<A: Allocator> Material<A> {
         ensures some { IfSome result
             (IsTouchedOn self.old.stock tool.now motion.now.way motion.now.pace self.old.heights.items self.new.heights.items) }
     {
-        match (motion.way, motion.pace) {
-            (Way::Line { start, end }, Pace::Rapid) => self.traverse(tool, &Line { start, end }),
-            (Way::Line { start, end }, Pace::Feed(_)) => {
-                self.feed(tool, &Line { start, end });
+        match motion.pace {
+            Pace::Rapid => self.follow_rapid(tool, &motion.way),
+            Pace::Feed(_) => {
+                self.follow_feed(tool, &motion.way);
                 None
             }
-            (Way::Arc(_), _) => None,
+        }
+    }
+
+    fn follow_rapid(&mut self, tool: &Tool, way: &Way) -> Option<Touch>
+        requires { IsTrue (is_way_reached way.now) }
+        ensures stock { self.new.stock ≡ self.old.stock }
+        ensures none { IfNone result
+            (IsMotion self.old.stock tool.now way.now Pace.Rapid self.old.heights.items self.new.heights.items) }
+        ensures some { IfSome result
+            (IsTouchedOn self.old.stock tool.now way.now Pace.Rapid self.old.heights.items self.new.heights.items) }
+    {
+        match way {
+            Way::Line { start, end } => {
+                let (start, end) = (*start, *end);
+                self.traverse(tool, &Line { start, end })
+            }
+            Way::Arc(_) => None,
+        }
+    }
+
+    fn follow_feed(&mut self, tool: &Tool, way: &Way)
+        requires { IsTrue (is_way_reached way.now) }
+        ensures stock { self.new.stock ≡ self.old.stock }
+        ensures cut { (f : Feed) →
+            IsMotion self.old.stock tool.now way.now (Pace.Feed f) self.old.heights.items self.new.heights.items }
+    {
+        match way {
+            Way::Line { start, end } => {
+                let (start, end) = (*start, *end);
+                self.feed(tool, &Line { start, end });
+            }
+            Way::Arc(arc) => self.feed_arc(tool, arc),
         }
     }
 
@@ -95,5 +129,13 @@ impl<A: Allocator> Material<A> {
         ensures cut { AreCut self.old.stock tool.now line.now.start line.now.end self.old.heights.items self.new.heights.items }
     {
         cut(&self.stock, self.heights.as_mut_slice(), tool, line);
+    }
+
+    fn feed_arc(&mut self, tool: &Tool, arc: &Arc)
+        requires { IsTrue (is_reached arc.now.end) }
+        ensures stock { self.new.stock ≡ self.old.stock }
+        ensures cut { IsArcCut self.old.stock tool.now arc.now self.old.heights.items self.new.heights.items }
+    {
+        cut_arc(&self.stock, self.heights.as_mut_slice(), tool, arc);
     }
 }

@@ -17,7 +17,7 @@ fn is_way_reached(way: &Way) -> bool
 {
     match way {
         Way::Line { start, end } => is_reached(start) && is_reached(end),
-        Way::Arc(_) => true,
+        Way::Arc(arc) => is_reached(&arc.end()),
     }
 }
 
@@ -30,7 +30,8 @@ fn is_action_reached(action: &Action) -> bool
     }
 }
 
-/// Returns whether all straight motions are within two metres of the machine's zero, in the plane.
+/// Returns whether all straight motions, and the ends of arcs, are within two metres of the machine's
+/// zero, in the plane.
 pub(crate) fn are_reached(commands: &[Command]) -> bool
     ensures { result ≡ are_reached commands.now }
 {

@@ -93,7 +93,7 @@ fn level_above(stock: &Stock, height: i64, room: i64) -> u32
 }
 
 // Returns the radius of the cutter that is tested, or `None` for a thinner cutter than the reduction.
-fn tested_radius(grid: &Grid, tool: &Tool) -> Option<u32>
+pub(crate) fn tested_radius(grid: &Grid, tool: &Tool) -> Option<u32>
     requires { IsGrid grid.now }
     ensures none { IfNone result (radius tool.now < reduction grid.now) }
     ensures some { IfSome result (λ r. r ≡ radius tool.now - reduction grid.now) }

@@ -30,7 +30,7 @@ pub struct Found {
 pub enum WalkFault {
     /// Memory was refused.
     Memory,
-    /// A straight motion is more than two metres from the machine's zero, in the plane.
+    /// The end of a motion is more than two metres from the machine's zero, in the plane.
     Far,
 }
 
@@ -70,9 +70,10 @@ fn follow<A: Allocator>(
 
 /// Returns the straight traverses of a program that may touch material, in order: `commands` are the
 /// program's commands at a setting of block delete, from a state with the material uncut. A traverse
-/// that is found then counts as a feed. Arcs are left out, and so are motions without a tool.
+/// that is found then counts as a feed. An arc isn't tested, but cuts. Motions without a tool are left
+/// out.
 ///
-/// It fails if memory is refused, or if a straight motion is far from the machine's zero.
+/// It fails if memory is refused, or if the end of a motion is far from the machine's zero.
 pub fn find_touches<A: Allocator + Copy>(
     alloc: A,
     stock: &Stock,

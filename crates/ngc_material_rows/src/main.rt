@@ -7,9 +7,13 @@
 
 mod stocks;
 
+ghost use Rattle.std.specs.Prelude.{IsTrue};
+ghost use Rattle.ngc_arc_geometry.specs.Shape.{IsNear};
+
+use ngc_arc_geometry::{Arc, Ends, Offsets};
 use ngc_cells::Spot;
 use ngc_commands::{Action, Command, Feed, Motion, Pace, Reached, Way};
-use ngc_fixed_length::{Nm, Point3};
+use ngc_fixed_length::{Nm, Plane, Point3, Turn, Units};
 use ngc_machine_files::Tool;
 use ngc_material::{Found, WalkFault, find_touches};
 use ngc_material_report::{write_touches, write_untested};
@@ -18,6 +22,15 @@ use ngc_text::{Device, Sink, WriteFault, write_all};
 use std::alloc::{Allocator, Global};
 use std::io;
 use stocks::{numbered, origin_of, tools};
+
+// Returns whether a point is within 90 metres of zero on each axis.
+fn is_near(point: &Point3) -> bool
+    ensures { IsTrue result → IsNear point.now }
+{
+    point.x.nanometres().unsigned_abs() <= 90_000_000_000
+        && point.y.nanometres().unsigned_abs() <= 90_000_000_000
+        && point.z.nanometres().unsigned_abs() <= 90_000_000_000
+}
 
 /// A program as far as it is read.
 #[derive(Drop)]
@@ -40,12 +53,12 @@ fn origin() -> Point3 {
 
 // Returns numbers that are separated by blanks, of which those that are missing are 0, or `None` if a
 // word isn't a number.
-fn numbers(text: &str) -> Option<[i64; 3]> {
-    let mut numbers = [0; 3];
+fn numbers(text: &str) -> Option<[i64; 5]> {
+    let mut numbers = [0; 5];
     let mut count = 0;
     for word in text.split(' ') {
         let number = word.parse::<i64>().ok()?;
-        if count < 3 {
+        if count < 5 {
             numbers[count] = number;
             count += 1;
         }
@@ -91,6 +104,32 @@ impl Program {
         self.add(line, Action::Move(Motion { way, pace, stop }));
     }
 
+    // Adds an arc to an end, with the vector to its centre, and returns whether it is one.
+    fn turn(&mut self, line: u32, plane: Plane, turn: Turn, end: &Point3, u: i64, v: i64) -> bool {
+        if !is_near(&self.place) || !is_near(end) {
+            return false;
+        }
+        let ends = Ends {
+            plane,
+            turn,
+            start: self.place,
+            end: *end,
+            has_axis_word: true,
+        };
+        let offsets = Offsets {
+            u: Some(length(u)),
+            v: Some(length(v)),
+        };
+        let Ok(arc) = Arc::centre_format(Units::Millimetres, &ends, &offsets) else {
+            return false;
+        };
+        self.place = *end;
+        let pace = Pace::Feed(Feed::PerMinute(100_000_000));
+        let (way, stop) = (Way::Arc(arc), false);
+        self.add(line, Action::Move(Motion { way, pace, stop }));
+        true
+    }
+
     fn mount(&mut self, alloc: Global, line: u32, number: i64) {
         let tool = match (tools(alloc), u32::try_from(number)) {
             (Some(tools), Ok(number)) => tools.find(number),
@@ -100,8 +139,8 @@ impl Program {
     }
 
     // Takes a line with its word and its numbers, and returns whether the word is known.
-    fn take(&mut self, alloc: Global, line: u32, word: &str, numbers: [i64; 3]) -> bool {
-        let [x, y, z] = numbers;
+    fn take(&mut self, alloc: Global, line: u32, word: &str, numbers: [i64; 5]) -> bool {
+        let [x, y, z, u, v] = numbers;
         let end = Point3 {
             x: length(x),
             y: length(y),
@@ -112,6 +151,10 @@ impl Program {
             "tool" => self.mount(alloc, line, x),
             "traverse" => self.go(line, Pace::Rapid, &end),
             "feed" => self.go(line, Pace::Feed(Feed::PerMinute(100_000_000)), &end),
+            "cw" => return self.turn(line, Plane::XY, Turn::Clockwise, &end, u, v),
+            "ccw" => return self.turn(line, Plane::XY, Turn::Counterclockwise, &end, u, v),
+            "cw_zx" => return self.turn(line, Plane::ZX, Turn::Clockwise, &end, u, v),
+            "ccw_zx" => return self.turn(line, Plane::ZX, Turn::Counterclockwise, &end, u, v),
             _ => return false,
         }
         true

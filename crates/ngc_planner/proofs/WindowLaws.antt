@@ -1,5 +1,5 @@
 -- The rates that a window allows.
-use Rattle.std.proofs.Common.{◌≡◌, inl, inr, ℕ, zero, suc, ◌+◌, ◌-◌, ◌*◌, ◌/◌, ◌%◌, ◌^◌, ◌≤◌, ◌<◌, ◌↔◌, ◌==◌, nat_le, min, cond, ℤ, pos, ◌*ℤ◌, unsigned_abs, Bool, true, false, Option, Some, None, List, length, arith, refl, sym, subst, ap, ◌∙◌}
+use Rattle.std.proofs.Common.{◌≡◌, inl, inr, ℕ, zero, suc, ◌+◌, ◌-◌, ◌*◌, ◌/◌, ◌%◌, ◌^◌, ◌≤◌, ◌<◌, ◌↔◌, ◌==◌, nat_le, min, max, cond, ℤ, pos, ◌*ℤ◌, unsigned_abs, Bool, true, false, Option, Some, None, List, length, arith, refl, sym, subst, ap, ◌∙◌}
 use Rattle.std.proofs.lemmas.Bool.Decides.{nat_tests}
 use Rattle.std.proofs.lemmas.Bool.{cases_lt}
 use Rattle.std.proofs.lemmas.Grind.{div_ceil_times}
@@ -172,31 +172,62 @@ lowered_keeps jump turn n way v few small h =
     let most = (rate_law jump turn n way v few).1 (small, may_out jump turn n way v h) in
     omega (arith, most)
 
-root_where : (all : Bool) (r v : ℕ) → v ≤ MILLION → cond all MILLION r < v → r ≡ min v (cond all MILLION r)
-root_where true r v small h = absurd (omega (arith, small, h))
-root_where false r v small h = omega (arith, h)
-
-pub lowered_to : (jump turn n way v : ℕ) → n ≤ 2000000 → v ≤ MILLION → may_head jump turn n way v ≡ false →
-    greatest_root n (MILLION * jump) (turn * way) ≡ min v (heading_rate jump turn n way)
-lowered_to jump turn n way v few small h =
+-- the greatest allowed rate is below one that isn't allowed
+below_refused : (jump turn n way v : ℕ) → n ≤ 2000000 → may_head jump turn n way v ≡ false → heading_rate jump turn n way < v
+below_refused jump turn n way v few h =
     let over = may_not_out jump turn n way v h in
-    let most = heading_rate jump turn n way in
-    let less : most < v = elim (cases_lt most v) [
+    elim (cases_lt (heading_rate jump turn n way) v) [
       | inl below ↦ below
       | inr more ↦ absurd (let may = ((rate_law jump turn n way v few).0 more).1 in omega (arith, may, over))
-    ] in
-    root_where (may_head jump turn n way MILLION) (greatest_root n (MILLION * jump) (turn * way)) v small less
+    ]
 
-pub kept_small : (r v most : ℕ) → r ≡ min v most → v ≤ MILLION → r ≤ MILLION
-kept_small r v most e small = omega (arith, e)
+-- a step of Newton's method: from v + d, where g is beyond what is allowed and s is the slope, it isn't past v
+no_farther : (n j t v d g s : ℕ) → g + (j * (v + d) + t) ≡ (v + d) * (v + d) * n → s + j ≡ 2 * ((v + d) * n) → v * v * n ≤ j * v + t → g ≤ d * s
+no_farther n j t v d g s e f h = let part = ap (λ z. d * z) f in omega (arith, e, part, h)
 
-some_by : (n a b : ℕ) → b < a * n → 1 ≤ n
-some_by zero a b h = absurd (omega (arith, h))
-some_by (suc n) a b h = omega arith
+-- the slope isn't 0
+is_steep : (n j t r : ℕ) → j * r + t < r * r * n → j < r * n
+is_steep n j t zero h = absurd (omega (arith, h))
+is_steep n j t (suc r) h = elim (cases_lt j (suc r * n)) [
+  | inl less ↦ less
+  | inr more ↦ absurd (let p = mul-le (suc r) (suc r * n) (suc r) j (omega arith) more in omega (arith, p, h))
+]
 
--- the divisor isn't 0
-pub some_change : (jump turn n way v : ℕ) → may_head jump turn n way v ≡ false → 1 ≤ n
-some_change jump turn n way v h = some_by n (v * v) _ (may_not_out jump turn n way v h)
+-- one step from r, where g is beyond what is allowed and s is the slope
+pub newton : (jump turn n way r g s : ℕ) → n ≤ 2000000 → may_head jump turn n way r ≡ false → g + (MILLION * jump * r + turn * way) ≡ r * r * n →
+    s + MILLION * jump ≡ 2 * (r * n) → 0 < s → heading_rate jump turn n way + g / s ≤ r
+newton jump turn n way r g s few over e f some =
+    let v = heading_rate jump turn n way in
+    let below = below_refused jump turn n way r few over in
+    let may = ((rate_law jump turn n way v few).0 (omega arith)).1 in
+    let d = r - v in
+    let r_is : r ≡ v + d = omega (arith, below) in
+    let g_is = subst (λ z. g + (MILLION * jump * z + turn * way) ≡ z * z * n) r_is e in
+    let s_is = subst (λ z. s + MILLION * jump ≡ 2 * (z * n)) r_is f in
+    let farther = no_farther n (MILLION * jump) (turn * way) v d g s g_is s_is (omega (arith, may)) in
+    let least = (le-div_iff_mul-le {k = s} {x = g / s} {y = g} some).0 (omega arith) in
+    let quotient : g / s ≤ d = less_times s (g / s) d some (omega (arith, least, farther)) in
+    omega (arith, quotient, r_is)
+
+-- what isn't allowed at r, and the slope there
+pub record IsOver (j t n r : ℕ) : Type 0 where
+  pub over : j * r + t < r * r * n
+  pub steep : j < r * n
+
+pub is_over : (jump turn n way r : ℕ) → may_head jump turn n way r ≡ false → IsOver (MILLION * jump) (turn * way) n r
+is_over jump turn n way r h =
+    let over = may_not_out jump turn n way r h in
+    let sum : MILLION * jump * r + turn * way < r * r * n = omega (arith, over) in
+    record { over = sum; steep = is_steep n (MILLION * jump) (turn * way) r sum }
+
+-- the whole step, of at least 1: g is what is wanted less what is allowed
+pub stepped : (jump turn n way r g q : ℕ) → n ≤ 2000000 → may_head jump turn n way r ≡ false → g ≡ r * r * n - MILLION * jump * r - turn * way →
+    q ≡ max (g / (2 * (r * n) - MILLION * jump)) 1 → heading_rate jump turn n way + q ≤ r
+stepped jump turn n way r g q few over g_is q_is =
+    let o = is_over jump turn n way r over in
+    let below = below_refused jump turn n way r few over in
+    let sum = newton jump turn n way r g (2 * (r * n) - MILLION * jump) few over (omega (arith, g_is, o.over)) (omega (arith, o.steep)) (omega (arith, o.steep)) in
+    omega (arith, q_is, sum, below)
 
 -- ---- path steps
 

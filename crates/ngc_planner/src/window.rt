@@ -1,16 +1,16 @@
 //! What a motion adds to the window of a joint, and the rates that a change of heading allows.
-ghost use Rattle.std.specs.Prelude.{◌≡◌, ◌*◌, ◌^◌, ◌≤◌, min};
+ghost use Rattle.std.specs.Prelude.{◌≡◌, ◌*◌, ◌^◌, ◌≤◌, ◌<◌, false, min};
 ghost use Rattle.ngc_fixed_length.specs.Limits.{MILLION};
 ghost use Rattle.ngc_machine_files.specs.Machine.{file_of};
 ghost use Rattle.ngc_planner.specs.Window.{line_steps, way_at_greatest, way_round};
 ghost use Rattle.ngc_planner.specs.Window.{turn_way, way_of, is_still, passing_heading, way_on};
-ghost use Rattle.ngc_planner.specs.Joints.{may_head, greatest_root, heading_rate};
+ghost use Rattle.ngc_planner.specs.Joints.{may_head, heading_rate};
 
 use crate::displacement::Displacement;
 use crate::headings::{end_heading, turned_on};
 use ngc_arc_geometry::Arc;
 use ngc_commands::{Action, Way};
-use ngc_fixed_length::{Point3, root_floor};
+use ngc_fixed_length::Point3;
 use ngc_machine_files::Machine;
 use std::alloc::Allocator;
 
@@ -29,17 +29,23 @@ pub(crate) fn may_head(jump: u32, turn: u64, difference: u64, way: u64, rate: u6
     wanted <= jumped + u128::from(turn) * u128::from(way)
 }
 
-/// Returns the greatest `v` with `v * v * n` at most `j * v + t`. The root is of a number below 5 *
-/// 10^36.
-fn greatest_root(n: u64, j: u128, t: u128) -> u64
-    requires least { 1 ≤ n }
-    requires greatest { n ≤ 2000000 }
-    requires j { j ≤ 10 ^ 12 }
-    requires t { t ≤ 5 * 10 ^ 29 }
-    ensures { result ≡ greatest_root n j t }
+/// Returns a lower rate than one that is too high, by a step of Newton's method. It is at least the
+/// greatest rate that may change its heading so: the curve of what a rate takes up is convex.
+fn nearer(rate: u64, jump: u32, turn: u64, difference: u64, way: u64) -> u64
+    requires jump { jump ≤ MILLION }
+    requires turn { turn ≤ 10 ^ 12 }
+    requires difference { difference ≤ 2000000 }
+    requires way { way ≤ 409600000000000000 }
+    requires rate { rate ≤ MILLION }
+    requires over { may_head jump turn difference way rate ≡ false }
+    ensures less { result < rate }
+    ensures above { heading_rate jump turn difference way ≤ result }
 {
-    let root = root_floor(j * j + 4 * u128::from(n) * t);
-    ((j + u128::from(root)) / (2 * u128::from(n))) as u64
+    let jumped = 1_000_000 * u64::from(jump);
+    let allowed = u128::from(turn) * u128::from(way);
+    let beyond = rate * rate * difference - jumped * rate - allowed as u64;
+    let slope = 2 * (rate * difference) - jumped;
+    rate - (beyond / slope).max(1)
 }
 
 /// Returns a rate, lowered to one that may change its heading by `difference` millionths over `way`
@@ -53,13 +59,11 @@ pub(crate) fn lowered(rate: u64, jump: u32, turn: u64, difference: u64, way: u64
     ensures value { result ≡ min rate (heading_rate jump turn difference way) }
     ensures greatest { result ≤ MILLION }
 {
-    if may_head(jump, turn, difference, way, rate) {
-        rate
-    } else {
-        let jump = 1_000_000 * u128::from(jump);
-        let turn = u128::from(turn) * u128::from(way);
-        greatest_root(difference, jump, turn)
+    let mut lowered = rate;
+    while !may_head(jump, turn, difference, way, lowered) {
+        lowered = nearer(lowered, jump, turn, difference, way);
     }
+    lowered
 }
 
 /// Returns the path steps of a line. An arc between the same points has no fewer.

@@ -33,7 +33,7 @@ lower_of bottom q old level new e a b h =
     ]
 
 -- lowering keeps them, if what is left in a lowered cell is below the level's height
-lowered : (s : Stock) (t : Stretch) (r : ℕ) (z : ℤ) (old new : List ℕ) (Left : Point3 → Type 0) →
+pub lowered : (s : Stock) (t : Stretch) (r : ℕ) (z : ℤ) (old new : List ℕ) (Left : Point3 → Type 0) →
     ((q : Point3) → Left q → IsInStock s q) →
     ((k : ℕ) (q : Point3) → IsNear t r (centre s.grid k) → Left q → IsInCell s.grid k q → q.z <ℤ z) →
     AreLowered s.grid t r (level_of s z) old new → AreBounds s old Left → AreBounds s new Left

@@ -49,7 +49,7 @@ ahead_moved n k a b c q = ring (n ∷ k ∷ a ∷ b ∷ c ∷ q ∷ [])
 scaled_squares : (n x y : ℤ) → square (n *ℤ x) +ℤ square (n *ℤ y) ≡ (n *ℤ n) *ℤ (square x +ℤ square y)
 scaled_squares n x y = ring (n ∷ x ∷ y ∷ []) (S (Q (P (V 0) (V 1))) (Q (P (V 0) (V 2)))) (P (Q (V 0)) (S (Q (V 1)) (Q (V 2)))) refl
 
-scaled_most : (n m : ℕ) (x y : ℤ) → (square x +ℤ square y) ≤ℤ pos (m * m) → (square (pos n *ℤ x) +ℤ square (pos n *ℤ y)) ≤ℤ pos ((n * m) * (n * m))
+pub scaled_most : (n m : ℕ) (x y : ℤ) → (square x +ℤ square y) ≤ℤ pos (m * m) → (square (pos n *ℤ x) +ℤ square (pos n *ℤ y)) ≤ℤ pos ((n * m) * (n * m))
 scaled_most n m x y h =
     let e = scaled_squares (pos n) x y in
     let t = times_most (pos (n * n)) (square x +ℤ square y) (pos (m * m)) (omega (arith, ints)) h in

@@ -2,5 +2,7 @@
 pub mod Distances
 -- The heights of the cells bound what is left.
 pub mod Bounds
+-- What is lowered along an arc's chords is what the arc cuts.
+pub mod Arcs
 -- The law of silence, by induction over the commands before a traverse.
 pub mod Silences

@@ -17,6 +17,7 @@ use Rattle.ngc_stock.specs.declared.stock.Stock.{Stock}
 use Rattle.ngc_stock.specs.Stocks.{IsInStock, is_slope, height_of}
 use Rattle.ngc_stock.specs.Walk.{IsMotion, IsStep, IsSilent, IsCutOn, IsCutIn, IsCutInAny, IsLeft, IsSafeOn, IsSafe, uncut}
 use Rattle.ngc_stock.proofs.Bounds.{AreBounds, fewer, feed_keeps, clear_line, clear_end}
+use Rattle.ngc_stock.proofs.Arcs.{arc_keeps}
 use Rattle.ngc_stock.specs.Silence.{Silence}
 
 -- ---- a step keeps the bounds
@@ -30,7 +31,10 @@ motion_keeps s t (Line a b) Rapid grid old new Left stock m bounds = same_height
 motion_keeps s t (Line a b) (Feed f) grid old new Left stock m bounds =
     feed_keeps s t a b grid (λ q. Left q × ¬ (IsCutOn t (Line a b) (Feed f) q)) (λ q h. stock q h.0) (λ q h. h.1) old new m
     (fewer s old Left (λ q. Left q × ¬ (IsCutOn t (Line a b) (Feed f) q)) (λ q h. h.0) bounds)
-motion_keeps s t (Arc arc) pace grid old new Left stock m bounds = same_heights s old new Left (λ q. Left q × ¬ (IsCutOn t (Arc arc) pace q)) (λ q h. h.0) m bounds
+motion_keeps s t (Arc arc) Rapid grid old new Left stock m bounds = same_heights s old new Left (λ q. Left q × ¬ (IsCutOn t (Arc arc) Rapid q)) (λ q h. h.0) m bounds
+motion_keeps s t (Arc arc) (Feed f) grid old new Left stock m bounds =
+    arc_keeps s t arc grid (λ q. Left q × ¬ (IsCutOn t (Arc arc) (Feed f) q)) (λ q h. stock q h.0) (λ q h. h.1) old new m
+    (fewer s old Left (λ q. Left q × ¬ (IsCutOn t (Arc arc) (Feed f) q)) (λ q h. h.0) bounds)
 
 step_keeps : (s : Stock) (tool : Option Tool) (action : Action) (grid : IsGrid s.grid) (old new : List ℕ) (Left : Point3 → Type 0) →
     ((q : Point3) → Left q → IsInStock s q) → IsStep s tool action old new → AreBounds s old Left → AreBounds s new (λ q. Left q × ¬ (IsCutIn tool action q))

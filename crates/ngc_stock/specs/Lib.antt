@@ -1,3 +1,4 @@
 pub mod Stocks
+pub mod Arcs
 pub mod Walk
 pub mod Silence

@@ -1,6 +1,6 @@
 -- Silence: what it means that no traverse is reported. Our own. The premises that no proof covers:
 -- the material doesn't move, the stock is all that there is, the tool table is true, and a feed clears
--- each column that its cutter reaches, from the tip up. Positions are those of ideal lines.
+-- each column that its cutter reaches, from the tip up. Positions are those of ideal lines and arcs.
 use Rattle.std.specs.Prelude.{List, ◌∷◌, ◌++◌}
 use Rattle.ngc_commands.specs.declared.command.Command.{Command}
 use Rattle.ngc_commands.specs.declared.reached.Reached.{Reached}

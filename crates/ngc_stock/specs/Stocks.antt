@@ -20,7 +20,7 @@ use Rattle.ngc_stock.specs.declared.stock.Stock.{Stock}
 abbrev pub kappa : Grid → ℕ
 kappa g = whole_root_above (2 * (g.half * g.half))
 
--- what arcs will take as room for their chords
+-- the room for the chords of arcs
 abbrev pub sigma : Grid → ℕ
 sigma g = g.half / 16 + 2
 

@@ -1,6 +1,8 @@
 -- Which heights of the cells a program's motions leave, and when a traverse may touch material. Our
 -- own.
 use Rattle.std.specs.Prelude.{◌≡◌, ℕ, zero, suc, ◌+◌, ◌*◌, ◌-◌, ◌≤◌, ◌<◌, ◌⊎◌, pos, ◌+ℤ◌, List, [], ◌∷◌, replicate, Option, Some, None}
+use Rattle.ngc_fixed_length.specs.declared.modes.Plane.TheVariants.{XY}
+use Rattle.ngc_fixed_length.specs.declared.points.Point2.{Point2}
 use Rattle.ngc_fixed_length.specs.declared.points.Point3.{Point3}
 use Rattle.ngc_machine_files.specs.declared.tools.Tool.{Tool}
 use Rattle.ngc_commands.specs.declared.command.Action.{Action}
@@ -12,9 +14,11 @@ use Rattle.ngc_commands.specs.declared.movement.Pace.{Pace}
 use Rattle.ngc_commands.specs.declared.movement.Pace.TheVariants.{Rapid, Feed}
 use Rattle.ngc_commands.specs.declared.reached.Reached.{Reached}
 use Rattle.ngc_commands.specs.Reached.{after}
+use Rattle.ngc_arc_geometry.specs.Shape.{ArcShape}
 use Rattle.ngc_cells.specs.Grids.{AreLowered, AreBelow}
 use Rattle.ngc_stock.specs.declared.stock.Stock.{Stock}
 use Rattle.ngc_stock.specs.Stocks.{kappa, reduction, margin, tolerance, radius, rise, pieces, piece, point_at, highest_tip, lowest_tip, level_of, IsInStock, IsCutBy, IsInReduced}
+use Rattle.ngc_stock.specs.Arcs.{upper_tip, IsCutByArc, IsChord, chord}
 
 -- the heights after the first k pieces of a feed: the cells that the cutter covers at some point of a
 -- piece are lowered to the piece's highest tip
@@ -31,6 +35,23 @@ pub record AreCut (s : Stock) (t : Tool) (a b : Point3) (old new : List ℕ) : T
   pub thick : kappa s.grid ≤ radius t → (between : List ℕ) × ArePiecesCut s t a b (pieces a b) old between ×
       AreLowered s.grid (point_at b) (radius t - kappa s.grid) (level_of s (b.z +ℤ t.bottom)) between new
 
+-- the heights after k chords of an arc in the plane of X and Y: each chord is by the arc, and the cells
+-- that the cutter, smaller by the chord's room, covers at some point of the chord are lowered to the tip
+-- at the arc's higher end
+abbrev pub AreChordsCut : Stock → Tool → ArcShape → ℕ → List ℕ → List ℕ → Type 0
+AreChordsCut s t a zero old new = new ≡ old
+AreChordsCut s t a (suc k) old new =
+    (middle : List ℕ) × (room : ℕ) × (d : Point2) × (e : Point2) × AreChordsCut s t a k old middle ×
+    (a.plane ≡ XY) × (kappa s.grid + room ≤ radius t) × IsChord a room d e ×
+    AreLowered s.grid (chord a d e) (radius t - (kappa s.grid + room)) (level_of s (upper_tip t a)) middle new
+
+-- after an arc: after some chords of it, and then its end alone
+pub record IsArcCut (s : Stock) (t : Tool) (a : ArcShape) (old new : List ℕ) : Type 0 where
+  pub count : ℕ
+  pub middle : List ℕ
+  pub chords : AreChordsCut s t a count old middle
+  pub end : AreCut s t a.end a.end middle new
+
 -- no cell near a piece of a traverse is higher than the piece's lowest tip and the tolerance, with
 -- twice the piece's rise; and none near its end is higher than the tip there and the tolerance
 pub record IsClear (s : Stock) (t : Tool) (a b : Point3) (heights : List ℕ) : Type 0 where
@@ -41,11 +62,12 @@ pub record IsClear (s : Stock) (t : Tool) (a b : Point3) (heights : List ℕ) : 
       AreBelow s.grid (point_at b) (radius t - reduction s.grid)
       (level_of s ((b.z +ℤ t.bottom) +ℤ pos (tolerance s.grid))) heights
 
--- a straight traverse that may touch nothing, and a straight feed; an arc removes nothing yet
+-- a straight traverse that may touch nothing, and a feed; arcs are feeds
 abbrev pub IsMotion : Stock → Tool → Way → Pace → List ℕ → List ℕ → Type 0
 IsMotion s t (Line a b) Rapid old new = IsClear s t a b old × (new ≡ old)
 IsMotion s t (Line a b) (Feed f) old new = AreCut s t a b old new
-IsMotion s t (Arc arc) pace old new = new ≡ old
+IsMotion s t (Arc a) Rapid old new = new ≡ old
+IsMotion s t (Arc a) (Feed f) old new = IsArcCut s t a old new
 
 -- an action that is silent; without a tool, motions aren't looked at
 abbrev pub IsStep : Stock → Option Tool → Action → List ℕ → List ℕ → Type 0
@@ -68,9 +90,10 @@ uncut s = replicate (s.grid.columns * s.grid.rows) s.height
 abbrev pub IsCutOn : Tool → Way → Pace → Point3 → Type 0
 IsCutOn t (Line a b) (Feed f) q = IsCutBy t a b q
 IsCutOn t (Line a b) Rapid q = ⊥
-IsCutOn t (Arc arc) pace q = ⊥
+IsCutOn t (Arc a) (Feed f) q = IsCutByArc t a q
+IsCutOn t (Arc a) Rapid q = ⊥
 
--- an action is a straight feed that cuts q
+-- an action is a feed that cuts q
 abbrev pub IsCutIn : Option Tool → Action → Point3 → Type 0
 IsCutIn None action q = ⊥
 IsCutIn (Some t) (Move m) q = IsCutOn t m.way m.pace q
@@ -81,7 +104,7 @@ abbrev pub IsCutInAny : Reached → List Command → Point3 → Type 0
 IsCutInAny r [] q = ⊥
 IsCutInAny r (c ∷ cs) q = IsCutIn r.tool c.action q ⊎ IsCutInAny (after r c.action) cs q
 
--- a point of the stock that no straight feed of the commands has cut
+-- a point of the stock that no feed of the commands has cut
 pub record IsLeft (s : Stock) (r : Reached) (before : List Command) (q : Point3) : Type 0 where
   pub stock : IsInStock s q
   pub uncut : ¬ (IsCutInAny r before q)

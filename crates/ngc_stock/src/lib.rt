@@ -1,5 +1,5 @@
-//! A stock of material, and what the cutters of straight feeds leave of it: definitions, and the law
-//! that a program whose traverses aren't reported meets nothing that is left.
+//! A stock of material, and what the cutters of feeds leave of it: definitions, and the law that a
+//! program whose traverses aren't reported meets nothing that is left.
 #![tactic(auto)]
 
 pub mod laws;

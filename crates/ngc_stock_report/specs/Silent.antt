@@ -9,7 +9,7 @@ use Rattle.ngc_stock.specs.Walk.{IsSafe, IsLeft}
 use Rattle.ngc_stock_report.specs.Walked.{IsWalked}
 
 -- if a walk over a program's commands finds nothing, no straight traverse of them meets a point of the
--- material that the straight feeds before it have left, for a cutter smaller by the margin and raised
+-- material that the feeds before it have left, for a cutter smaller by the margin and raised
 abbrev pub SilentReport : Type 0
 SilentReport = (m : MachineFile) (before after : List Command) (c : Command) (stock : Stock) →
     IsWalked m (before ++ c ∷ after) (Some (record { stock = stock; found = [] })) →

@@ -25,19 +25,19 @@ block_origin m (Some b) = spot_of (origin_at m b.system)
 abbrev pub MOST_LINES : ℕ
 MOST_LINES = 10
 
--- arcs aren't followed: a traverse that is reported may go where one has cut
+-- arcs in the other planes count at their ends only: a traverse that is reported may go where one has cut
 unfoldable pub arcs_words : List ℕ
-arcs_words = codes "Cuts along arcs are not counted: the material may be gone there.\n"
+arcs_words = codes "Cuts along arcs of G18 and G19 are not counted: the material may be gone there.\n"
 
 abbrev pub arcs_line : Form → List Found → List ℕ
 arcs_line Words [] = []
 arcs_line Words (f ∷ fs) = arcs_words
 arcs_line Json found = []
 
--- the block, or a straight motion, is too far from the machine's zero
+-- the block, or the end of a motion, is too far from the machine's zero
 unfoldable pub far_words : List ℕ
 far_words =
-    codes "The material, or a straight motion, is more than 2 m from the machine's zero: traverses were not tested for material.\n"
+    codes "The material, or the end of a motion, is more than 2 m from the machine's zero: traverses were not tested for material.\n"
 
 unfoldable pub far_fact : List ℕ
 far_fact = codes ",\n{\"fact\":\"material_far\"}"

@@ -16,7 +16,7 @@ pub record WalkData : Type 0 where
   pub stock : Stock
   pub found : List Found
 
--- some of the cells, or the end of a straight motion, is more than two metres from the machine's zero
+-- some of the cells, or the end of a motion, is more than two metres from the machine's zero
 abbrev pub IsFar : Stock → List Command → Type 0
 IsFar s commands = ¬ (IsGrid s.grid) ⊎ ¬ (IsTrue (are_reached commands))
 

@@ -33,7 +33,7 @@ impl<A: Allocator> Model for Walk<A> {
 
 /// Returns the straight traverses of a program that may touch the material of its machine: `commands`
 /// are its commands at a setting of block delete. It returns `None` if the machine has no block of
-/// material, or if some of it, or a straight motion, is more than two metres from the machine's zero.
+/// material, or if some of it, or the end of a motion, is more than two metres from the machine's zero.
 ///
 /// It fails if memory is refused.
 pub fn find_walk<A: Allocator + Copy, B: Allocator>(

@@ -38,7 +38,7 @@ fn block_origin<A: Allocator>(machine: &Machine<A>) -> Spot
 fn arcs_words() -> &'static [u8]
     ensures { result.now ≡ arcs_words }
 {
-    b"Cuts along arcs are not counted: the material may be gone there.\n"
+    b"Cuts along arcs of G18 and G19 are not counted: the material may be gone there.\n"
 }
 
 fn arcs_line(form: Form, found: &[Found]) -> &'static [u8]
@@ -56,7 +56,7 @@ fn far_line(form: Form) -> &'static [u8]
 {
     match form {
         Form::Words =>
-            b"The material, or a straight motion, is more than 2 m from the machine's zero: traverses were not tested for material.\n",
+            b"The material, or the end of a motion, is more than 2 m from the machine's zero: traverses were not tested for material.\n",
         Form::Json => b",\n{\"fact\":\"material_far\"}",
     }
 }

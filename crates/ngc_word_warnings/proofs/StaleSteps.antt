@@ -1,5 +1,5 @@
 -- The feeds with the offset of another tool, one command further.
-use Rattle.std.proofs.Common.{◌≡◌, ◌+◌, ◌<◌, ℕ, ℤ, List, length, get_or, drop, Option, Some, None, Bool, false, ap, refl, sym, ◌∙◌}
+use Rattle.std.proofs.Common.{◌≡◌, ◌+◌, ◌<◌, ℕ, ℤ, List, length, get_or, drop, Option, Some, None, false, ap, refl, sym, ◌∙◌}
 use Rattle.std.proofs.lemmas.List.{drop_more}
 use Rattle.std.specs.Prelude.{is_some}
 use Rattle.ngc_commands.specs.Reached.{after}

@@ -1,5 +1,5 @@
 -- The length offset in force, as far as the words of a program's lines say. Our own.
-use Rattle.std.specs.Prelude.{ℕ, ◌*◌, nat_le, ℤ, pos, ◌-ℤ◌, int_lt, unsigned_abs, List, find, ◌&&◌}
+use Rattle.std.specs.Prelude.{◌*◌, nat_le, ℤ, pos, ◌-ℤ◌, int_lt, unsigned_abs, List, find, ◌&&◌}
 use Rattle.std.specs.Prelude.{Option, Some, None, option_map, Bool, true, false, not, if◌then◌else◌}
 use Rattle.std.specs.Ordering.{int_eq}
 use Rattle.ngc_machine_files.specs.declared.tools.Tool.{Tool}

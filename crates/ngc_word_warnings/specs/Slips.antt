@@ -1,21 +1,17 @@
 -- Mistakes in the words of a program that passes. Our own.
 use Rattle.std.specs.Prelude.{ℕ, ◌+◌, ◌-◌, ◌*◌, ◌==◌, ◌&&◌, nat_le, ℤ, pos, int_lt, List, [], ◌∷◌}
-use Rattle.std.specs.Prelude.{find, length, slice_get, drop, take_while, Option, Some, None, Result}
+use Rattle.std.specs.Prelude.{length, slice_get, drop, take_while, Option, Some, None, Result}
 use Rattle.std.specs.Prelude.{Ok, Err, ◌++◌, ◌||◌, Bool, false, true, not, if◌then◌else◌}
 use Rattle.std.specs.List.{list_any}
 use Rattle.std.specs.Option.{option_and_then}
 use Rattle.std.specs.Ordering.{int_eq}
 use Rattle.ngc_machine_files.specs.Machine.{MachineFile}
 use Rattle.ngc_machine_files.specs.declared.tools.Tool.{Tool}
-use Rattle.ngc_line_reader.specs.Letter.{letter_byte}
 use Rattle.ngc_line_reader.specs.Program.{Line}
 use Rattle.ngc_line_reader.specs.ReadLine.{line_read}
 use Rattle.ngc_line_reader.specs.ScanLine.{Parts, ParsedLine}
 use Rattle.ngc_line_reader.specs.declared.fault.LineFault.{LineFault}
-use Rattle.ngc_line_reader.specs.declared.letter.Letter.{Letter}
 use Rattle.ngc_line_reader.specs.declared.letter.Letter.TheVariants as letters
-use Rattle.ngc_line_reader.specs.declared.line.RawWord.{RawWord}
-use Rattle.ngc_line_reader.specs.declared.token.Token.{Token}
 use Rattle.ngc_commands.specs.declared.command.Action.{Action}
 use Rattle.ngc_commands.specs.declared.command.Action.TheVariants.{Mount, Move}
 use Rattle.ngc_commands.specs.declared.command.Command.{Command}
@@ -25,17 +21,19 @@ use Rattle.ngc_commands.specs.declared.reached.Reached.{Reached}
 use Rattle.ngc_commands.specs.Movement.{end_of}
 use Rattle.ngc_commands.specs.Reached.{after, after_all, at_start}
 use Rattle.ngc_word_warnings.specs.Offsets.{is_applied, is_apart, is_other, offset_after, offset_of}
-use Rattle.ngc_word_warnings.specs.Words.{axis_words, has_code, is_zero, number_after, zero_words}
+use Rattle.ngc_word_warnings.specs.Words.{axis_words, has_code, number_after, zero_words}
 use Rattle.ngc_word_warnings.specs.declared.offset.Offset.{Offset}
 use Rattle.ngc_word_warnings.specs.declared.offset.Offset.TheVariants as offsets
 use Rattle.ngc_word_warnings.specs.declared.between.Between.{Between}
-use Rattle.ngc_word_warnings.specs.declared.between.Step.{Step}
+use Rattle.ngc_word_warnings.specs.declared.between.Step.{Step as LineStep}
 use Rattle.ngc_word_warnings.specs.declared.slip.Found.{Found}
 use Rattle.ngc_word_warnings.specs.declared.slip.Kind.{Kind}
 use Rattle.ngc_word_warnings.specs.declared.slip.Kind.TheVariants as kinds
 use Rattle.ngc_word_warnings.specs.declared.slip.Slip.{Slip}
 use Rattle.ngc_word_warnings.specs.declared.slip.Slip.TheVariants as slips
 use Rattle.ngc_word_warnings.specs.declared.slip.Slips.{Slips}
+use Rattle.ngc_word_warnings.specs.declared.slip.LineSlips.{LineSlips}
+use Rattle.ngc_word_warnings.specs.declared.slip.AllSlips.{AllSlips}
 
 -- ---- a tool that is never mounted
 
@@ -179,6 +177,11 @@ abbrev pub is_executed : Bool → List Command → ℕ → Bool → Bool
 is_executed deletes commands number deleted =
     nat_le number (last_line (slice_get commands (length commands - 1))) && not (deletes && deleted)
 
+-- the mistake of a kind in a line, and the state after it
+pub record Step : Type 0 where
+  pub slip : Option Slip
+  pub between : Between
+
 -- the mistake in the line with this number, and the state after it
 abbrev pub step_taken : Kind → List Tool → List Command → Between → ℕ → Parts → Step
 step_taken kind tools commands b number said = record {
@@ -241,3 +244,24 @@ with_later (Some s) fs = Some (record s { count = s.count + length fs })
 abbrev pub count_of : Option Slips → ℕ
 count_of None = 0
 count_of (Some s) = s.count
+
+-- ---- the mistakes of all kinds
+
+-- the mistake of a kind in a line
+abbrev pub slip_of_kind : Kind → LineSlips → Option Slip
+slip_of_kind kinds.Unmounted s = s.unmounted
+slip_of_kind kinds.OtherOffset s = s.other_offset
+slip_of_kind kinds.NoOffset s = s.no_offset
+slip_of_kind kinds.StaleOffset s = s.stale_offset
+slip_of_kind kinds.PartHome s = s.part_home
+
+abbrev pub step_of_kind : Kind → LineStep → Step
+step_of_kind kind s = record { slip = slip_of_kind kind s.slips; between = s.between }
+
+-- those of a kind in a program
+abbrev pub slips_of_kind : Kind → AllSlips → Option Slips
+slips_of_kind kinds.Unmounted s = s.unmounted
+slips_of_kind kinds.OtherOffset s = s.other_offset
+slips_of_kind kinds.NoOffset s = s.no_offset
+slips_of_kind kinds.StaleOffset s = s.stale_offset
+slips_of_kind kinds.PartHome s = s.part_home

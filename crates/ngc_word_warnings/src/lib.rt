@@ -21,6 +21,6 @@ mod spelling;
 mod written;
 
 pub use offset::Offset;
-pub use slip::{Found, Kind, Slip, Slips};
+pub use slip::{AllSlips, Found, Kind, LineSlips, Slip, Slips};
 pub use slips::slips_of;
 pub use written::write_word_warnings;

@@ -47,3 +47,23 @@ pub struct Slips {
     /// The number of lines with a mistake, at least 1.
     pub count: usize,
 }
+
+/// The mistakes of a line, one of each kind at most.
+#[derive(Clone, Copy)]
+pub struct LineSlips {
+    pub unmounted: Option<Slip>,
+    pub other_offset: Option<Slip>,
+    pub no_offset: Option<Slip>,
+    pub stale_offset: Option<Slip>,
+    pub part_home: Option<Slip>,
+}
+
+/// The mistakes in a program, by kind.
+#[derive(Clone, Copy)]
+pub struct AllSlips {
+    pub unmounted: Option<Slips>,
+    pub other_offset: Option<Slips>,
+    pub no_offset: Option<Slips>,
+    pub stale_offset: Option<Slips>,
+    pub part_home: Option<Slips>,
+}

@@ -1,5 +1,5 @@
 //! The mistakes in the words of a program.
-ghost use Rattle.std.specs.Prelude.{◌≡◌, ◌+◌, ◌-◌, ◌≤◌, ◌<◌, nat_le, length, slice_get, drop};
+ghost use Rattle.std.specs.Prelude.{◌≡◌, ◌+◌, ◌-◌, ◌≤◌, ◌<◌, nat_le, length, slice_get, drop, None};
 ghost use Rattle.std.specs.Prelude.{take_while};
 ghost use Rattle.ngc_commands.specs.Reached.{after_all};
 ghost use Rattle.ngc_machine_files.specs.Machine.{file_of};
@@ -14,14 +14,19 @@ ghost use Rattle.ngc_word_warnings.specs.Slips.{other_offset, wrong_offset, goes
 ghost use Rattle.ngc_word_warnings.specs.Slips.{part_home, beginning, is_feed, feeds};
 ghost use Rattle.ngc_word_warnings.specs.Slips.{feeds_down, bare_tool, bare_feed, without_offset};
 ghost use Rattle.ngc_word_warnings.specs.Slips.{stale_tool, stale_feed, with_stale};
+ghost use Rattle.ngc_word_warnings.specs.Slips.{slip_of_kind, slips_of_kind, step_of_kind};
 ghost use Rattle.ngc_word_warnings.specs.Offsets.{offset_after};
+ghost use Rattle.ngc_word_warnings.specs.Words.{number_after};
+ghost use Rattle.ngc_word_warnings.specs.declared.slip.Kind.{Kind};
+ghost use Rattle.ngc_line_reader.specs.declared.letter.Letter.TheVariants as letters;
+ghost use Rattle.std.specs.Option.{option_and_then};
 
 use crate::between::{Between, Step};
 use crate::offset::{Offset, is_apart, is_other};
 use crate::said::{axis_words, has_code, number_after, zero_words};
-use crate::slip::{Found, Kind, Slip, Slips};
+use crate::slip::{AllSlips, Found, LineSlips, Slip, Slips};
 use ngc_commands::{Action, Command, Pace, Reached};
-use ngc_line_reader::{Letter, Line, Program, read_line};
+use ngc_line_reader::{Letter, Line, Program};
 use ngc_machine_files::{Machine, Tool};
 use std::alloc::Allocator;
 
@@ -255,27 +260,33 @@ impl Between {
     }
 }
 
-fn slip_in(
-    kind: Kind,
+fn unmounted_in(commands: &[Command], line: &Line) -> Option<Slip>
+    ensures { result ≡ option_and_then (unmounted commands.now)
+        (number_after letters.T (parts_of line.now)) }
+{
+    match number_after(line, Letter::T) {
+        Some(number) => unmounted(commands, number),
+        None => None,
+    }
+}
+
+fn slips_in(
     tools: &[Tool],
     commands: &[Command],
     before: &Between,
     given: &[Command],
     line: &Line,
     after: &Between,
-) -> Option<Slip>
-    ensures { result ≡ slip_in kind tools.now commands.now before.now given.now
-        (parts_of line.now) after.now }
+) -> LineSlips
+    ensures { (kind : Kind) → slip_of_kind kind result ≡ slip_in kind tools.now commands.now
+        before.now given.now (parts_of line.now) after.now }
 {
-    match kind {
-        Kind::OtherOffset => wrong_offset(after.reached.tool, line),
-        Kind::NoOffset => without_offset(&after.offset, before.reached, given),
-        Kind::StaleOffset => with_stale(tools, &after.offset, before.reached, given),
-        Kind::PartHome => part_home(line),
-        Kind::Unmounted => match number_after(line, Letter::T) {
-            Some(number) => unmounted(commands, number),
-            None => None,
-        },
+    LineSlips {
+        unmounted: unmounted_in(commands, line),
+        other_offset: wrong_offset(after.reached.tool, line),
+        no_offset: without_offset(&after.offset, before.reached, given),
+        stale_offset: with_stale(tools, &after.offset, before.reached, given),
+        part_home: part_home(line),
     }
 }
 
@@ -295,7 +306,6 @@ fn is_executed(deletes: bool, commands: &[Command], number: u32, deleted: bool) 
 }
 
 fn step_taken(
-    kind: Kind,
     tools: &[Tool],
     commands: &[Command],
     before: &Between,
@@ -303,20 +313,19 @@ fn step_taken(
     line: &Line,
 ) -> Step
     requires { before.now.count ≤ length commands.now }
-    ensures value { result ≡ step_taken kind tools.now commands.now before.now number
-        (parts_of line.now) }
+    ensures value { (kind : Kind) → step_of_kind kind result ≡
+        step_taken kind tools.now commands.now before.now number (parts_of line.now) }
     ensures few { result.between.count ≤ length commands.now }
 {
     let given = before.given(number, commands);
     let after = before.after_line(line, given);
     Step {
-        slip: slip_in(kind, tools, commands, before, given, line, &after),
+        slips: slips_in(tools, commands, before, given, line, &after),
         between: after,
     }
 }
 
 fn step_said(
-    kind: Kind,
     tools: &[Tool],
     deletes: bool,
     commands: &[Command],
@@ -325,33 +334,34 @@ fn step_said(
     line: &Line,
 ) -> Step
     requires { before.now.count ≤ length commands.now }
-    ensures value { result ≡ step_said kind tools.now deletes commands.now before.now number
-        (parsed_line_of line.now) }
+    ensures value { (kind : Kind) → step_of_kind kind result ≡
+        step_said kind tools.now deletes commands.now before.now number (parsed_line_of line.now) }
     ensures few { result.between.count ≤ length commands.now }
 {
     if is_executed(deletes, commands, number, line.deleted) {
-        step_taken(kind, tools, commands, before, number, line)
+        step_taken(tools, commands, before, number, line)
     } else {
         Step::nothing(before)
     }
 }
 
+// Reads a line into space that the caller keeps.
 fn step_read(
-    kind: Kind,
     tools: &[Tool],
     deletes: bool,
     commands: &[Command],
     before: &Between,
     number: u32,
     bytes: &[u8],
+    line: &mut Line,
 ) -> Step
     requires { before.now.count ≤ length commands.now }
-    ensures value { result ≡ step_read kind tools.now deletes commands.now before.now number
-        (line_read bytes.now) }
+    ensures value { (kind : Kind) → step_of_kind kind result ≡
+        step_read kind tools.now deletes commands.now before.now number (line_read bytes.now) }
     ensures few { result.between.count ≤ length commands.now }
 {
-    match read_line(bytes) {
-        Ok(line) => step_said(kind, tools, deletes, commands, before, number, &line),
+    match line.read(bytes) {
+        Ok(()) => step_said(tools, deletes, commands, before, number, line),
         Err(_) => Step::nothing(before),
     }
 }
@@ -374,34 +384,63 @@ fn counted(found: Option<Slips>, line: u32, slip: Option<Slip>) -> Option<Slips>
     }
 }
 
-/// Returns the mistakes of a kind in the lines of a program that are executed on a machine with its
-/// tools, or `None` if no line has one. `commands` are the program's commands at the same setting of block
-/// delete. The time is in proportion to the lines and the commands.
+impl AllSlips {
+    fn none() -> AllSlips
+        ensures { (kind : Kind) → slips_of_kind kind result ≡ None }
+    {
+        AllSlips {
+            unmounted: None,
+            other_offset: None,
+            no_offset: None,
+            stale_offset: None,
+            part_home: None,
+        }
+    }
+
+    // Returns the mistakes with those of one more line.
+    fn with(&self, line: u32, slips: &LineSlips) -> AllSlips
+        requires { (kind : Kind) → count_of (slips_of_kind kind self.now) < usize.MAX }
+        ensures { (kind : Kind) → slips_of_kind kind result ≡
+            counted (slips_of_kind kind self.now) line (slip_of_kind kind slips.now) }
+    {
+        AllSlips {
+            unmounted: counted(self.unmounted, line, slips.unmounted),
+            other_offset: counted(self.other_offset, line, slips.other_offset),
+            no_offset: counted(self.no_offset, line, slips.no_offset),
+            stale_offset: counted(self.stale_offset, line, slips.stale_offset),
+            part_home: counted(self.part_home, line, slips.part_home),
+        }
+    }
+}
+
+/// Returns the mistakes of each kind in the lines of a program that are executed on a machine with its
+/// tools: `None` if no line has one. `commands` are the program's commands at the same setting of block
+/// delete. Each line is read once, and the time is in proportion to the lines and the commands.
 pub fn slips_of<A: Allocator, B: Allocator>(
-    kind: Kind,
     deletes: bool,
     program: &Program<A>,
     machine: &Machine<B>,
     tools: &[Tool],
     commands: &[Command],
-) -> Option<Slips>
-    ensures { result ≡ slips_of kind tools.now deletes (file_of machine.now) commands.now
-        (text_in program.now).lines }
+) -> AllSlips
+    ensures { (kind : Kind) → slips_of_kind kind result ≡ slips_of kind tools.now deletes
+        (file_of machine.now) commands.now (text_in program.now).lines }
 {
-    let mut found = None;
+    let mut found = AllSlips::none();
     let mut between = Between::at_start(machine);
+    let mut line = Line::empty();
     for index in 0..program.len() {
         let number = program.number(index);
         let step = step_read(
-            kind,
             tools,
             deletes,
             commands,
             &between,
             number,
             program.bytes(index),
+            &mut line,
         );
-        found = counted(found, number, step.slip);
+        found = found.with(number, &step.slips);
         between = step.between;
     }
     found

@@ -1,14 +1,14 @@
 //! How all mistakes in the words of a program are written.
-ghost use Rattle.std.specs.Prelude.{OnOk, OnErr};
+ghost use Rattle.std.specs.Prelude.{OnOk, OnErr, ◌++◌};
 ghost use Rattle.std.specs.Io.KnownBytes.{Appends};
 ghost use Rattle.ngc_text.specs.Failures.{CountsFailure};
 ghost use Rattle.ngc_text.specs.Written.{AppendsPrefix};
 ghost use Rattle.ngc_machine_files.specs.Machine.{file_of};
 ghost use Rattle.ngc_line_reader.specs.ProgramView.{text_in};
 ghost use Rattle.ngc_sentences.specs.Saying.{Says};
-ghost use Rattle.ngc_word_warnings.specs.Spelling.{kind_line, word_warnings};
+ghost use Rattle.ngc_word_warnings.specs.Spelling.{spelled, word_warnings};
 
-use crate::slip::Kind;
+use crate::slip::AllSlips;
 use crate::slips::slips_of;
 use crate::spelling::say_slips;
 use ngc_commands::Command;
@@ -19,96 +19,18 @@ use ngc_sentences::Page;
 use ngc_text::{Sink, WriteFault};
 use std::alloc::Allocator;
 
-fn say_kind<A: Allocator, B: Allocator, W: Sink>(
-    form: Form,
-    kind: Kind,
-    deletes: bool,
-    program: &Program<A>,
-    machine: &Machine<B>,
-    tools: &[Tool],
-    commands: &[Command],
-    page: &mut Page,
-    output: &mut W,
-)
+fn say_all<W: Sink>(form: Form, found: &AllSlips, page: &mut Page, output: &mut W)
     ensures { Says (W.written output.old) (W.written output.new)
         (W.failures output.old) (W.failures output.new) page.old page.new
-        (kind_line form kind tools.now deletes (file_of machine.now) commands.now
-        (text_in program.now).lines) }
+        (spelled form found.now.unmounted ++ spelled form found.now.other_offset
+        ++ spelled form found.now.no_offset ++ spelled form found.now.stale_offset
+        ++ spelled form found.now.part_home) }
 {
-    let found = slips_of(kind, deletes, program, machine, tools, commands);
-    say_slips(form, &found, page, output);
-}
-
-fn say_all<A: Allocator, B: Allocator, W: Sink>(
-    form: Form,
-    deletes: bool,
-    program: &Program<A>,
-    machine: &Machine<B>,
-    tools: &[Tool],
-    commands: &[Command],
-    page: &mut Page,
-    output: &mut W,
-)
-    ensures { Says (W.written output.old) (W.written output.new)
-        (W.failures output.old) (W.failures output.new) page.old page.new
-        (word_warnings form deletes (file_of machine.now) tools.now commands.now
-        (text_in program.now).lines) }
-{
-    say_kind(
-        form,
-        Kind::Unmounted,
-        deletes,
-        program,
-        machine,
-        tools,
-        commands,
-        page,
-        output,
-    );
-    say_kind(
-        form,
-        Kind::OtherOffset,
-        deletes,
-        program,
-        machine,
-        tools,
-        commands,
-        page,
-        output,
-    );
-    say_kind(
-        form,
-        Kind::NoOffset,
-        deletes,
-        program,
-        machine,
-        tools,
-        commands,
-        page,
-        output,
-    );
-    say_kind(
-        form,
-        Kind::StaleOffset,
-        deletes,
-        program,
-        machine,
-        tools,
-        commands,
-        page,
-        output,
-    );
-    say_kind(
-        form,
-        Kind::PartHome,
-        deletes,
-        program,
-        machine,
-        tools,
-        commands,
-        page,
-        output,
-    );
+    say_slips(form, &found.unmounted, page, output);
+    say_slips(form, &found.other_offset, page, output);
+    say_slips(form, &found.no_offset, page, output);
+    say_slips(form, &found.stale_offset, page, output);
+    say_slips(form, &found.part_home, page, output);
 }
 
 /// Writes the warnings about the words of a program on a machine with its tools, at a setting of
@@ -144,9 +66,8 @@ pub fn write_word_warnings<A: Allocator, B: Allocator, W: Sink>(
         (text_in program.now).lines)) }
     ensures counts { CountsFailure (W.failures sink.old) (W.failures sink.new) result }
 {
+    let found = slips_of(deletes, program, machine, tools, commands);
     let mut page = Page::new();
-    say_all(
-        form, deletes, program, machine, tools, commands, &mut page, sink,
-    );
+    say_all(form, &found, &mut page, sink);
     page.finish(sink)
 }

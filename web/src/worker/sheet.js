@@ -1,6 +1,7 @@
-// A STAND-IN: reads the text of `ngc show` into what is drawn: travel, fixtures, tools, origins and rates. So the drawing shows what the
-// proved code read from the files. The module doesn't print the sheet as facts yet. When it does, this file goes.
+// A STAND-IN: reads the text of `ngc show` into what is drawn: travel, fixtures, tools, origins and rates, and the language of its programs. So
+// the page shows what the proved code read from the files. The module doesn't print the sheet as facts yet. When it does, this file goes.
 
+import { dialectOf } from '../core/controls.js';
 import { AXES } from '../core/systems.js';
 
 const KEY = 24;   // where the value of a line begins
@@ -19,6 +20,7 @@ function readMachine(scene, key, value, axis) {
   else if (key === 'start') scene.start = numbers(value);
   else if (key === 'step') [scene.step] = numbers(value);
   else if (key.startsWith('origin of')) scene.origins[key.slice(10)] = numbers(value);
+  else if (key === 'language of programs') scene.dialect = dialectOf(value);
 }
 function readTool(tool, key, value) {
   if (key === 'length offset') [tool.offset] = numbers(value);
@@ -30,7 +32,7 @@ function readTool(tool, key, value) {
 
 // Lengths are millimetres, speeds millimetres a second.
 export function readSheet(text) {
-  const scene = { low: [0, 0, 0], high: [0, 0, 0], start: [0, 0, 0], origins: {}, fixtures: [], tools: [], warnings: [], step: 0.01,
+  const scene = { low: [0, 0, 0], high: [0, 0, 0], start: [0, 0, 0], origins: {}, fixtures: [], tools: [], warnings: [], step: 0.01, dialect: null,
     rates: { speeds: [40, 40, 40], corner: 5, acceleration: 1000, arcAcceleration: 1000 } };
   let section = '', now = null;
   for (const line of text.split('\n')) {

@@ -1,0 +1,2 @@
+-- Words that are kept, one after another.
+pub mod OneMore

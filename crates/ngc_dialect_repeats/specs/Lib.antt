@@ -1,0 +1,6 @@
+pub mod Refusals
+pub mod Kept
+pub mod Points
+pub mod Places
+pub mod Polar
+pub mod Turns

@@ -1,0 +1,288 @@
+//! How a feed along an arc lowers the cells of a stock.
+ghost use Rattle.std.specs.Prelude.{◌≡◌, ◌≤◌, ◌↔◌, IsTrue, IfSome};
+ghost use Rattle.ngc_arc_geometry.specs.Shape.{ArcShape};
+ghost use Rattle.ngc_cells.specs.Stretches.{IsSpot, IsStretch};
+ghost use Rattle.ngc_cells.specs.Grids.{IsGrid};
+ghost use Rattle.ngc_stock.specs.Stocks.{sigma};
+ghost use Rattle.ngc_stock.specs.Arcs.{upper_tip, chord};
+ghost use Rattle.ngc_stock.specs.Walk.{IsArcCut};
+ghost use Rattle.ngc_material.specs.Chords.{IsSwept, AreSomeCut};
+ghost use Rattle.ngc_material.specs.Heights.{AreHeights, is_reached};
+
+use crate::chord::{Band, Sector};
+use crate::cutter::{level_of, sigma};
+use crate::cutting::cut;
+use crate::line::Line;
+use crate::spoke::Spoke;
+use crate::touch::tested_radius;
+use ngc_arc_geometry::Arc;
+use ngc_cells::{Grid, Spot, Stretch, lower};
+use ngc_fixed_length::{Nm, Point2, Turn};
+use ngc_machine_files::Tool;
+use ngc_stock::Stock;
+
+/// How many chords half a turn can have.
+const COUNTS: [u32; 15] = [
+    1, 2, 4, 8, 16, 32, 64, 128, 256, 512, 1024, 2048, 4096, 8192, 16_384,
+];
+
+/// A piece of an arc, at most half a turn counterclockwise, and the radius of the points between.
+#[derive(Clone, Copy)]
+struct Piece {
+    first: Spoke,
+    last: Spoke,
+    radius: u32,
+}
+
+impl Piece {
+    /// Returns about the point where the parts before it are `index` of `count`, a power of two.
+    fn at(&self, count: u32, index: u32) -> Spoke {
+        if count <= index {
+            return self.last;
+        }
+        let (mut first, mut last) = (self.first, self.last);
+        let mut rest = index;
+        let mut half = count / 2;
+        for _ in 0..14 {
+            if half == 0 {
+                return first;
+            }
+            let middle = first.halfway(&last, self.radius);
+            if rest < half {
+                last = middle;
+            } else {
+                first = middle;
+                rest -= half;
+            }
+            half /= 2;
+        }
+        first
+    }
+
+    /// Returns the least number of chords of which the first follows the arc, or 0 if there is none.
+    fn chords(&self, band: &Band, sector: &Sector) -> u32
+        requires least { band.now.least ≤ 2400000000 }
+        requires most { band.now.most ≤ 2400000000 }
+    {
+        for count in &COUNTS {
+            if band.has(sector, &self.first, &self.at(*count, 1)) {
+                return *count;
+            }
+        }
+        0
+    }
+}
+
+/// Returns the height of the tip at the higher end of an arc.
+fn upper_tip(tool: &Tool, arc: &Arc) -> i64
+    ensures { result ≡ upper_tip tool.now arc.now }
+{
+    let first = arc.start().z.nanometres();
+    let last = arc.end().z.nanometres();
+    let highest = first.max(last);
+    highest + tool.bottom.nanometres()
+}
+
+fn is_near(spot: &Spot) -> bool
+    ensures { IsTrue result ↔ IsSpot spot.now }
+{
+    spot.x.unsigned_abs() <= 2_000_000_000 && spot.y.unsigned_abs() <= 2_000_000_000
+}
+
+/// Returns whether a chord is within two metres of the machine's zero.
+fn is_stretch(chord: &Stretch) -> bool
+    ensures { IsTrue result → IsStretch chord.now }
+{
+    if !is_near(&chord.start) || !is_near(&chord.end) {
+        return false;
+    }
+    chord.part < chord.parts && chord.parts <= 1000
+}
+
+/// Returns whether a middle is at most `reach` from the cells along an axis.
+fn meets(corner: i64, half: u32, count: u32, middle: Nm, reach: u64) -> bool {
+    let low = i128::from(corner);
+    let high = low + 2 * i128::from(count) * i128::from(half);
+    let (middle, reach) = (i128::from(middle.nanometres()), i128::from(reach));
+    low - reach <= middle && middle - reach <= high
+}
+
+/// Returns whether a circle may meet the cells.
+fn is_over(grid: &Grid, centre: &Point2, radius: u64) -> bool {
+    meets(grid.corner.x, grid.half, grid.columns, centre.u, radius)
+        && meets(grid.corner.y, grid.half, grid.rows, centre.v, radius)
+}
+
+/// Returns how far the chords of an arc of these radii may be from its circles. With half of the room, a
+/// traverse along the arc, or from one of its points, isn't found. An uneven arc takes all.
+fn room(grid: &Grid, inner: u64, outer: u64) -> u64
+    requires outer { outer ≤ 2000020000 }
+    ensures bound { result ≤ sigma grid.now }
+    ensures small { result ≤ 300000000 }
+{
+    let sigma = sigma(grid);
+    if 2 * outer.saturating_sub(inner) <= sigma {
+        sigma / 2
+    } else {
+        sigma
+    }
+}
+
+/// An arc along which a tool's cutter lowers the cells of a stock.
+#[derive(Clone, Copy)]
+pub(crate) struct Sweep {
+    stock: Stock,
+    tool: Tool,
+    arc: Arc,
+    sector: Sector,
+    band: Band,
+    /// How far the chords may be from the arc's circles.
+    room: u64,
+    /// The radius of the cutter, smaller by the room and half the diagonal of a cell.
+    radius: u32,
+    level: u32,
+    ghost holds: { IsSwept stock tool arc sector band room radius level },
+}
+
+impl Sweep {
+    /// Returns an arc with what is to know of it, or `None` if it lowers nothing for sure: if it is in
+    /// another plane, above the stock or beside it, or if the cutter is too thin.
+    fn of(stock: &Stock, tool: &Tool, arc: &Arc) -> Option<Sweep>
+        requires { IsGrid stock.now.grid }
+        ensures { IfSome result (λ w. (w.stock ≡ stock.now) × (w.tool ≡ tool.now) × (w.arc ≡ arc.now)) }
+    {
+        let level = level_of(stock, upper_tip(tool, arc));
+        if stock.height <= level {
+            return None;
+        }
+        let tested = tested_radius(&stock.grid, tool)?;
+        let (inner, outer) = (arc.inner_radius(), arc.outer_radius());
+        let room = room(&stock.grid, inner, outer);
+        let radius = tested + (sigma(&stock.grid) - room) as u32;
+        if !is_over(&stock.grid, &arc.centre(), outer + u64::from(radius)) {
+            return None;
+        }
+        let sector = Sector::of(arc)?;
+        Some(Sweep {
+            stock: *stock,
+            tool: *tool,
+            arc: *arc,
+            sector,
+            band: Band {
+                least: outer.saturating_sub(room),
+                most: inner + room,
+            },
+            room,
+            radius,
+            level,
+        })
+    }
+
+    /// Returns the chord between the ends of two spokes.
+    fn chord(&self, first: &Spoke, last: &Spoke) -> Stretch
+        ensures { result ≡ chord self.now.arc first.now last.now }
+    {
+        let centre = self.arc.centre();
+        let (u, v) = (centre.u.nanometres(), centre.v.nanometres());
+        Stretch {
+            start: Spot {
+                x: u + first.x(),
+                y: v + first.y(),
+            },
+            end: Spot {
+                x: u + last.x(),
+                y: v + last.y(),
+            },
+            parts: 1,
+            part: 0,
+        }
+    }
+
+    /// Lowers the cells near a chord, if it follows the arc.
+    fn cut_chord(&self, heights: &mut [u32], first: &Spoke, last: &Spoke)
+        requires { AreHeights self.now.stock heights.old }
+        ensures { AreSomeCut self.now.stock self.now.tool self.now.arc heights.old heights.new }
+    {
+        if !self.band.has(&self.sector, first, last) {
+            return;
+        }
+        let chord = self.chord(first, last);
+        if is_stretch(&chord) {
+            lower(&self.stock.grid, heights, &chord, self.radius, self.level);
+        }
+    }
+
+    fn cut_piece(&self, heights: &mut [u32], first: Spoke, last: Spoke)
+        requires { AreHeights self.now.stock heights.old }
+        ensures { AreSomeCut self.now.stock self.now.tool self.now.arc heights.old heights.new }
+    {
+        // A little less, since the other chords differ by roundings.
+        let spare = self.room / 8;
+        let band = Band {
+            least: if self.band.least == 0 {
+                0
+            } else {
+                self.band.least + spare
+            },
+            most: self.band.most.saturating_sub(spare),
+        };
+        let piece = Piece {
+            first,
+            last,
+            radius: ((self.band.least + self.band.most) / 2) as u32,
+        };
+        let count = piece.chords(&band, &self.sector);
+        let mut start = first;
+        for index in 0..count {
+            let end = piece.at(count, index + 1);
+            self.cut_chord(heights, &start, &end);
+            start = end;
+        }
+    }
+
+    /// Lowers the cells near the arc's chords: of one or two pieces of at most half a turn.
+    fn cut(&self, heights: &mut [u32])
+        requires { AreHeights self.now.stock heights.old }
+        ensures { AreSomeCut self.now.stock self.now.tool self.now.arc heights.old heights.new }
+    {
+        let (first, last) = match self.sector.turn {
+            Turn::Counterclockwise => (self.sector.start, self.sector.end),
+            Turn::Clockwise => (self.sector.end, self.sector.start),
+        };
+        let opposite = first.opposite();
+        if self.sector.is_full {
+            self.cut_piece(heights, first, opposite);
+            self.cut_piece(heights, opposite, first);
+        } else if 0 <= first.cross(&last) {
+            self.cut_piece(heights, first, last);
+        } else {
+            self.cut_piece(heights, first, opposite);
+            self.cut_piece(heights, opposite, last);
+        }
+    }
+}
+
+/// Lowers the cells near the chords of an arc.
+fn cut_chords(stock: &Stock, heights: &mut [u32], tool: &Tool, arc: &Arc)
+    requires { AreHeights stock.now heights.old }
+    ensures { AreSomeCut stock.now tool.now arc.now heights.old heights.new }
+{
+    match Sweep::of(stock, tool, arc) {
+        Some(sweep) => sweep.cut(heights),
+        None => {}
+    }
+}
+
+/// Lowers the cells that a cutter covers along an arc, as far as its chords show it, and at its end.
+pub(crate) fn cut_arc(stock: &Stock, heights: &mut [u32], tool: &Tool, arc: &Arc)
+    requires heights { AreHeights stock.now heights.old }
+    requires end { IsTrue (is_reached arc.now.end) }
+    ensures { IsArcCut stock.now tool.now arc.now heights.old heights.new }
+{
+    cut_chords(stock, heights, tool, arc);
+    let line = Line {
+        start: arc.end(),
+        end: arc.end(),
+    };
+    cut(stock, heights, tool, &line);
+}

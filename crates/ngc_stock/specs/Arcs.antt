@@ -1,0 +1,70 @@
+-- What a cutter removes along an arc in the plane of X and Y. Our own; an arc's sector and its circles
+-- are those of ngc_arc_geometry.
+use Rattle.std.specs.Prelude.{◌≡◌, ◌⊎◌, ℕ, ◌+◌, ◌*◌, ◌-◌, ◌≤◌, ◌<◌, ℤ, pos, ◌+ℤ◌, ◌-ℤ◌, ◌*ℤ◌, ◌≤ℤ◌, true}
+use Rattle.std.specs.Int.{int_max}
+use Rattle.ngc_fixed_length.specs.Places.{shifted, dot}
+use Rattle.ngc_fixed_length.specs.declared.modes.Plane.TheVariants.{XY}
+use Rattle.ngc_fixed_length.specs.declared.points.Point2.{Point2}
+use Rattle.ngc_fixed_length.specs.declared.points.Point3.{Point3}
+use Rattle.ngc_machine_files.specs.declared.tools.Tool.{Tool}
+use Rattle.ngc_arc_geometry.specs.Shape.{ArcShape}
+use Rattle.ngc_arc_geometry.specs.Radii.{inner_radius, outer_radius}
+use Rattle.ngc_arc_geometry.specs.Sector.{in_sector}
+use Rattle.ngc_cells.specs.declared.stretch.Stretch.{Stretch}
+use Rattle.ngc_cells.specs.Stretches.{middle, square, spot}
+use Rattle.ngc_stock.specs.Stocks.{radius, IsCutBy}
+
+-- the tip's height at the higher end
+abbrev pub upper_tip : Tool → ArcShape → ℤ
+upper_tip t a = int_max a.start.z a.end.z +ℤ t.bottom
+
+-- the n-th part of a vector d leads from the centre to a point in the arc's sector, at most `room`
+-- from both of the arc's circles: that through its start, and that through its end. So the point is at
+-- most `room` from the arc, wherever between the circles that is
+pub record IsByArc (a : ArcShape) (room n : ℕ) (d : Point2) : Type 0 where
+  pub sector : in_sector a (shifted a.centre d) ≡ true
+  pub inner : pos ((n * (outer_radius a - room)) * (n * (outer_radius a - room))) ≤ℤ dot d d
+  pub outer : dot d d ≤ℤ pos ((n * (inner_radius a + room)) * (n * (inner_radius a + room)))
+
+-- this point is at most r from q
+abbrev pub IsBeside : ArcShape → ℕ → Point2 → ℕ → Point3 → Type 0
+IsBeside a n d r q =
+    (square ((pos n *ℤ (q.x -ℤ a.centre.u)) -ℤ d.u) +ℤ square ((pos n *ℤ (q.y -ℤ a.centre.v)) -ℤ d.v))
+    ≤ℤ pos ((n * r) * (n * r))
+
+-- a point is at most `room` from the arc, and q is at most the cutter's radius less `room` from that
+-- point: so at some point of the arc the cutter is over q. The tip is at most as high as q at the arc's
+-- higher end, and so all along a helix
+pub record IsCutAlong (t : Tool) (a : ArcShape) (q : Point3) : Type 0 where
+  pub plane : a.plane ≡ XY
+  pub room : ℕ
+  pub n : ℕ
+  pub d : Point2
+  pub some : 0 < n
+  pub fits : room ≤ radius t
+  pub by_arc : IsByArc a room n d
+  pub around : IsBeside a n d (radius t - room) q
+  pub low : upper_tip t a ≤ℤ q.z
+
+-- an arc cuts q on its way, or at its end, where the tip may be lower
+abbrev pub IsCutByArc : Tool → ArcShape → Point3 → Type 0
+IsCutByArc t a q = IsCutAlong t a q ⊎ IsCutBy t a.end a.end q
+
+-- ---- chords
+
+-- n times the vector that is k/n of the way from d to e
+abbrev pub between : ℕ → ℕ → Point2 → Point2 → Point2
+between n k d e = record { u = middle n k d.u e.u; v = middle n k d.v e.v }
+
+-- each point of the chord from d to e, vectors from the centre, is by the arc
+abbrev pub IsChord : ArcShape → ℕ → Point2 → Point2 → Type 0
+IsChord a room d e = (n k : ℕ) → 0 < n → k ≤ n → IsByArc a room n (between n k d e)
+
+abbrev pub chord : ArcShape → Point2 → Point2 → Stretch
+chord a d e =
+    record {
+      start = spot (a.centre.u +ℤ d.u) (a.centre.v +ℤ d.v);
+      end = spot (a.centre.u +ℤ e.u) (a.centre.v +ℤ e.v);
+      parts = 1;
+      part = 0;
+    }
