@@ -9,7 +9,7 @@
 #include <stdint.h>
 
 /* Linux's numbers for faults, which the standard library reads. */
-enum { NOT_FOUND = 2, OTHER = 5, DENIED = 13, NO_SPACE = 28, CLOSED_PIPE = 32 };
+enum { NOT_FOUND = 2, OTHER = 5, DENIED = 13, EXISTS = 17, NO_SPACE = 28, CLOSED_PIPE = 32 };
 
 static int fault;
 
@@ -29,6 +29,9 @@ static int failed(void) {
         break;
     case ERROR_ACCESS_DENIED: case ERROR_SHARING_VIOLATION: case ERROR_LOCK_VIOLATION:
         fault = DENIED;
+        break;
+    case ERROR_FILE_EXISTS: case ERROR_ALREADY_EXISTS:
+        fault = EXISTS;
         break;
     case ERROR_BROKEN_PIPE: case ERROR_NO_DATA: case ERROR_PIPE_NOT_CONNECTED:
         fault = CLOSED_PIPE;
@@ -96,17 +99,78 @@ static HANDLE handle_of(int number) {
 /* A name has at most 4,095 bytes of UTF-8, and so at most 4,095 units of UTF-16. */
 #define NAME 4096
 
-/* Opens a file for reading. */
+/* The name in UTF-16; 0 where it isn't UTF-8 or is too long. */
+static int widen(const char *name, wchar_t *wide) {
+    return MultiByteToWideChar(CP_UTF8, MB_ERR_INVALID_CHARS, name, -1, wide, NAME);
+}
+
+/* Linux's flags of open. */
+enum { FOR_WRITING = 3, CREATE = 0100, ONLY_NEW = 0200 };
+
+/* Opens a file for reading, or one for writing. A file for writing that is there keeps its bytes. */
 int open(const char *name, int flags, ...) {
     wchar_t wide[NAME];
     const DWORD share = FILE_SHARE_READ | FILE_SHARE_WRITE | FILE_SHARE_DELETE;
-    if (flags & 3) {
-        fault = DENIED;
+    const DWORD access = flags & FOR_WRITING ? GENERIC_WRITE : GENERIC_READ;
+    const DWORD which = !(flags & CREATE) ? OPEN_EXISTING : flags & ONLY_NEW ? CREATE_NEW : OPEN_ALWAYS;
+    if (!widen(name, wide)) return failed();
+    HANDLE file = CreateFileW(wide, access, share, 0, which, FILE_ATTRIBUTE_NORMAL, 0);
+    return file == INVALID_HANDLE_VALUE ? failed() : (int)(intptr_t)file;
+}
+
+/* Gives a file another name, in place of a file of that name. */
+int rename(const char *from, const char *to) {
+    wchar_t old[NAME], new[NAME];
+    if (!widen(from, old) || !widen(to, new)) return failed();
+    return MoveFileExW(old, new, MOVEFILE_REPLACE_EXISTING) ? 0 : failed();
+}
+
+int unlink(const char *name) {
+    wchar_t wide[NAME];
+    if (!widen(name, wide)) return failed();
+    return DeleteFileW(wide) ? 0 : failed();
+}
+
+int fsync(int number) {
+    return FlushFileBuffers(handle_of(number)) ? 0 : failed();
+}
+
+/* The kit's libc/src/types.rt: `statx`, and Linux's kinds of files. */
+typedef struct {
+    uint32_t mask, block_size;
+    uint64_t attributes;
+    uint32_t links, user, group;
+    uint16_t mode, spare;
+    uint64_t number, size, blocks, attributes_mask, times[8];
+    uint32_t device_of_special[2], device[2];
+    uint64_t rest[14];
+} Found;
+enum { FOLDER = 0040000, SPECIAL = 0020000, REGULAR = 0100000 };
+
+/* What a file is, and which: files with the same device and number are the same. Times aren't found. */
+int statx(int folder, const char *name, int flags, unsigned mask, Found *found) {
+    wchar_t wide[NAME];
+    const DWORD share = FILE_SHARE_READ | FILE_SHARE_WRITE | FILE_SHARE_DELETE;
+    BY_HANDLE_FILE_INFORMATION is;
+    (void)folder, (void)flags, (void)mask;
+    if (!widen(name, wide)) return failed();
+    HANDLE file = CreateFileW(wide, 0, share, 0, OPEN_EXISTING, FILE_FLAG_BACKUP_SEMANTICS, 0);
+    if (file == INVALID_HANDLE_VALUE) return failed();
+    *found = (Found){0};
+    if (GetFileType(file) != FILE_TYPE_DISK) {
+        found->mode = SPECIAL;
+    } else if (GetFileInformationByHandle(file, &is)) {
+        found->mode = is.dwFileAttributes & FILE_ATTRIBUTE_DIRECTORY ? FOLDER : REGULAR;
+        found->number = (uint64_t)is.nFileIndexHigh << 32 | is.nFileIndexLow;
+        found->size = (uint64_t)is.nFileSizeHigh << 32 | is.nFileSizeLow;
+        found->device[0] = is.dwVolumeSerialNumber;
+    } else {
+        failed();
+        CloseHandle(file);
         return -1;
     }
-    if (!MultiByteToWideChar(CP_UTF8, MB_ERR_INVALID_CHARS, name, -1, wide, NAME)) return failed();
-    HANDLE file = CreateFileW(wide, GENERIC_READ, share, 0, OPEN_EXISTING, FILE_ATTRIBUTE_NORMAL, 0);
-    return file == INVALID_HANDLE_VALUE ? failed() : (int)(intptr_t)file;
+    CloseHandle(file);
+    return 0;
 }
 
 int close(int number) {

@@ -129,7 +129,7 @@ class Chromium(Browser):
 
     def open(self, page):
         self.call("Page.navigate", url=page.as_uri())
-        self.wait(READY)
+        self.wait(READY, 300)
 
     def choose(self, selector, file):
         self.value(f"document.querySelector({json.dumps(selector)}).value = ''; 0")
@@ -293,7 +293,7 @@ class Firefox(Browser):
 
     def open(self, page):
         self.call("browsingContext.navigate", context=self.context, url=page.as_uri(), wait="complete")
-        self.wait(READY)
+        self.wait(READY, 300)
 
     def choose(self, selector, file):
         self.value(f"document.querySelector({json.dumps(selector)}).value = ''; 0")

@@ -149,6 +149,10 @@ class Comparison:
         self.compare_command(["check"], {**files, "certificate": "made.cert"})
 
 
+# Rapids through material that no feed has removed, where the machine file describes it.
+THROUGH = b"G21 G90 G17 G54\nT2 M6\nS2000 M3\nG43 H2\nG0 Z20\nX20 Y30\nZ2\nG1 Z-3 F300\nX30\nG0 X60\nZ20\nX80\nZ-1\nZ20\nG28 Z20\nM30\n"
+
+
 def mutants(files, count):
     """Files with some bytes changed, by a seed, so that each run has the same."""
     chance = random.Random(5)
@@ -179,6 +183,11 @@ def compare_all(comparison, examples, count):
         if name.endswith(".ngc"):
             for machine, tools in SETUPS:
                 comparison.run_job(name, machine, tools, has_pulses=name in ("slot.ngc", "ring.ngc"))
+    stock = files["named_mill.toml"] + b"\n[stock]\nsystem = 1\nlow = [0, 0, -20_000_000]\nhigh = [100_000_000, 60_000_000, 0]\n"
+    comparison.give("stock_mill.toml", stock)
+    comparison.give("through.ngc", THROUGH)
+    for name in ("slot.ngc", "holes.ngc", "plate.ngc", "through.ngc"):
+        comparison.run_job(name, "stock_mill.toml", "tools.toml")
     for name in more:
         program = name if name.endswith(".ngc") else "slot.ngc"
         tools = name if name.endswith("tools.toml") else "tools.toml"

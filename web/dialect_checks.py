@@ -1,6 +1,7 @@
 """Checks of programs that are read in the language of their control: the page asks once, says whose language was read, passes it to each
 command, and keeps the answer with the machine file."""
 import json
+import re
 
 from access_checks import CONTRAST, NAMELESS, SMALL, WIDER
 from browsers import Chromium
@@ -230,6 +231,11 @@ REFUSED = [
     ("G0 X[1/0]\nM2\n", "linuxcnc", "Line 1 is refused: division by zero. Read as LinuxCNC.", "Fault 135"),
     ("G21\no1 call\nM2\n", "linuxcnc", "Line 2 is refused: no subprogram or line has this label. Read as LinuxCNC.", "Fault 136"),
     ("o1 while [1]\no1 endwhile\nM2\n", "linuxcnc", "Line 1 is refused: over 2,000,000 lines were executed. Read as LinuxCNC.", "Fault 138"),
+    ("o1 sub\no1 call\no1 endsub\no1 call\nM2\n", "linuxcnc", "Line 2 is refused: subprograms nested over 10 deep. Read as LinuxCNC.", "Fault 137"),
+    ("".join(f"#<_a{at}>=1\n" for at in range(10_001)) + "M2\n", "linuxcnc", "Line 10001 is refused: over 10,000 names. Read as LinuxCNC.", "Fault 139"),
+    ("F60\nG41.1 D2 G1 X9\nG53 G0 Z0\nM2\n", "linuxcnc", "Line 3 is refused at G53: not while cutter compensation is on. Read as LinuxCNC.", "Fault 223"),
+    # The machine starts at X -50 of G54, so the entry has 51 mm.
+    ("F60\nG41.1 D200 G1 X1\nM2\n", "linuxcnc", "Line 2 is refused at G1: the entry move is not longer than the tool's radius. Read as LinuxCNC.", "Fault 247"),
     ("G0 A5\nM2\n", "linuxcnc", "Line 1 is refused at A: ngc doesn't support rotary and secondary axes, except at 0. Read as LinuxCNC.", "Fault 205 (Programs for other controls)"),
     ("G0 X1 P1\nM2\n", "linuxcnc", "Line 1 is refused at P: nothing uses the word. Read as LinuxCNC.", "Fault 211"),
     ("G91 G2 X10 I4 F100\nM2\n", "linuxcnc", "Line 1 is refused at G2: the radii differ by more than can be evened out. Read as LinuxCNC.", "Fault 248"),
@@ -253,6 +259,7 @@ def refusals(checks, page):
         marked = page.value("[...document.querySelectorAll('.row.faulty')].map(it => it.dataset.line).join()")
         checks.equal("  its line is marked and chosen", [marked, str(page.value("ngc.store.state.line"))], [line, line])
         checks.begins("  its fault is explained", page.text("explained"), explained)
+        checks.expect("  and the detail says what to do", page.text("verdict-detail")[:1].isupper() and "our own" not in page.text("verdict-detail"), page.text("verdict-detail"))
         checks.has("  and named in the report", page.text("report"), f"line {line}", explained[:9].lower())
     page.give({"deep.ngc": DEEP})
     page.do(choose("linuxcnc"))
@@ -286,6 +293,33 @@ def refusals(checks, page):
     page.wait("ngc.store.state.files.program.name === 'rewritten.ngc'")
     page.settle()
     checks.expect("and the original in that of the control", page.title.endswith("Read as LinuxCNC."), page.title)
+    begin(page)
+
+
+# ---- notes
+
+
+def notes(checks, page):
+    """What is left out of a program for a control, or means something else: each note of the report with what is done, and a card where controls differ."""
+    begin(page)
+    text = page.read("slot.ngc")
+    give_with_machine(page, text)
+    checks.equal("a program in our own language has no notes", page.value("ngc.store.state.slots.remarks.status"), "none")
+    page.do(choose("grbl"))
+    made = native(page, text, "report", "--dialect", "grbl").stdout.decode().split("With block delete on:")[0]
+    wanted = re.findall(r"^note \((\w+)\): (.*): (\d+), the first in line (\d+): (.*)\.$", made, re.M)
+    kept = {"exact": "the commands are the same", "told": "the motions are the same", "chosen": "controls differ: check yours", "bound": "the path is the same but for this"}
+    rows = page.value("[...document.querySelectorAll('#report table')].filter(it => it.caption.textContent === 'Notes about the control').flatMap(it => [...it.tBodies[0].rows].map(row => [...row.cells].map(cell => cell.textContent)))")
+    checks.expect("the program has notes", wanted, made)
+    checks.equal("the report has each note of `ngc report --dialect grbl`, with what is done", rows, [[line, name + (f" ({count}\u00d7)" if count != "1" else ""), remark, kept[kind]] for kind, name, count, line, remark in wanted])
+    cards = page.value("[...document.querySelectorAll('#warnings .card.told')].map(it => it.textContent)")
+    differ = [f"iNote: {name}: {remark}" + (f" ({count}\u00d7)" if count != "1" else "") + f" line {line}" for kind, name, count, line, remark in wanted if kind == "chosen"]
+    checks.expect("some are about what controls do differently", differ, wanted)
+    checks.equal("and have a card each", cards, differ)
+    page.edit(1, "(another text)")
+    checks.equal("which is gone at the next edit", page.value("new Promise(done => requestAnimationFrame(() => done(document.querySelectorAll('#warnings .card.told').length)))"), 0)
+    page.settle()
+    page.browser.press("Escape")
     begin(page)
 
 
@@ -357,4 +391,4 @@ def without_webgl(checks, page):
     checks.expect("an example has its drawing", page.value("document.querySelector('#labels img.drawing') !== null"))
 
 
-DIALECT_GROUPS = (asking, named_by_the_machine, keeping_control, changing_control, refusals, dialect_files)
+DIALECT_GROUPS = (asking, named_by_the_machine, keeping_control, changing_control, refusals, notes, dialect_files)

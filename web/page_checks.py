@@ -64,7 +64,8 @@ class Page:
         self.settle(seconds)
 
     def text(self, name):
-        return self.value(f"document.getElementById('{name}').textContent")
+        # A number and its unit aren't broken.
+        return self.value(f"document.getElementById('{name}').textContent").replace("\u00a0", " ")
 
     @property
     def title(self):
@@ -119,10 +120,17 @@ FAULTS = {
     "no end (120)": ("G21\n", "The program has no end.", "Write M2 or M30"),
     "a missing second % (121)": ("%\nG21\nM2\n", "The program can't be read: the second % is missing.", "Write % as the last line."),
     "too many lines (122)": ("\n" * 100_001 + "M2\n", "The program has more than 100,000 lines.", "Split it"),
-    "an unknown code (204)": ("G0 G5 X1\nM2\n", "Line 1 is refused: the code G5 is unknown.", "take it out"),
-    "a word without a code (207)": ("G21 G4 P1 K2\nM2\n", "Line 1 is refused: nothing uses the word K.", "write the code that is missing"),
-    "a tool that isn't there (222)": ("T9 M6\nM2\n", "Line 1 is refused: tool 9 isn't in the tool table.", ""),
-    "no feed (252)": ("G21\nG1 X5\nM2\n", "Line 2 is refused: no feed above 0 is set for this motion.", "write F with a feed rate"),
+    "a computed number that is too large (101)": ("G21\nG0 X[1000000000+1]\nM2\n", "Line 2 is refused: a computed value is too large, or this length is too great.", "Look for a wrong factor or parameter."),
+    "a character that doesn't belong there (112)": ("G21\nG0 X1 @\nM2\n", "Line 2 can't be read: this character doesn't belong here.", "Take it out."),
+    "a comment without end (116)": ("G0 X12(b\nM2\n", "Line 1 can't be read: this comment has no end.", "Write ) on the same line."),
+    "an unknown code (204)": ("G0 G5 X1\nM2\n", "Line 1 is refused: the code G5 is unknown.", "Take it out"),
+    "a fourth axis (205)": ("G0 A90\nM2\n", "Line 1 is refused: this code or axis isn't supported.", "Program three axes"),
+    "R below the bottom, or a depth above 0 in G91 (231)": ("G91 G81 X1 Z5 R-10 F60\nM2\n", "Line 1 is refused: R is below the bottom of the hole, along the axis across the selected plane, or in G91 the depth of this hole is above 0.", "Or: write it below 0, as in Z-5."),
+    "a peck that is too small (233)": ("G83 X1 Z-15 R-10 Q0.0004 F60\nM2\n", "Line 1 is refused: the depth of a peck, Q, isn't above 0, or the depth of a peck, Q, is too small for this hole.", "Or: write a greater one."),
+    "an arc with a word of the third axis only (241)": ("G2 Z-1 I5 F60\nM2\n", "Line 1 is refused: this arc has no axis word, or this arc has a word of the third axis only.", "Or: write an axis word of its plane too."),
+    "a word without a code (207)": ("G21 G4 P1 K2\nM2\n", "Line 1 is refused: nothing uses the word K.", "Write the code that is missing"),
+    "a tool that isn't there (222)": ("T9 M6\nM2\n", "Line 1 is refused: tool 9 isn't in the tool table.", "Drop its table here, or add the tool to it."),
+    "no feed (252)": ("G21\nG1 X5\nM2\n", "Line 2 is refused: no feed above 0 is set for this motion.", "Write F with a feed rate"),
     "an arc with two radii (243)": ("G21 F100\nG0 X5 Y5\nG2 X15.003 Y5 I5 J0\nM2\n", "Line 3 is refused: the radius is 5 mm at the start and 5.003 mm at the end", ""),
     "a point too far (221)": ("G21\nG0 X1270\nM2\n", "Line 2 is refused: X is at 1270 mm, but the limit is 1000 mm either way.", ""),
     "a motion beyond the travel": ("G21 G53 G0 X200\nG53 X310\nM2\n", "Line 2 leaves the travel at X+ by 10 mm: move it 10 mm toward X\u2212.", ""),
@@ -144,6 +152,9 @@ def verdicts(checks, page):
     checks.equal("the report lists every place", page.value("[...document.querySelectorAll('#report .places li')].map(it => it.textContent).join('|')"),
                  "line 15 hits the left clamp: raise by 5 mm|line 16 hits the left clamp: raise by 5 mm")
     checks.begins("the fault is explained", page.text("explained"), "Fault 304")
+    page.do("[...document.querySelectorAll('#verdict-actions button')].find(it => it.textContent === 'What is fault 304?').click()")
+    checks.equal("a button of the verdict goes there", page.value("[ngc.store.state.tab, document.activeElement.id]"), ["report", "explained"])
+    page.value("ngc.actions.tab('program'); 0")
     touch = page.value("ngc.contactNow(ngc.store.state).tip.map(it => Math.round(it * 1000) / 1000)")
     checks.equal("the tool touches the clamp 4 mm before its side", touch, [64, 90, -65])
     # Line 15 goes from X 70 to X 50; the clamp ends at X 60, and the tool's radius is 4 mm.
@@ -156,11 +167,14 @@ def verdicts(checks, page):
         page.give({"fault.ngc": text})
         checks.begins(f"{what}: {title}", page.title, title)
         checks.has("  its detail says what to do", page.text("verdict-detail"), detail)
+        checks.expect("  and nothing about whose rule it is", "our own" not in page.text("verdict"), page.text("verdict"))
     page.give({"wrapped.ngc": "G0 X[1/0]\nM2\n"})
     checks.begins("of `fault 311 setting off fault 102` the last number is explained", page.text("explained"), "Fault 102")
     checks.has("a refused program can be rewritten from the verdict", page.text("verdict-actions"), "Rewrite for this control", "What is fault 102?")
     page.give({"many.ngc": "G21\nG0 X1.2.3\nG1 X5\n(ok)\nG0 G5 X1\nM2\n"})
     checks.equal("all faults of a refused program are marked", page.value("[...document.querySelectorAll('.row.faulty')].map(it => it.dataset.line).join()"), "2,3,5")
+    checks.equal("each with its own words", page.value("[...document.querySelectorAll('.row.faulty .note')].map(it => it.textContent).join('|')"), "This word or setting is written wrong.|No feed above 0 is set for this motion.|The code G5 is unknown.")
+    checks.equal("and the word that is meant is underlined, where it is known", page.value("[...document.querySelectorAll('.row.faulty u')].map(it => it.textContent).join('|')"), "X1.2.3|G5")
     page.example("slot.ngc")
     bare = page.read("named_mill.toml").split("[[fixture]]")[0]
     page.give({"start.toml": bare + "[[fixture]]\nlow = [-5000000, -5000000, -5000000]\nhigh = [5000000, 5000000, 5000000]\n"})
@@ -172,6 +186,9 @@ def verdicts(checks, page):
     page.do("ngc.files.useExampleMachine()")
     page.give({"tools.toml": "[[tool]]\nnumber = 0\n"})
     checks.begins("a refused tool table", page.title, "The tool table can't be used. ")
+    page.do("ngc.files.useExampleMachine()")
+    page.give({"flat.toml": page.read("named_mill.toml") + "\n[stock]\nlow = [0, 0, 0]\nhigh = [1, 1, 0]\n"})
+    checks.begins("a block of material without height (267)", page.title, "The machine file can't be used. The key stock is refused.")
     page.example("slot.ngc")
     page.give({"warned.ngc": "G21 T2 M6\nG43 H2\nG0 Z0\nG1 X10 F100\nM2\n"})
     cards = page.value("[...document.querySelectorAll('#warnings .card')].map(it => it.textContent)")
@@ -179,6 +196,17 @@ def verdicts(checks, page):
     page.do("document.querySelector('#warnings .card').click()")
     checks.equal("the card goes to the line", page.value("ngc.store.state.line"), 4)
     checks.has("a note beside the line has the warning", page.value("document.querySelector('.row.warned .note').textContent"), "spindle off")
+    # The text of the report says more than its JSON: what to do, and of an origin where it is.
+    warned = "G21 G90 G54\nT2 M6\nS1000 M3\nG0 X20 Y30\nG1 Z-1 F100\n/G1 Z-2\nG0 Z0\nG10 L2 P1 X410 Y0 Z0\nG0 X-200 Y20\nM2\n"
+    page.give({"warned.ngc": warned})
+    (page.folder / "warned.ngc").write_text(warned)
+    made = page.native("report", files=(page.folder / "warned.ngc", "named_mill.toml", "tools.toml")).stdout.decode().split("With block delete on:")[0]
+    lines = [it[len("warning: "):].rstrip(".") for it in made.splitlines() if it.startswith("warning: ")]
+    wanted = [re.sub(r": (\d+), the first in line \d+(?=: |$)", "", it) for it in lines]
+    cards = page.value("[...document.querySelectorAll('#warnings .card')].map(it => it.textContent)")
+    short = [re.sub(r"^!Warning: | line \d+$| \(\d+\u00d7\)(?= line|$)", "", it) for it in cards]
+    checks.expect("there are warnings with something to do, and one about an origin", any("write " in it for it in wanted) and any("puts the origin" in it for it in wanted), wanted)
+    checks.equal("each card says what the text of `ngc report` says", [it[:1].lower() + it[1:] for it in short], [it[:1].lower() + it[1:] for it in wanted])
     page.give({"bare.ngc": "G21 G90\nG0 X10\nZ-5\nM2\n"})
     checks.has("motions without a tool are said to be tested by the nose alone", page.text("verdict-detail"), "only the spindle nose was tested")
     page.example("plate.ngc")
@@ -213,6 +241,11 @@ def block_delete(checks, page):
     checks.equal("a program that fits at one setting says so at each", page.value(tabs).count("does not fit"), 1)
     page.do("document.querySelectorAll('#settings [role=tab]')[1].click()")
     checks.begins("at the setting that fits the verdict is good", page.title, "Fits")
+    # Of faults the program's report has the first setting only, and the list of all faults is for both together.
+    page.give({"faulty.ngc": "G21\n/G1 X5\nG5\nX4\nM2\n"})
+    checks.begins("the first setting has its fault", page.title, "Line 2 is refused: no feed above 0 is set for this motion.")
+    page.do("ngc.actions.setBlockDelete(true)")
+    checks.begins("of the other one nothing is claimed", page.title, "Whether it fits at this setting of block delete isn't known yet.")
 
 
 # ---- editing
@@ -226,7 +259,8 @@ def editing(checks, page):
     checks.equal("at the first key the verdict, the notes, the path and the travel are out of date", now, ["Checking\u2026", 0, "true", "stale"])
     checks.equal("and the path can't be picked", page.value("ngc.pathNow(ngc.store.state)"), None)
     page.settle()
-    checks.begins("the check runs again after the edit", page.title, "Fits")
+    checks.begins("the check runs again after the edit", page.title, "Fits: 72 mm left toward Z\u2212, 0 mm from the left clamp")
+    checks.has("where nothing is left to a fixture the verdict asks for care", page.value("document.getElementById('verdict').className") + page.text("verdict-detail"), "good careful", "Nothing is left to the left clamp: to keep a distance, give a margin in the tab Machine.")
     checks.equal("an edited program says so", page.value("document.querySelector('.chip-program .badge').textContent"), "edited")
     page.value("ngc.parts.editor.undo(false); 0")
     page.settle()
@@ -358,6 +392,12 @@ def file_kinds(checks, page):
     page.value("ngc.actions.forgetCertificate(); 0")
     page.give({"cut.cert": certificate[:-20]})
     checks.equal("a certificate that was cut short is refused with its fault", page.value(about), "refused, fault 301")
+    cards = "[...document.querySelectorAll('#warnings .card')].map(it => it.textContent).join('|')"
+    checks.begins("a card says why, and what to do", page.value(cards), "!Warning: The certificate cut.cert is refused: it is damaged or cut off (fault 301). Make it again by Save, Certificate.")
+    page.give({"other.cert": "ngc-certificate 1\nsetting off 0\nsetting on 0\nend\n"})
+    checks.has("so it does for the certificate of another program", page.value(cards), "The certificate other.cert is refused: it has other motions than the program (fault 312).")
+    page.value("ngc.actions.forgetCertificate(); 0")
+    checks.equal("and without the certificate there is no card", page.value(f"new Promise(done => requestAnimationFrame(() => done({cards})))"), "")
     page.value("ngc.actions.forgetCertificate(); 0")
     page.give({"mine.toml": page.read("bench_mill.toml")})
     page.do("ngc.actions.example('slot.ngc')")
@@ -412,11 +452,18 @@ def file_kinds(checks, page):
     page.settle()
     made = page.native("adapt", "--from", "mach3", files=("cam/vectric_mach3.tap", "named_mill.toml", "tools.toml"))
     checks.equal("a program for Mach3 is rewritten as by `ngc adapt`", page.value("ngc.store.state.files.program.blob().text()"), made.stdout.decode())
-    checks.equal("with the whole of its notes", page.value("document.querySelector('#adapt-notes pre').textContent"), made.stderr.decode())
+    checks.equal("with the whole of its notes", page.value("document.querySelector('#adapt-notes pre').textContent"), made.stderr.decode().strip())
     page.value("document.getElementById('adapt').close(); [...document.querySelectorAll('#notices button')].find(it => it.textContent === 'Back to the original').click(); 0")
     page.wait("ngc.store.state.files.program.name === 'vectric.tap'")
     page.settle()
     checks.equal("and the original can be put back", page.value("ngc.store.state.files.program.blob().text()"), vectric)
+    # No command writes that much today, so the job is replaced by one that says so.
+    page.forget_notices()
+    page.value("window.run = ngc.jobs.run; ngc.jobs.run = async () => ({ status: 0, output: new Uint8Array(0), text: 'a note\\n', isCut: true }); ngc.actions.rewrite().then(() => ngc.actions.save('list')).then(() => ngc.files.makeMachine([new Uint8Array(0)], 'dump.txt', () => true)).then(() => { ngc.jobs.run = window.run; })")
+    page.wait("ngc.jobs.run === window.run")
+    page.value(DRAWN)
+    checks.equal("notes that were cut say so", page.value("document.querySelector('#adapt-notes pre').textContent"), "a note .. (the notes are longer, and end here)")
+    checks.has("those of a save and of a machine file too", page.notices, "There is nothing to save. a note .. (the notes are longer, and end here)", "No machine file was made of dump.txt. a note .. (the notes are longer, and end here)")
     page.example("slot.ngc")
 
 
@@ -523,6 +570,7 @@ def machine_and_zero(checks, page):
     page.forget_notices()
     page.value(f"{form}.low.value = '1, 2'; {form}.high.value = '3, 4, 5'; document.querySelector('#clamp button').click(); 0")
     checks.has("a clamp without three numbers is refused with a reason", page.notices, "two corners of three numbers")
+    tools(checks, page)
     figures = "document.getElementById('figures').elements"
     page.value(f"{figures}.steps.value = '100'; {figures}.travel.value = '300, 180, 45'; {figures}.feed.value = '1000 1000 600'; {figures}.acceleration.value = '30'; document.querySelector('#figures button').click(); 0")
     page.wait("ngc.store.state.files.machine.source === 'made'")
@@ -572,6 +620,47 @@ def machine_and_zero(checks, page):
     page.example("slot.ngc")
 
 
+def tools(checks, page):
+    """A tool that isn't in the table is described from the verdict."""
+    names = "ngc.sceneNow(ngc.store.state).tools.map(it => it.number).join()"
+    table = "new TextDecoder().decode(ngc.store.state.files.tools.bytes)"
+    form = "document.getElementById('tool').elements"
+    add = "document.querySelector('#tool button').click()"
+    page.give({"nine.ngc": "G21 G90 G17 G54\nT9 M6\nS2000 M3\nG43 H9\nG0 Z20\nX20 Y30\nG1 Z2 F100\nG0 Z20\nG28 Z20\nM2\n"})
+    checks.begins("a tool that isn't in the table is named", page.title, "Line 2 is refused: tool 9 isn't in the tool table.")
+    page.value("[...document.querySelectorAll('#verdict-actions button')].find(it => it.textContent === 'Describe tool 9\u2026').click(); 0")
+    checks.equal("a button opens the form with its number, at the next field", page.value(f"[ngc.store.state.tab, {form}.number.value, document.activeElement.name, document.activeElement.checkVisibility()]"), ["shop", "9", "diameter", True])
+    page.do(f"{form}.diameter.value = '8'; {form}.reach.value = '45'; {add}")
+    checks.equal("the user's first tool makes a table of its own", page.value(table), "version = 2\n\n[[tool]]\nnumber = 9\noffset = 45000000\nbottom = -45000000\nparts = [\n    { length = 45000000, radius = 4000000 },\n]\n")
+    checks.begins("with it the program fits", page.title, "Fits")
+    page.do(f"{form}.number.value = '4'; {form}.diameter.value = '6'; {form}.reach.value = '50,5'; {form}.cutter.value = '20'; {form}.holder.value = '30'; {form}.name.value = 'drill'; {add}")
+    tool = page.value("(it => [it.name, it.bottom, it.offset, it.parts.map(part => [part.low, part.high, part.radius])])(ngc.sceneNow(ngc.store.state).tools.find(it => it.number === 4))")
+    checks.equal("a second one with its holder and its name", tool, ["drill", -50.5, 50.5, [[-50.5, -30.5, 3], [-30.5, 0, 15]]])
+    page.forget_notices()
+    page.value(f"{form}.number.value = '4'; {form}.diameter.value = '6'; {form}.reach.value = '50'; {add}; 0")
+    checks.has("one that is there already is refused with a reason", page.notices, "Tool 4 is in the table already")
+    for number, diameter, reach, cutter, holder in (("0", "6", "50", "", ""), ("1.5", "6", "50", "", ""), ("5", "-6", "50", "", ""), ("5", "6", "x", "", ""), ("5", "6", "50", "60", "30"), ("5", "6", "50", "20", "")):
+        page.forget_notices()
+        page.value(f"{form}.number.value = '{number}'; {form}.diameter.value = '{diameter}'; {form}.reach.value = '{reach}'; {form}.cutter.value = '{cutter}'; {form}.holder.value = '{holder}'; {add}; 0")
+        checks.has(f"tool {number} with diameter {diameter}, reach {reach}, cutter {cutter or 'none'} and holder {holder or 'none'} is refused with a reason", page.notices, "of a tool is from 1 to 9999" if number in ("0", "1.5") else "above 0")
+    checks.equal("and the table stays", page.value(names), "9,4")
+    page.do("[...document.querySelectorAll('#shop .link')].find(it => it.ariaLabel === 'Remove tool 9').click()")
+    checks.equal("a tool can be removed", page.value(names), "4")
+    page.do("[...document.querySelectorAll('#notices button')].filter(it => it.textContent === 'Undo').pop().click()")
+    checks.equal("and comes back", page.value(names), "9,4")
+    page.give({"one.toml": page.read("tools.toml")})
+    page.do(f"document.getElementById('tool').reset(); {form}.number.value = '7'; {form}.diameter.value = '5'; {form}.reach.value = '40'; {add}")
+    checks.equal("a table of version 1 gets a tool of version 1", page.value(f"{table}.endsWith('[[tool]]\\nnumber = 7\\nlength = 40000000\\nradius = 2500000\\noffset = 40000000\\n')") and page.value(names), "1,2,3,7")
+    page.forget_notices()
+    page.value(f"{form}.number.value = '8'; {form}.diameter.value = '5'; {form}.reach.value = '40'; {form}.cutter.value = '10'; {form}.holder.value = '30'; {add}; document.getElementById('tool').reset(); 0")
+    checks.has("but no holder, and the page says so", page.notices, "Only a tool table of version 2 has holders")
+    page.give({"mine.ngc": "G21\nM2\n"})
+    page.do("ngc.files.useExampleMachine()")
+    page.value("[...document.querySelectorAll('#verdict-actions button')].find(it => it.textContent === 'Describe your machine\u2026').click(); 0")
+    checks.equal("beside an example machine a button opens the form for one's own", page.value("[ngc.store.state.tab, document.activeElement.name, document.activeElement.checkVisibility()]"), ["shop", "steps", True])
+    page.example("slot.ngc")
+
+
 def cuts(checks, page):
     page.example("slot.ngc")
     # The line passes the corner of the left clamp at X 30, Y 80 by 1.4 mm. Its box, and each eighth of it, has the corner inside.
@@ -591,6 +680,11 @@ def cuts(checks, page):
     checks.equal("the certificate is that of `ngc certify --cuts 64`", saved_file(page, "document.querySelector('[data-save=certificate]').click()", "slanted.cert", len(made)), made)
     page.do(click.format("Back to 8 cuts"))
     checks.begins("8 cuts can be taken again", page.title, "Line 3 hits the left clamp")
+    page.give({"slanted.ngc": slanted, "slanted.cert": made.decode()})
+    page.do("ngc.actions.setDemands({ margin: null, travelMargin: null, rapids: 'free' })")
+    checks.has("a certificate with pieces of a rapid is refused where rapids may take any way, in words", page.value("document.querySelector('#warnings .card').textContent"), "this traverse has several pieces, and the control may take any way to its end (fault 319)")
+    page.value("ngc.actions.forgetCertificate(); 0")
+    page.do("ngc.actions.setDemands({ margin: null, travelMargin: null, rapids: null })")
     page.do("ngc.actions.setCuts(64)")
     page.edit(3, "G53 X107 Y2")
     page.settle()
@@ -645,9 +739,14 @@ def margins(checks, page):
     page.example("low_slot.ngc")
     page.do("ngc.actions.setDemands({ margin: 2e6, travelMargin: null, rapids: null })")
     # Without a margin it is 5 mm too low and 14 mm too far.
-    checks.begins("a refusal says that it is the margin", page.title, "Line 15 is within the margin of 2 mm around the left clamp: raise it by 7 mm, or move it 16 mm toward X+ or Y+.")
+    checks.begins("a motion that hits the clamp itself says so, and how far to keep the margin", page.title, "Line 15 hits the left clamp: to keep the margin of 2 mm, raise it by 7 mm, or move it 16 mm toward X+ or Y+.")
     # The clamp ends at X 60, and the tool's radius is 4 mm.
     checks.equal("the tool stops where it meets the margin", page.value("ngc.contactNow(ngc.store.state).tip.map(it => Math.round(it * 1000) / 1000)"), [66, 90, -65])
+    page.edit(14, "G0 Z11")
+    page.settle()
+    # The tip is then 1 mm above the clamp, whose top is at Z 10.
+    checks.begins("one that is clear of the clamp but for the margin says that", page.title, "Line 15 is within the margin of 2 mm around the left clamp: raise it by 1 mm, or move it 16 mm toward X+ or Y+.")
+    page.browser.press("Escape")
     page.do("ngc.actions.setDemands({ margin: null, travelMargin: 1e6, rapids: null })")
     checks.begins("a start at the end of the travel is refused with a travel margin", page.title, "The machine file can't be used. ")
     inner = re.sub(r"(?m)^(start|home28|home30) = .*$", r"\1 = [10_000_000, 10_000_000, -10_000_000]", page.read("named_mill.toml"))
@@ -663,8 +762,8 @@ def margins(checks, page):
     page.do("ngc.actions.setDemands({ margin: null, travelMargin: null, rapids: null })")
     checks.begins("a straight rapid passes the corner of a clamp", page.title, "Fits")
     page.do("ngc.actions.setDemands({ margin: null, travelMargin: null, rapids: 'free' })")
-    checks.begins("and one that may take any way doesn't", page.title, "Line 3 hits the left clamp")
-    checks.has("the detail says why", page.text("verdict-detail"), "Rapids may take any way within the box of their ends.")
+    checks.begins("and one that may take any way doesn't", page.title, "Line 3 may hit the left clamp")
+    checks.has("the detail says why, and what to do", page.text("verdict-detail"), "first retract, then move.", "Rapids may take any way within the box of their ends.")
     for machine, name in (("named_mill.toml", "slot.ngc"), ("named_mill.toml", "low_slot.ngc"), (page.folder / "inner.toml", "plate.ngc")):
         page.give({"m.toml": (page.examples / machine).read_text(), name: page.read(name)})
         page.do("ngc.files.use('tools', 'tools.toml', new TextEncoder().encode(JSON.parse(document.getElementById('examples').textContent)['tools.toml']), 'user')")
@@ -714,6 +813,72 @@ def intervals_of(facts):
         around = next((it for it in along if it["from"] <= 0 <= it["to"]), along[0] if along else None)
         found.append([around["from"], around["to"]] if around else None)
     return found
+
+
+# ---- material
+
+
+STOCK = "\n[stock]\nsystem = 1\nlow = [0, 0, -20_000_000]\nhigh = [100_000_000, 60_000_000, 0]\n"
+# A slot from X 20 to X 30 at Z -3, a rapid on to X 60 at that height, and a rapid down to Z -1 at X 80.
+THROUGH = TOOL + "Z2\nG1 Z-3 F300\nX30\nG0 X60\nZ20\nX80\nZ-1\nZ20\nG28 Z20\nM30\n"
+
+
+def material(checks, page):
+    """The block of material: which rapids may touch it, in the verdict, as cards, beside the lines, in the report and on paper; and its place."""
+    page.example("slot.ngc")
+    page.give({"through.ngc": THROUGH})
+    checks.expect("without a block nothing is said of material", "material" not in page.text("verdict-detail"), page.text("verdict-detail"))
+    page.give({"stock.toml": page.read("named_mill.toml") + STOCK})
+    (page.folder / "stock.toml").write_text(page.read("named_mill.toml") + STOCK)
+    (page.folder / "through.ngc").write_text(THROUGH)
+    made = page.native("report", "--json", files=(page.folder / "through.ngc", page.folder / "stock.toml", "tools.toml")).stdout
+    checks.equal("the facts are those of `ngc report --json`", page.value("JSON.stringify(ngc.current(ngc.store.state, 'report').facts)"), facts_of(made))
+    less = next(it["less"] for it in json.loads(made) if it["fact"] == "material_margin")
+    # Rounded up to hundredths of a millimetre.
+    words = f"tested with each tool {-(-less // 10_000) / 100:g} mm smaller in radius and a little higher"
+    checks.begins("the program fits", page.title, "Fits")
+    checks.has("the detail counts the rapids that may touch material", page.text("verdict-detail"), f"2 rapids may touch material, {words}.")
+    checks.equal("the verdict is one that asks for care", page.value("document.getElementById('verdict').className"), "good careful")
+    cards = page.value("[...document.querySelectorAll('#warnings .card')].map(it => it.textContent).filter(it => it.includes('material'))")
+    # The slot is 3 mm deep, and the second rapid ends 1 mm below the top.
+    found = [it["at"] for it in json.loads(made) if it["fact"] == "material"]
+    checks.equal("each has a card with its depth and its place", cards, [f"!Warning: The rapid may touch material: tool 2 is at most {depth} mm deep at X {at[0] / 1e6:g} mm, Y {at[1] / 1e6:g} mm line {line}" for depth, line, at in ((3, 10, found[0]), (1, 13, found[1]))])
+    page.do("[...document.querySelectorAll('#warnings .card')].find(it => it.textContent.endsWith('line 10')).click()")
+    checks.equal("the card goes to the line", page.value("ngc.store.state.line"), 10)
+    checks.equal("which has a note", page.value("document.querySelector('.row.warned[data-line=\"10\"] .note').textContent"), "rapid may touch material, at most 3 mm deep")
+    checks.has("the report has both", page.text("report"), "Material", "line 10", "line 13", "Cuts along arcs of G18 and G19 aren't counted.")
+    page.value("ngc.parts.setupSheet.build(); 0")
+    checks.has("so has the setup sheet, with the block", page.text("sheet"), "Warning: the rapid may touch material", "Material, mm, G54", "Of the workpiece only rapids are tested.")
+    checks.equal("the block is where its coordinates say", page.value("(it => [it.low, it.high])(ngc.stockIn(ngc.sceneNow(ngc.store.state)))"), [[50, 60, -90], [150, 120, -70]])
+    page.do("ngc.actions.setOrigins({ G54: [51e6, 60e6, -70e6] })")
+    checks.equal("it moves with the zero", page.value("ngc.stockIn(ngc.sceneNow(ngc.store.state)).low"), [51, 60, -90])
+    page.do("ngc.actions.setOrigins({})")
+    page.do("ngc.store.dispatch({ type: 'set', values: { unit: 'in' } })")
+    checks.has("in inches a depth is rounded up", page.value("[...document.querySelectorAll('#warnings .card')].map(it => it.textContent).join()"), "at most 0.1182 in deep")
+    page.do("ngc.store.dispatch({ type: 'set', values: { unit: 'mm' } })")
+    page.edit(10, "G1 X60")
+    page.edit(13, "G1 Z-1")
+    page.settle()
+    checks.has("with feeds in their place no rapid touches material", page.text("verdict-detail"), f"No rapid touches material that the feeds before it have left, {words}.")
+    checks.equal("and no card says so", page.value("[...document.querySelectorAll('#warnings .card')].filter(it => it.textContent.includes('material')).length"), 0)
+    page.browser.press("Escape")
+    page.give({"thin.toml": page.read("tools.toml").replace("radius = 4_000_000", "radius = 40_000")})
+    checks.has("a tool that is too thin is named", page.text("verdict-detail"), "Too thin to be tested: tool 2.")
+    page.do("ngc.actions.removeStock()")
+    checks.equal("the block can be removed", page.value("ngc.sceneNow(ngc.store.state).stock"), None)
+    form = "document.getElementById('stock').elements"
+    page.do(f"{form}.low.value = '0 0 -20'; {form}.high.value = '100, 60, 0'; document.getElementById('stock-system').value = '1'; document.querySelector('#stock button').click()")
+    checks.equal("and described by two corners", page.value("ngc.sceneNow(ngc.store.state).stock"), {"low": [0, 0, -20], "high": [100, 60, 0], "system": "G54"})
+    page.do(f"{form}.low.value = '0 0 -90'; {form}.high.value = '10 10 -80'; document.getElementById('stock-system').value = '0'; document.querySelector('#stock button').click()")
+    checks.equal("another one takes its place", page.value("ngc.sceneNow(ngc.store.state).stock"), {"low": [0, 0, -90], "high": [10, 10, -80], "system": None})
+    page.give({"one.toml": page.read("clamped_mill.toml")})
+    page.forget_notices()
+    page.value(f"{form}.low.value = '0 0 -20'; {form}.high.value = '100 60 0'; document.querySelector('#stock button').click(); 0")
+    checks.has("a machine file of version 1 can't have one, and the page says so", page.notices, "version 2")
+    page.value(f"{form}.high.value = '1, 2'; document.querySelector('#stock button').click(); document.getElementById('stock').reset(); 0")
+    checks.has("nor is one without three numbers taken", page.notices, "two corners of three numbers")
+    page.do("ngc.files.useExampleMachine()")
+    page.example("slot.ngc")
 
 
 # ---- saving
@@ -809,6 +974,13 @@ def picture_and_player(checks, page):
     if value("ngc.parts.picture === null"):
         checks.expect("without WebGL the drawing of `ngc draw` is shown", value("document.querySelector('#labels img.drawing') !== null"))
         return
+    fits = "(picture => { const { orbit } = picture, before = orbit.scale; picture.fit(); return Math.abs(before / orbit.scale - 1) < 1e-6; })(ngc.parts.picture)"
+    checks.expect("the picture is fitted to the cut, whichever of path and report comes first", value(fits))
+    page.edit(14, "G0 Z30")
+    page.settle()
+    checks.expect("and stays as it is while the program is edited", not value(fits) or value("ngc.parts.picture.orbit.isTouched"))
+    page.browser.press("Escape")
+    page.example("low_slot.ngc")
     middle = "((path, picture, at) => { picture.draw(); const s = path.owner.findIndex(it => path.lines[it] === at), r = document.getElementById('canvas').getBoundingClientRect(); const q = picture.screenOf([0, 1, 2].map(axis => (path.a[s * 3 + axis] + path.b[s * 3 + axis]) / 2)); return [q[0] + r.left, q[1] + r.top]; })(ngc.pathNow(ngc.store.state), ngc.parts.picture, 21)"
     page.browser.click(*value(middle))
     page.wait("ngc.store.state.line !== 15")
@@ -945,6 +1117,7 @@ def hostile(checks, page):
 
 
 # Of each job: how it begins, its lane, and what the page says when it was stopped or has no memory.
+WARNED = "G21 T2 M6\nS100 M3\nG0 Z0\nG1 Z-1 F100\nM2\n"
 JOBS = {
     "report": ("ngc.actions.check()", "verdict", "document.getElementById('verdict-title').textContent", "document.getElementById('verdict-title').textContent.startsWith('Fits')"),
     "path": ("ngc.actions.check()", "path", "document.getElementById('legend').textContent", "ngc.pathNow(ngc.store.state) !== null"),
@@ -952,6 +1125,7 @@ JOBS = {
     "place": ("ngc.actions.place()", "place", "document.getElementById('place').textContent", "document.getElementById('place').textContent.startsWith('It fits')"),
     "certificate": ("ngc.files.putBack('certificate', ngc.store.state.files.certificate)", "side", "document.querySelector('.chip.certificate .about').textContent", "document.querySelector('.chip.certificate .about').textContent === 'accepted for these files'"),
     "every": ("ngc.actions.check()", "side", "document.getElementById('report').textContent", "document.querySelectorAll('#report .places li').length === 2"),
+    "remarks": (f"ngc.files.use('program', 'warned.ngc', new TextEncoder().encode({json.dumps(WARNED)}), 'user')", "remarks", "document.getElementById('report').textContent", "document.getElementById('warnings').textContent.includes('write G43 H2')"),
     "save": ("ngc.actions.save('report')", "save", "document.getElementById('notices').textContent", "document.getElementById('notices').textContent.startsWith('Saved as')"),
     "pulses": ("ngc.actions.save('pulses')", "save", "document.getElementById('notices').textContent", "document.getElementById('notices').textContent.startsWith('Saved as')"),
     "adapt": ("ngc.actions.rewrite()", "side", "document.getElementById('adapt-notes').textContent", "document.querySelector('#adapt-notes pre') !== null"),
@@ -976,12 +1150,12 @@ def prepare(page, job):
 def stopped_workers(checks, page):
     """Each job says that it was stopped, and the next one works."""
     wanted = {"report": "Stopped: there is no verdict.", "path": "There is no path. Stopped.", "scene": "The machine file can't be shown. Stopped.", "place": "Stopped: the shifts are not known.", "certificate": "not checked: Stopped.",
-              "every": "The other places weren't found. Stopped.", "save": "Nothing was saved. Stopped.", "pulses": "Nothing was saved. Stopped.", "adapt": "Stopped.", "machine": "No machine file was made of dump.txt. Stopped.", "explain": "Stopped.", "search": "Stopped.",
+              "every": "The other places weren't found. Stopped.", "remarks": "What the warnings and notes say in full isn't known. Stopped.", "save": "Nothing was saved. Stopped.", "pulses": "Nothing was saved. Stopped.", "adapt": "Stopped.", "machine": "No machine file was made of dump.txt. Stopped.", "explain": "Stopped.", "search": "Stopped.",
               "index": "The lines can't be shown. Stopped.", "batch": "2,? a.ngc,? b.ngc"}
     for job, (begin, lane, said, works) in JOBS.items():
         prepare(page, job)
         # The job is stopped as soon as its lane is busy with it. It is looked for in microtasks too, since a short one may end between two timers.
-        slot = job if job in ("report", "path", "scene", "place", "certificate", "every", "search", "index") else None
+        slot = job if job in ("report", "path", "scene", "place", "certificate", "every", "remarks", "search", "index") else None
         begun = f"ngc.store.state.slots.{slot}.status === 'running' && ngc.jobs.isBusy('{lane}')" if slot else f"ngc.jobs.isBusy('{lane}')"
         page.value(f"new Promise(done => {{ let turns = 0; {begin}; const look = () => {{ if ({begun}) {{ ngc.jobs.stop('{lane}'); {'ngc.jobs.stop(' + json.dumps(lane) + ');' if job == 'batch' else ''} done(0); }} else if (++turns % 50) queueMicrotask(look); else setTimeout(look, 0); }}; look(); }})")
         if job == "batch":
@@ -1010,7 +1184,7 @@ def ended_memory(checks, page):
             page.wait("ngc.store.state.programs.length === 2 && ngc.store.state.programs.every(it => it.verdict)", 60)
         page.wait("ngc.jobs.isIdle", 60)
         page.value(DRAWN)
-        if job == "every":
+        if job in ("every", "remarks"):
             # Without memory there is no first report either.
             checks.has("without memory there is no report at all", page.title, NO_MEMORY)
         elif job == "batch":
@@ -1150,7 +1324,7 @@ def quiet(checks, page):
 
 
 PICTURED = ("picture_and_player", "paper", "access", "keyboard", "phone", "quiet")
-GROUPS = {it.__name__: it for it in (verdicts, block_delete, editing, races, file_kinds, machine_and_zero, cuts, margins, *DIALECT_GROUPS, save, picture_and_player, search, paper, keeping, hostile, stopped_workers, ended_memory, traps, unable, access, keyboard, contrast, phone, quiet)}
+GROUPS = {it.__name__: it for it in (verdicts, block_delete, editing, races, file_kinds, machine_and_zero, cuts, margins, material, *DIALECT_GROUPS, save, picture_and_player, search, paper, keeping, hostile, stopped_workers, ended_memory, traps, unable, access, keyboard, contrast, phone, quiet)}
 
 
 def take_pictures(page, folder):

@@ -1,18 +1,24 @@
 """Measures how long the page's main thread is busy at most while large programs are checked, and how long a verdict takes.
 
 In Chromium a task is measured twice: as the time from its begin to its end, which grows with other work on the machine, and as the
-processor time that the main thread took. The second must stay below MOST. In Firefox the time between two beats of a timer is measured.
+processor time that its thread took. The second must stay below a bound: for a task of the main thread MOST, for the first verdict FIRST, and
+for a check as a multiple of what the program takes TIMES. In Firefox the time between two beats of a timer is measured.
 """
 import json
 import math
-import statistics
+import os
+import resource
 import subprocess
 import time
+from dataclasses import dataclass
+from pathlib import Path
 
 from browsers import Chromium
 
 MOST = 100           # ms of a task
 MOST_TURNING = 50    # ms of a task while 100,000 motions are turned, without drawing
+FIRST = 1000         # ms until the first verdict
+TIMES = 3            # how many times longer than the program a check may take
 READY = "(({ slots }, key) => ['report', 'path'].every(it => slots[it].key === ngc.keyOf[it](ngc.store.state) && ['done', 'failed'].includes(slots[it].status)))(ngc.store.state) && ngc.store.state.text !== null && ngc.jobs.isIdle"
 BEAT = "window.gap = 0; window.beat = performance.now(); window.beating ??= setInterval(() => { const now = performance.now(); gap = Math.max(gap, now - beat); beat = now; }, 5); 0"
 TURN = """new Promise(done => { const { orbit } = ngc.parts.picture; orbit.isMoving = true; let count = 0; const begun = performance.now();
@@ -35,6 +41,15 @@ CASES = {
 }
 
 
+@dataclass
+class Times:
+    """Times of tasks of the main thread in ms: the longest, the most processor time of one, and the processor time of all."""
+
+    wall: float
+    processor: float
+    main: float
+
+
 class Tasks:
     """The tasks of the page's main thread, by Chromium's trace."""
 
@@ -46,7 +61,6 @@ class Tasks:
         self.browser.call("Tracing.start", transferMode="ReportEvents", traceConfig={"includedCategories": ["toplevel", "__metadata"], "excludedCategories": ["*"], "recordMode": "recordAsMuchAsPossible"})
 
     def end(self):
-        """The longest task in ms, and the most processor time that a task took."""
         self.browser.call("Tracing.end")
         while not any(it.get("method") == "Tracing.tracingComplete" for it in self.browser.events):
             self.browser.events.append(self.browser.message())
@@ -54,8 +68,8 @@ class Tasks:
         self.browser.events.clear()
         mains = {(it["pid"], it["tid"]) for it in events if it.get("name") == "thread_name" and it["args"].get("name") == "CrRendererMain"}
         tasks = [it for it in events if it.get("ph") == "X" and (it["pid"], it["tid"]) in mains]
-        wall, processor = (max((it.get(part, 0) / 1000 for it in tasks), default=0) for part in ("dur", "tdur"))
-        return wall, processor
+        wall, processor = ([it.get(part, 0) / 1000 for it in tasks] for part in ("dur", "tdur"))
+        return Times(max(wall, default=0), max(processor, default=0), sum(processor))
 
 
 def measure_case(checks, browser, tasks, file, name):
@@ -69,8 +83,8 @@ def measure_case(checks, browser, tasks, file, name):
     said = f"{name}: verdict after {took[0] / 1000:.2f} s, path after {took[1] / 1000:.2f} s, {time.time() - begun:.1f} s in all; longest gap of a timer {took[2]:.0f} ms"
     if not tasks:
         return checks.expect(f"{said}, at most {5 * MOST} on a machine with other work", took[2] <= 5 * MOST)
-    wall, processor = tasks.end()
-    checks.expect(f"{said}; longest task {wall:.0f} ms, of which {processor:.0f} ms of the processor, at most {MOST}", processor <= MOST)
+    times = tasks.end()
+    checks.expect(f"{said}; longest task {times.wall:.0f} ms, of which {times.processor:.0f} ms of the processor, at most {MOST}", times.processor <= MOST)
 
 
 def turning(checks, browser, tasks):
@@ -80,41 +94,77 @@ def turning(checks, browser, tasks):
         return print(f"turning 99,980 feeds: {browser.value(TURN):.1f} frames a second with software GL")
     tasks.begin()
     frames = browser.value(TURN)
-    wall, processor = tasks.end()
-    checks.expect(f"turning 99,980 feeds: {frames:.1f} frames a second with software GL; longest task {wall:.0f} ms with drawing, of which {processor:.0f} ms of the processor, at most {MOST_TURNING}", processor <= MOST_TURNING)
+    times = tasks.end()
+    checks.expect(f"turning 99,980 feeds: {frames:.1f} frames a second with software GL; longest task {times.wall:.0f} ms with drawing, of which {times.processor:.0f} ms of the processor, at most {MOST_TURNING}", times.processor <= MOST_TURNING)
 
 
-def native_times(program, examples, file):
+def worker_seconds(browser):
+    """The processor time of the threads of the page's workers so far, as Linux counts it."""
+    parents, ticks = {}, 0
+    for stat in Path("/proc").glob("[0-9]*/stat"):
+        try:
+            parents[stat.parent] = Path("/proc") / stat.read_text().rpartition(")")[2].split()[1]
+        except OSError:
+            continue
+    top = Path("/proc") / str(browser.process.pid)
+
+    def is_ours(process):
+        while process in parents and process != top:
+            process = parents[process]
+        return process == top
+
+    for stat in (it for process in parents if is_ours(process) for it in process.glob("task/*/stat")):
+        try:
+            name, _, rest = stat.read_text().rpartition(")")
+        except OSError:
+            continue
+        if "DedicatedWorker" in name:
+            ticks += sum(map(int, rest.split()[11:13]))
+    return ticks / os.sysconf("SC_CLK_TCK")
+
+
+def native_time(program, examples, file):
+    """The processor time that the program takes for a report, in seconds: the least of three."""
     words = [program, "report", "--program", file, "--machine", examples / "named_mill.toml", "--tools", examples / "tools.toml"]
+    used = lambda: (lambda it: it.ru_utime + it.ru_stime)(resource.getrusage(resource.RUSAGE_CHILDREN))
     found = []
     for _ in range(3):
-        begun = time.time()
+        before = used()
         subprocess.run(words, capture_output=True)
-        found.append(time.time() - begun)
-    return statistics.median(found)
+        found.append(used() - before)
+    return min(found)
 
 
 def measure(checks, browser, page, program, examples, folder):
     browser.shape(1280, 800)
-    browser.open(page)
-    browser.wait(READY)
     tasks = Tasks(browser) if isinstance(browser, Chromium) else None
+    if tasks:
+        tasks.begin()
+    browser.open(page)
+    browser.wait("ngc.store.state.slots.report.status === 'done'")
     first = browser.value("(it => it.begun + it.took)(ngc.store.state.slots.report)")
-    print(f"the first verdict of this visit is there {first / 1000:.2f} s after the page begins to load")
+    said = f"the first verdict of this visit is there {first / 1000:.2f} s after the page begins to load"
+    if tasks:
+        main, workers = tasks.end().main, worker_seconds(browser) * 1000
+        checks.expect(f"{said}; its main thread takes {main:.0f} ms of the processor, and its workers {workers:.0f} ms: together at most {FIRST}", main + workers <= FIRST)
+    else:
+        print(said)
+    browser.wait(READY)
     for name, text in CASES.items():
         file = folder / f"{name.replace(' ', '_').replace(',', '')}.ngc"
         file.write_text(text)
         measure_case(checks, browser, tasks, file, name)
         if name == "99,980 feeds":
             turning(checks, browser, tasks)
-            ratio(checks, browser, program, examples, file)
+            if tasks:
+                ratio(checks, browser, native_time(program, examples, file))
     browser.value("ngc.actions.example('slot.ngc'); 0")
     browser.wait(READY)
 
 
-def ratio(checks, browser, program, examples, file):
-    """A warm check and the program, measured in turn."""
-    browser.value("ngc.actions.check(); 0")
-    browser.wait(READY, 300)
-    ours, theirs = browser.value("ngc.store.state.slots.report.took") / 1000, native_times(program, examples, file)
-    print(f"checking it again takes {ours:.2f} s, the program {theirs:.2f} s: {ours / theirs:.1f} times")
+def ratio(checks, browser, theirs):
+    """A check in a worker of its own, and the program."""
+    before = worker_seconds(browser)
+    browser.value("ngc.jobs.run('measure', 'measure', 'report', { changes: {}, all: false }).then(() => 0)")
+    ours = worker_seconds(browser) - before
+    checks.expect(f"the check takes {ours:.2f} s of the processor, the program {theirs:.2f} s: {ours / theirs:.1f} times as long, at most {TIMES}", ours <= TIMES * theirs)

@@ -1,11 +1,11 @@
 // Puts the page together: the files in use, the jobs that follow from them, and the views of what the jobs return.
 
 import { current, firstState, inputsKey, keyOf, makeStore, reduce } from './core/store.js';
-import { makeJobs, sentenceOfFailure } from './core/jobs.js';
+import { makeJobs, notesOf, sentenceOfFailure } from './core/jobs.js';
 import { dialectNow, numberOf } from './core/controls.js';
 import { keepTheme, keptTheme } from './core/storage.js';
 import { momentAt } from './core/motion.js';
-import { contactNow, pathNow, sceneNow, timesNow } from './core/shown.js';
+import { contactNow, pathNow, sceneNow, stockIn, timesNow } from './core/shown.js';
 import { fill, h, id } from './view/dom.js';
 import { makeDrawing, makePicture } from './view/picture.js';
 import { makeQuestion } from './view/control.js';
@@ -21,7 +21,7 @@ import { makeZero } from './view/zero.js';
 import { makeChecks } from './checks.js';
 import { makeFiles } from './files.js';
 import { makeSaving } from './saving.js';
-import { withFixture, withoutFixture, wordsOfFigures } from './machine_text.js';
+import { hasParts, hasStock, withFixture, withStock, withTool, withoutFixture, withoutStock, withoutTool, wordsOfFigures } from './machine_text.js';
 
 const NOTICE_TIME = 10_000, ACTION_TIME = 30_000; // ms that a notice stays
 const DRAWING_OF_VIEW = { top: 0, front: 1, right: 2, iso: 3 };
@@ -43,6 +43,11 @@ const set = values => store.dispatch({ type: 'set', values });
 const actions = {
   notice, edited: files.edited, example: files.useExample, exampleMachine: files.useExampleMachine, save: saving.save,
   tab: tab => set({ tab }),
+  // Opens a tab and goes to an element of it, which takes the focus only once the tab is shown.
+  showIn(tab, element) {
+    actions.tab(tab);
+    queueMicrotask(() => { element.focus(); element.scrollIntoView({ block: 'center' }); });
+  },
   goTo(line, from) { actions.tab('program'); store.dispatch({ type: 'line', line, from }); },
   seek(time) {
     const path = pathNow(store.state), times = timesNow(store.state);
@@ -67,6 +72,30 @@ const actions = {
   forgetCertificate() { store.dispatch({ type: 'file', kind: 'certificate', file: null }); },
   addFixture(fixture) { files.changeMachine(text => withFixture(text, fixture), 'The fixture is in the machine file in use.'); },
   removeFixture(number) { files.changeMachine(text => withoutFixture(text, number), 'The fixture is no longer in the machine file in use.'); },
+  addTool(tool) {
+    const { tools } = store.state.files, isOld = tools.source !== 'example' && !hasParts(new TextDecoder().decode(tools.bytes));
+    if (isOld && (tool.parts.length > 1 || tool.name)) return notice('Only a tool table of version 2 has holders and names.', 'bad');
+    if (tools.source !== 'example' && sceneNow(store.state)?.tools.some(it => it.number === tool.number)) return notice(`Tool ${tool.number} is in the table already: remove it first.`, 'bad');
+    files.changeTools(text => withTool(text, tool), `Tool ${tool.number} is in the tool table in use.`);
+    id('tool').reset();
+  },
+  removeTool(number) {
+    const at = sceneNow(store.state).tools.findIndex(it => it.number === number);
+    files.changeTools(text => withoutTool(text, at), `Tool ${number} is no longer in the tool table in use.`);
+  },
+  // Opens a form of the tab Machine, with the first fields filled, and goes to the next one.
+  describe(name, ...values) {
+    const form = id(name), fields = [...form.elements].filter(it => it.matches('input'));
+    form.closest('details').open = true;
+    values.forEach((value, at) => { fields[at].value = value; });
+    actions.showIn('shop', fields[values.length]);
+  },
+  setStock(stock) {
+    if (!hasStock(new TextDecoder().decode(store.state.files.machine.bytes))) return notice('Only a machine file of version 2 describes the material.', 'bad');
+    files.changeMachine(text => withStock(text, stock), 'The material is in the machine file in use.');
+    id('stock').reset();
+  },
+  removeStock() { files.changeMachine(withoutStock, 'The material is no longer in the machine file in use.'); },
   makeMachineOfFigures(figures) { files.makeMachineOfFigures(wordsOfFigures(figures), `${figures.travel.map(Math.round).join('x')}.toml`); },
   adapt() {
     id('control').value = String(numberOf(dialectNow(store.state) ?? store.state.files.program.sign ?? 'linuxcnc'));
@@ -78,7 +107,7 @@ const actions = {
     try {
       const got = await jobs.run('side', 'adapt', 'output', { name: 'ngc_adapt', options: [Number(control.value), Number(blockDelete)] });
       if (store.state.files.program !== program) return;
-      fill(out, h('pre', { tabindex: '0' }, got.text || 'Nothing is left out or means otherwise.'));
+      fill(out, h('pre', { tabindex: '0' }, notesOf(got) || 'Nothing is left out or means otherwise.'));
       if (!got.output.length) return;
       const name = `${program.name.replace(/\.[^.]*$/, '')}.rewritten.ngc`;
       files.use('program', name, got.output, 'made');
@@ -216,5 +245,5 @@ async function start() {
 }
 
 // For the browser's console and the tests.
-window.ngc = { store, actions, parts, files, saving, current, keyOf, inputsKey, contactNow, pathNow, sceneNow, timesNow, get jobs() { return jobs; } };
+window.ngc = { store, actions, parts, files, saving, current, keyOf, inputsKey, contactNow, pathNow, sceneNow, stockIn, timesNow, get jobs() { return jobs; } };
 start().finally(() => { document.documentElement.dataset.ready = 'true'; });

@@ -49,6 +49,10 @@ export function makeChecks(store, jobs) {
       const { program } = store.state.files;
       if (found && !store.state.text) store.dispatch({ type: 'set', values: { text: ProgramText.of(program.bytes, program.blob(), found.starts) } });
     });
+    // What warnings and notes say in full. A lane of its own, since it takes as long as the report.
+    store.watch(state => [current(state, 'report')], report => {
+      if (report && groupsNow(store.state).some(it => it.warnings.length || it.notes.length)) begin('remarks', 'remarks', 'remarks', inputs());
+    });
     // Every place in the way, and the other setting of block delete, once the first verdict is there.
     store.watch(state => [current(state, 'report')], report => {
       if (report && !report.refusedFile && groupsNow(store.state).some(it => !it.fits)) begin('every', 'side', 'report', { ...inputs(), all: true });

@@ -3,17 +3,19 @@
 import { NO_DEMANDS, changesOf } from './core/changes.js';
 import { dialectOf, signOf } from './core/controls.js';
 import { ProgramText, startsOf } from './core/program_text.js';
-import { sentenceOfFailure } from './core/jobs.js';
+import { notesOf, sentenceOfFailure } from './core/jobs.js';
 import { kindOf } from './core/sort_files.js';
 import { keepControl, keepDemands, keepFile, keptControl, keptDemands, keptFile } from './core/storage.js';
 import { current } from './core/store.js';
 import { size } from './core/units.js';
 import { EXAMPLE_MACHINE, exampleBytes } from './examples.js';
+import { NEW_TABLE } from './machine_text.js';
 
 const LARGEST = 200_000_000;   // bytes of a file that is read at all
 const SHORT = 200_000;         // bytes of a program whose lines are found at once
 const HEAD = 65_536;           // bytes of a program that are searched for signs of its control
 const MOST_CHECKED = 50;       // programs of one drop that get a verdict
+const OTHERWISE = 'The file is written in another form: change it in an editor.';
 const NAMES = { machine: 'machine files', tools: 'tool tables', certificate: 'certificates', grbl: 'lists of GRBL settings' };
 
 export function makeFiles(store, getJobs, notice) {
@@ -105,7 +107,7 @@ export function makeFiles(store, getJobs, notice) {
   async function useMachineMade(job, options, from, name, isLatest = () => true) {
     try {
       const made = await getJobs().run('side', 'machine', job, options);
-      const notes = `${made.text.trim()}${made.isCut ? ' .. (the notes are longer, and end here)' : ''}`;
+      const notes = notesOf(made);
       if (!isLatest()) return;
       if (made.status || !made.output.length) return notice(`No machine file was made of ${from}. ${notes}`, 'bad');
       const file = use('machine', name, made.output, 'made');
@@ -119,9 +121,17 @@ export function makeFiles(store, getJobs, notice) {
     act();
     store.dispatch({ type: 'set', values: { origins, demands, cuts, control } });
   }
+  // A table with the user's first tool has none of the example's.
+  function changeTools(change, sentence) {
+    const { tools } = store.state.files, isExample = tools.source === 'example', text = isExample ? NEW_TABLE : new TextDecoder().decode(tools.bytes), changed = change(text);
+    if (changed === text) return notice(OTHERWISE, 'bad');
+    use('tools', isExample ? 'my_tools.toml' : tools.name, new TextEncoder().encode(changed), 'made');
+    notice(isExample ? `${sentence} The tools of the example are no longer in use.` : sentence, '', { label: 'Undo', act: () => putBack('tools', tools) });
+  }
   function changeMachine(change, sentence) {
-    const { machine } = store.state.files, bytes = new TextEncoder().encode(change(new TextDecoder().decode(machine.bytes)));
-    keepingChanges(() => use('machine', machine.name, bytes, 'made'));
+    const { machine } = store.state.files, text = new TextDecoder().decode(machine.bytes), changed = change(text);
+    if (changed === text) return notice(OTHERWISE, 'bad');
+    keepingChanges(() => use('machine', machine.name, new TextEncoder().encode(changed), 'made'));
     notice(sentence, '', { label: 'Undo', act: () => keepingChanges(() => putBack('machine', machine)) });
   }
 
@@ -163,7 +173,7 @@ export function makeFiles(store, getJobs, notice) {
     // All dropped programs are checked again on another machine, for another control, and with other zeros and margins.
     store.watch(state => [state.files.machine, state.files.tools, state.origins, state.demands, state.control], () => { if (store.state.programs.length) checkPrograms(); });
   }
-  return { use, putBack, edited, take, makeMachine, makeMachineOfFigures, changeMachine, useExample, useExampleMachine, start };
+  return { use, putBack, edited, take, makeMachine, makeMachineOfFigures, changeMachine, changeTools, useExample, useExampleMachine, start };
 }
 
 export function download(name, blob) {

@@ -3,7 +3,7 @@
 
 import { changesOf } from './core/changes.js';
 import { shownKey } from './core/store.js';
-import { sentenceOfFailure } from './core/jobs.js';
+import { notesOf, sentenceOfFailure } from './core/jobs.js';
 import { size } from './core/units.js';
 import { wordsOfDrawing } from './checks.js';
 import { download } from './files.js';
@@ -42,7 +42,7 @@ export function makeSaving(store, getJobs, parts, notice) {
     const changes = changesOf(state);
     try {
       const got = await getJobs().run('save', 'save', job, { words, factor, changes });
-      const notes = `${got.text.trim()}${got.isCut ? ' .. (the notes are longer, and end here)' : ''}`;
+      const notes = notesOf(got);
       if (key !== shownKey(store.state)) return notice('What is shown changed in the meantime: nothing was saved. Save again.', 'bad');
       if (!got.output.length) return notice(`There is nothing to save. ${notes}`, 'bad');
       download(name, new Blob([got.output]));
@@ -60,7 +60,9 @@ export function makeSaving(store, getJobs, parts, notice) {
       if (what === 'picture') return saveImage();
       if (!IN_USE.includes(what)) return saveOutput(what);
       if (what === 'program') savedVersion = files.program.version;
-      download(files[what].name, files[what].blob());
+      const { name } = files[what], blob = files[what].blob();
+      download(name, blob);
+      notice(`Saved as ${name}, ${size(blob.size)}.`);
     },
     get hasUnsavedEdits() { const { program } = store.state.files; return program?.source === 'edited' && program.version !== savedVersion; },
   };

@@ -1,14 +1,20 @@
-//! The program `ngc`: it starts `answer_by_machine` on the real files, standard output and standard error.
+//! The program `ngc`: it starts `answer_to` on the real files, as editors save them, standard output and standard
+//! error.
 #![tactic(auto)]
 
 mod host;
 mod output;
+mod outputs;
 
 use crate::host::HostFiles;
 use crate::output::Output;
-use ngc_dialect_choice::answer_by_machine;
+use crate::outputs::HostOutputs;
+use ngc_output_answers::answer_to;
+use ngc_output_words::{WordsFault, call_words};
+use ngc_saved_files::{SavedFiles, note_wide};
 use ngc_simulator::{UsageFault, read_options};
 use ngc_text::{Device, write_all};
+use std::cell::Cell;
 use std::process::ExitCode;
 use std::{env, io};
 
@@ -30,6 +36,13 @@ fn words_of(rt: &HostRuntime) -> Result<Vec<String>, UsageFault> {
         .map_err(|_| UsageFault::Memory)
 }
 
+fn usage_fault(rt: &HostRuntime, fault: WordsFault) -> UsageFault {
+    match fault.text().to_string(rt.alloc()) {
+        Ok(text) if fault != WordsFault::Memory => UsageFault::Usage(text),
+        _ => UsageFault::Memory,
+    }
+}
+
 // Executes the command in the words, and returns the status.
 fn answer_words(rt: &HostRuntime) -> Result<u8, UsageFault> {
     let words = words_of(rt)?;
@@ -37,14 +50,29 @@ fn answer_words(rt: &HostRuntime) -> Result<u8, UsageFault> {
     for word in words.iter() {
         names.push(word.as_str()).map_err(|_| UsageFault::Memory)?;
     }
-    let options = read_options(rt.alloc(), names.as_slice())?;
-    let mut files = HostFiles::new(rt);
+    let call = match call_words(rt.alloc(), names.as_slice()) {
+        Ok(call) => call,
+        Err(fault) => return Err(usage_fault(rt, fault)),
+    };
+    let options = read_options(rt.alloc(), call.words.as_slice())?;
+    let is_wide = Cell::new(false);
+    let mut files = SavedFiles::new(HostFiles::new(rt), &options, &is_wide);
+    let mut outputs = HostOutputs::new(rt);
     let mut output = Output::new(rt.stdout());
     // Printed only if somebody still reads the output. The space for a fault's line exists from the
     // beginning, also if memory runs out.
     let room = Vec::with_capacity(rt.alloc(), 512).map_err(|_| UsageFault::Memory)?;
     let mut told = Device::new(room);
-    let status = answer_by_machine(rt.alloc(), &options, &mut files, &mut output, &mut told);
+    let status = answer_to(
+        rt.alloc(),
+        &options,
+        call.out,
+        &mut files,
+        &mut outputs,
+        &mut output,
+        &mut told,
+    );
+    note_wide(is_wide.get(), status, &mut told);
     if !output.is_closed() {
         let _ = write_all(&mut Device::new(rt.stderr()), told.into_inner().as_slice());
     }

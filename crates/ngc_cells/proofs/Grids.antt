@@ -39,3 +39,8 @@ row_fits corner half zero rows k h small less = absurd (omega arith)
 row_fits corner half (suc w) rows k h small less =
     let e : k < rows * suc w = omega arith in
     index_fits corner half (k / suc w) rows h small (div_below k (suc w) rows (omega arith) e)
+
+pub middle_near : (corner : ℤ) (half i count : ℕ) → unsigned_abs corner ≤ 2000000000 → (corner +ℤ pos (2 * count * half)) ≤ℤ pos 2000000000 → i < count → unsigned_abs (middle_of corner half i) ≤ 2000000000
+middle_near corner half i count h small less =
+    let p = mul-le (2 * i + 1) half (2 * count) half (omega arith) (omega arith) in
+    omega (arith, ints, h, small, p)

@@ -1,7 +1,7 @@
 -- One row more of a map's cells.
-use Rattle.std.proofs.Common.{◌≡◌, ℕ, ◌+◌, ◌*◌, ◌-◌, ◌<◌, ◌≤◌, ℤ, ◌↔◌, inl, inr, sym, ◌∙◌, ap, ap₂, subst, arith, List, get_or, min}
+use Rattle.std.proofs.Common.{◌≡◌, ℕ, zero, suc, ◌+◌, ◌*◌, ◌-◌, ◌/◌, ◌%◌, ◌<◌, ◌≤◌, ℤ, ◌↔◌, inl, inr, sym, ◌∙◌, ap, ap₂, subst, arith, List, get_or, min}
 use Rattle.std.proofs.lemmas.Bool.{cases_lt}
-use Rattle.std.proofs.lemmas.Nat.{div-mul-add, mod-mul-add}
+use Rattle.std.proofs.lemmas.Nat.{div-mul-add, mod-mul-add, div-add-mod', mul-le, mod_below, div_below}
 use Rattle.ngc_cells.specs.declared.cells.Peak.{Peak}
 use Rattle.ngc_cells.specs.declared.grid.Grid.{Grid}
 use Rattle.ngc_cells.specs.declared.span.Span.{Span}
@@ -99,3 +99,58 @@ row_found g s r row first end span heights p known found =
 
 pub later_peak : (g : Grid) (s : Stretch) (r m n : ℕ) (heights : List ℕ) (p : Peak) → m ≤ n → IsNearPeak g s r heights m p → IsNearPeak g s r heights n p
 later_peak g s r m n heights p h i = record { cell = omega (arith, i.cell); near = i.near; height = i.height }
+
+-- ---- the rows before and after those that are looked at
+
+-- of the rows, those that aren't from the first to the one before the end are far
+pub record AreRows (g : Grid) (s : Stretch) (r first end : ℕ) : Type 0 where
+  pub far : (row : ℕ) → row < g.rows → ¬ ((first ≤ row) × (row < end)) → (x : ℤ) → ¬ (IsNear s r (spot x (middle_of g.corner.y g.half row)))
+
+some_of : (w h k : ℕ) → k < w * h → 0 < w
+some_of zero h k less = absurd (omega (arith, less))
+some_of (suc w) h k less = omega arith
+
+some_columns : (g : Grid) (k : ℕ) → k < g.columns * g.rows → 0 < g.columns
+some_columns g k less = some_of g.columns g.rows k less
+
+far_cell : (g : Grid) (s : Stretch) (r first end k : ℕ) → AreRows g s r first end → k < g.columns * g.rows → ¬ ((first ≤ k / g.columns) × (k / g.columns < end)) → ¬ (IsNear s r (centre g k))
+far_cell g s r first end k known less out =
+    known.far (k / g.columns) (div_below k g.columns g.rows (some_columns g k less) (omega (arith, less))) out (middle_of g.corner.x g.half (k % g.columns))
+
+pub early_far : (g : Grid) (s : Stretch) (r first end k : ℕ) → AreRows g s r first end → k < g.columns * g.rows → k < first * g.columns → ¬ (IsNear s r (centre g k))
+early_far g s r first end k known less early =
+    far_cell g s r first end k known less
+    (λ p. let d = div-add-mod' k g.columns in let m = mul-le first g.columns (k / g.columns) g.columns p.0 (omega arith) in absurd (omega (arith, early, d, m)))
+
+pub late_far : (g : Grid) (s : Stretch) (r first end row k : ℕ) → AreRows g s r first end → k < g.columns * g.rows → end ≤ row → row * g.columns ≤ k → ¬ (IsNear s r (centre g k))
+late_far g s r first end row k known less past late =
+    far_cell g s r first end k known less
+    (λ p.
+    let d = div-add-mod' k g.columns in
+    let b = mod_below k g.columns (some_columns g k less) in
+    let m = mul-le (k / g.columns + 1) g.columns row g.columns (omega (arith, p.1, past)) (omega arith) in
+    absurd (omega (arith, late, d, m, b)))
+
+pub unlowered : (g : Grid) (s : Stretch) (r level k old new : ℕ) → ¬ (IsNear s r (centre g k)) → new ≡ old → IsLowered g s r level k old new
+unlowered g s r level k old new far same = record { near = λ h. absurd (far h); other = λ f. same }
+
+-- all cells, after the last of those rows
+pub all_lowered : (g : Grid) (s : Stretch) (r level first end row : ℕ) (start new : List ℕ) → AreRows g s r first end → end ≤ row →
+    ((k : ℕ) → k < row * g.columns → IsLowered g s r level k (get_or start k 0) (get_or new k 0)) →
+    ((k : ℕ) → row * g.columns ≤ k → get_or new k 0 ≡ get_or start k 0) →
+    (k : ℕ) → k < g.columns * g.rows → IsLowered g s r level k (get_or start k 0) (get_or new k 0)
+all_lowered g s r level first end row start new known past done rest k less =
+    elim (cases_lt k (row * g.columns)) [
+      | inl early ↦ done k early
+      | inr late ↦ unlowered g s r level k (get_or start k 0) (get_or new k 0) (late_far g s r first end row k known less past late) (rest k late)
+    ]
+
+-- none of all cells is higher
+pub all_most : (g : Grid) (s : Stretch) (r first end row : ℕ) (heights : List ℕ) (peak : ℕ) → AreRows g s r first end → end ≤ row →
+    ((k : ℕ) → k < row * g.columns → IsNear s r (centre g k) → get_or heights k 0 ≤ peak) →
+    (k : ℕ) → k < g.columns * g.rows → IsNear s r (centre g k) → get_or heights k 0 ≤ peak
+all_most g s r first end row heights peak known past most k less near =
+    elim (cases_lt k (row * g.columns)) [
+      | inl early ↦ most k early near
+      | inr late ↦ absurd (late_far g s r first end row k known less past late near)
+    ]

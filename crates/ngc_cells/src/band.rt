@@ -1,4 +1,4 @@
-ghost use Rattle.std.specs.Prelude.{◌≡◌, ◌≢◌, ℤ, pos, ◌+ℤ◌, ◌*ℤ◌, ◌-ℤ◌, ◌≤ℤ◌, ◌≤◌, ◌*◌, ◌^◌, ◌↔◌, unsigned_abs, IsTrue};
+ghost use Rattle.std.specs.Prelude.{◌≡◌, ◌≢◌, ℤ, pos, ◌+ℤ◌, ◌*ℤ◌, ◌-ℤ◌, ◌≤ℤ◌, ◌≤◌, ◌*◌, ◌^◌, ◌↔◌, unsigned_abs};
 ghost use Rattle.ngc_fixed_length.specs.Roots.{IsRootFloor};
 ghost use Rattle.ngc_cells.specs.Stretches.{REACH, RADIUS_LIMIT, PARTS_LIMIT, IsSpot, IsStretch, ahead, middle, square, IsAround};
 ghost use Rattle.ngc_cells.specs.Stretches.{squared_length, along, aside, IsAlong, IsClose, IsBand, IsWidth, IsNear, IsPast, spot};
@@ -253,20 +253,17 @@ fn beside_span(stretch: &Stretch, width: u64, y: i64) -> Span
     }
 }
 
-/// Returns whether a row is farther than `radius` from both ends of a line, on the same side.
-fn is_past(start: i64, end: i64, radius: u32, y: i64) -> bool
-    requires start { unsigned_abs start ≤ REACH }
-    requires end { unsigned_abs end ≤ REACH }
-    requires y { unsigned_abs y ≤ REACH }
-    ensures { IsTrue result → IsPast start end radius y }
+/// Returns the rows, by their Y, that are at most `radius` beyond the ends of a stretch's line. In all
+/// other rows no point is near.
+pub(crate) fn reach_span(stretch: &Stretch, radius: u32) -> Span
+    requires { IsStretch stretch.now }
+    ensures { (y : ℤ) → ¬ (IsIn result y) → IsPast stretch.now.start.y stretch.now.end.y radius y }
 {
-    let radius = i64::from(radius);
-    if start + radius < y {
-        end + radius < y
-    } else if y < start - radius {
-        y < end - radius
-    } else {
-        false
+    let (start, end) = (stretch.start.y, stretch.end.y);
+    let radius = i128::from(radius);
+    Span {
+        low: i128::from(start.min(end)) - radius,
+        high: i128::from(start.max(end)) + radius,
     }
 }
 
@@ -279,9 +276,6 @@ pub(crate) fn near_span(stretch: &Stretch, radius: u32, width: u64, y: i64) -> S
     requires y { unsigned_abs y ≤ REACH }
     ensures { (x : ℤ) → IsIn result x ↔ IsNear stretch.now radius (spot x y) }
 {
-    if is_past(stretch.start.y, stretch.end.y, radius, y) {
-        return Span::none();
-    }
     let first = around_span(stretch, stretch.part, radius, y);
     let last = around_span(stretch, stretch.part + 1, radius, y);
     first.hull(last).hull(beside_span(stretch, width, y))

@@ -1,8 +1,8 @@
-ghost use Rattle.std.specs.Prelude.{◌≡◌, ℕ, ◌+◌, ◌*◌, ◌<◌, ◌≤◌, ◌⊎◌, min, length, slice_index, IfOk, IfSome, IfNone, replicate};
-ghost use Rattle.ngc_cells.specs.Stretches.{RADIUS_LIMIT, IsStretch};
-ghost use Rattle.ngc_cells.specs.Grids.{IsGrid, AreLowered, AreBelow, IsPeak, IsFoundIn};
+ghost use Rattle.std.specs.Prelude.{◌≡◌, ℕ, ℤ, ◌+◌, ◌*◌, ◌<◌, ◌≤◌, ◌⊎◌, min, length, slice_index, IfOk, IfSome, IfNone, replicate};
+ghost use Rattle.ngc_cells.specs.Stretches.{RADIUS_LIMIT, IsNear, IsStretch, spot};
+ghost use Rattle.ngc_cells.specs.Grids.{IsGrid, middle_of, AreLowered, AreBelow, IsPeak, IsFoundIn};
 
-use crate::band::{near_span, width};
+use crate::band::{near_span, reach_span, width};
 use crate::grid::{Grid, Indices, indices_in, middle_of};
 use crate::stretch::Stretch;
 
@@ -26,6 +26,19 @@ fn lower_cells(heights: &mut [u32], first: usize, end: usize, level: u32)
     }
 }
 
+/// Returns the rows that may have a point which is at most `radius` from a stretch.
+fn near_rows(grid: &Grid, stretch: &Stretch, radius: u32) -> Indices
+    requires grid { IsGrid grid.now }
+    requires stretch { IsStretch stretch.now }
+    ensures first { result.first ≤ grid.now.rows }
+    ensures within { result.end ≤ grid.now.rows }
+    ensures far { (row : ℕ) → row < grid.now.rows → ¬ ((result.first ≤ row) × (row < result.end))
+        → (x : ℤ) → ¬ (IsNear stretch.now radius (spot x (middle_of grid.now.corner.y grid.now.half row))) }
+{
+    let span = reach_span(stretch, radius);
+    indices_in(grid.corner.y, grid.half, grid.rows, &span)
+}
+
 /// Lowers the cells whose centres are at most `radius` from a stretch to a level at most. Any other
 /// cell keeps its height.
 pub fn lower(grid: &Grid, heights: &mut [u32], stretch: &Stretch, radius: u32, level: u32)
@@ -36,7 +49,8 @@ pub fn lower(grid: &Grid, heights: &mut [u32], stretch: &Stretch, radius: u32, l
     ensures { AreLowered grid.now stretch.now radius level heights.old heights.new }
 {
     let width = width(stretch, radius);
-    for row in 0..grid.rows {
+    let rows = near_rows(grid, stretch, radius);
+    for row in rows.first..rows.end {
         let y = middle_of(grid.corner.y, grid.half, row);
         let span = near_span(stretch, radius, width, y);
         let indices = indices_in(grid.corner.x, grid.half, grid.columns, &span);
@@ -92,7 +106,8 @@ pub fn highest_above(
         cell: 0,
         height: level,
     };
-    for row in 0..grid.rows {
+    let rows = near_rows(grid, stretch, radius);
+    for row in rows.first..rows.end {
         let y = middle_of(grid.corner.y, grid.half, row);
         let span = near_span(stretch, radius, width, y);
         let indices = indices_in(grid.corner.x, grid.half, grid.columns, &span);

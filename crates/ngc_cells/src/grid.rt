@@ -67,7 +67,8 @@ fn limited(number: i128) -> i128
 
 /// Returns the first of the indices below `count` that is at least a number, or `count`.
 fn first_from(number: i128, count: u32) -> u32
-    ensures { (i : ℕ) → i < count → (result ≤ i) ↔ (number ≤ℤ pos i) }
+    ensures within { result ≤ count }
+    ensures value { (i : ℕ) → i < count → (result ≤ i) ↔ (number ≤ℤ pos i) }
 {
     if number <= 0 {
         0
@@ -97,6 +98,7 @@ pub(crate) fn indices_in(corner: i64, half: u32, count: u32, span: &Span) -> Ind
     requires corner { unsigned_abs corner ≤ REACH }
     requires half { 0 < half }
     requires fits { 2 * count * half ≤ 2 * REACH }
+    ensures first { result.first ≤ count }
     ensures within { result.end ≤ count }
     ensures are { (i : ℕ) → i < count
         → ((result.first ≤ i) × (i < result.end)) ↔ IsIn span.now (middle_of corner half i) }

@@ -13,7 +13,7 @@ const FROM: Argument<'static> = Argument {
     is_named: true,
     is_required: true,
     takes: Takes::Text("CONTROL"),
-    help: "Control that the part program is written for:\nlinuxcnc, grbl, mach3 or fanuc",
+    help: "Control that the part program is written for:\nlinuxcnc, grbl, mach3 or fanuc; also `--dialect`",
 };
 
 const MACHINE: Argument<'static> = Argument {

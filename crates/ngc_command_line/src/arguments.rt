@@ -15,6 +15,8 @@ macro_rules! help_end {
             $example,
             "
 
+`--out FILE` writes the output to a file: whole, or not at all.
+
 Exit status:
   0  done
   1  input could not be read, output not written, or memory ran out

@@ -172,7 +172,8 @@ pub(crate) fn shell() -> &'static [Row]
             answer: "`ngc: fault 902`",
             place: Some("1"),
             mend: "What was written is a prefix of the output. Where a pipe was closed, as by `head`, the status is\n\
-             the same, but no line is written.",
+             the same, but no line is written. With `--out` the file is as it was, and a second line says why:\n\
+             the file is one that the command reads, or it can't be made or written.",
         },
     ];
     ROWS

@@ -8,3 +8,7 @@ pub mod Reports
 pub mod Chords
 -- The heights after one chord more, and after one list of chords and then another.
 pub mod Sweeps
+-- Where the end of a feed needn't be cut again: its last piece is as low there.
+pub mod Ends
+-- How far a tip is below a top, by how far it is from a bottom.
+pub mod Depths

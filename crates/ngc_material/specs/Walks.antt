@@ -12,6 +12,7 @@ use Rattle.ngc_commands.specs.declared.movement.Pace.TheVariants.{Rapid, Feed}
 use Rattle.ngc_commands.specs.declared.reached.Reached.{Reached}
 use Rattle.ngc_commands.specs.Reached.{after}
 use Rattle.ngc_stock.specs.declared.stock.Stock.{Stock}
+use Rattle.ngc_stock.specs.Changes.{tool_number}
 use Rattle.ngc_stock.specs.Walk.{IsStep, AreCut}
 use Rattle.ngc_material.specs.Touches.{IsInWay, IsDeepest}
 use Rattle.ngc_material.specs.declared.touch.Touch.{Touch}
@@ -28,15 +29,11 @@ IsTouched s None action old new touch = ⊥
 IsTouched s (Some t) (Move m) old new touch = IsTouchedOn s t m.way m.pace old new touch
 IsTouched s (Some t) _ old new touch = ⊥
 
-abbrev pub number_of : Option Tool → ℕ
-number_of None = 0
-number_of (Some t) = t.number
-
 -- a command with this index may touch material
 pub record IsFound (s : Stock) (mounted : Option Tool) (index : ℕ) (c : Command) (old new : List ℕ) (f : Found) : Type 0 where
   pub command : f.command ≡ index
   pub line : f.line ≡ c.line
-  pub tool : f.tool ≡ number_of mounted
+  pub tool : f.tool ≡ tool_number mounted
   pub touch : IsTouched s mounted c.action old new f.touch
 
 -- a command is silent, or it is added to what is found

@@ -42,6 +42,9 @@ pub(crate) fn cut(stock: &Stock, heights: &mut [u32], tool: &Tool, line: &Line)
         let level = piece_level(stock, tool, line, part);
         lower(&stock.grid, heights, &line.piece(part), radius, level);
     }
+    // A level feed, or one that climbs, is as low in its last piece.
     let level = end_level(stock, tool, line);
-    lower(&stock.grid, heights, &line.end_point(), radius, level);
+    if level < piece_level(stock, tool, line, line.pieces() - 1) {
+        lower(&stock.grid, heights, &line.end_point(), radius, level);
+    }
 }

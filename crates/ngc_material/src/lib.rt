@@ -1,7 +1,8 @@
 //! A walk over the commands of a machine that keeps the heights of the material that feeds leave, and
-//! finds straight traverses that may touch it.
+//! finds straight traverses that may touch it; tool changes below the top of a stock.
 #![tactic(auto)]
 
+mod change;
 mod chord;
 mod cutter;
 mod cutting;
@@ -14,6 +15,7 @@ mod sweep;
 mod touch;
 mod walk;
 
+pub use change::change_at;
 pub use cutter::{is_thin, margin};
 pub use touch::Touch;
 pub use walk::{Found, WalkFault, find_touches};

@@ -21,7 +21,7 @@ fn same(one: Nm, other: Nm) -> bool
 }
 
 /// Returns a point's place in the plane.
-fn flat(point: &Point3) -> Spot
+pub(crate) fn flat(point: &Point3) -> Spot
     ensures { result ≡ flat point.now }
 {
     Spot {

@@ -3,8 +3,9 @@ ghost use Rattle.std.specs.Prelude.{◌≡◌, ◌↔◌, IfOk, IfErr, OnOk, IsT
 ghost use Rattle.ngc_cells.specs.Grids.{IsGrid};
 ghost use Rattle.ngc_stock.specs.Walk.{uncut};
 ghost use Rattle.ngc_material.specs.Heights.{are_reached, is_action_reached};
-ghost use Rattle.ngc_material.specs.Walks.{AreFound, IsFollowed, number_of};
+ghost use Rattle.ngc_material.specs.Walks.{AreFound, IsFollowed};
 
+use crate::change::tool_number;
 use crate::material::Material;
 use crate::reach::are_reached;
 use crate::touch::Touch;
@@ -34,15 +35,6 @@ pub enum WalkFault {
     Far,
 }
 
-fn number_of(tool: &Option<Tool>) -> u32
-    ensures { result ≡ number_of tool.now }
-{
-    match tool {
-        Some(tool) => tool.number,
-        None => 0,
-    }
-}
-
 // Follows a command with its index and the mounted tool. If it may touch material, it is added to what
 // is found.
 fn follow<A: Allocator>(
@@ -61,7 +53,7 @@ fn follow<A: Allocator>(
         found.push(Found {
             command: index,
             line: command.line,
-            tool: number_of(tool),
+            tool: tool_number(tool),
             touch,
         })?;
     }

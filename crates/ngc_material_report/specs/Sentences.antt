@@ -1,10 +1,15 @@
--- How traverses that may touch material are written, in words and as facts of a JSON document. Our
--- own.
+-- How traverses that may touch material, and tool changes in it, are written, in words and as facts of a
+-- JSON document. Our own.
 use Rattle.std.specs.Prelude.{ℕ, ◌+◌, ◌-◌, ◌*◌, ◌/◌, nat_lt, ◌-ℤ◌, unsigned_abs, List, [], ◌++◌, codes, decimal, length, take, slice_get, flat_map, Option, Some, None, if◌then◌else◌}
 use Rattle.ngc_text.specs.Millimetres.{sign_text, size_text}
 use Rattle.ngc_machine_files.specs.declared.tools.Tool.{Tool}
+use Rattle.ngc_commands.specs.declared.command.Command.{Command}
+use Rattle.ngc_commands.specs.declared.reached.Reached.{Reached}
 use Rattle.ngc_cells.specs.declared.grid.Grid.{Grid}
 use Rattle.ngc_cells.specs.declared.stretch.Spot.{Spot}
+use Rattle.ngc_stock.specs.declared.change.Change.{Change}
+use Rattle.ngc_stock.specs.declared.stock.Stock.{Stock}
+use Rattle.ngc_stock.specs.Changes.{changes}
 use Rattle.ngc_stock.specs.Stocks.{margin, radius, reduction}
 use Rattle.ngc_material.specs.declared.walk.Found.{Found}
 use Rattle.ngc_report.specs.declared.form.Form.{Form}
@@ -65,6 +70,38 @@ abbrev pub touches_text : Form → ℕ → Spot → List Found → List ℕ
 touches_text Words most origin found =
     flat_map (touch_words origin) (take most found) ++ count_words most found
 touches_text Json most origin found = flat_map (touch_fact origin) found
+
+-- ---- a tool change below the stock's top
+
+unfoldable pub low_words : Change → List ℕ
+low_words c =
+    codes "Line " ++ decimal c.line ++ codes " changes the tool below the stock's top: tool " ++ decimal c.tool
+    ++ codes " is " ++ size_text c.depth ++ codes " mm below it at X "
+
+unfoldable pub change_words : Spot → Change → List ℕ
+change_words origin c = low_words c ++ place_words origin c.place
+
+unfoldable pub low_fact : Change → List ℕ
+low_fact c =
+    codes ",\n{\"fact\":\"material\",\"kind\":\"change\",\"certain\":false,\"line\":" ++ decimal c.line
+    ++ codes ",\"command\":" ++ decimal c.command ++ codes ",\"tool\":" ++ decimal c.tool
+    ++ codes ",\"part\":0,\"depth\":" ++ decimal c.depth ++ codes ",\"at\":["
+
+unfoldable pub change_fact : Spot → Change → List ℕ
+change_fact origin c = low_fact c ++ place_fact origin c.place
+
+abbrev pub change_text : Form → Spot → Change → List ℕ
+change_text Words origin c = change_words origin c
+change_text Json origin c = change_fact origin c
+
+-- of a command that may be one
+abbrev pub change_line : Form → Spot → Option Change → List ℕ
+change_line form origin None = []
+change_line form origin (Some c) = change_text form origin c
+
+-- those of a program, from a state
+abbrev pub changes_text : Form → Spot → Stock → Reached → List Command → List ℕ
+changes_text form origin s r commands = flat_map (change_text form origin) (changes s r 0 commands)
 
 -- ---- what isn't tested
 

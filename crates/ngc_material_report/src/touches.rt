@@ -38,7 +38,7 @@ fn nanometres(from: &i64, to: &i64) -> Part<'static>
     Part::Number(u128::from(to.abs_diff(*from)))
 }
 
-fn number(count: u32) -> Part<'static>
+pub(crate) fn number(count: u32) -> Part<'static>
     ensures { part_text result ≡ decimal count }
 {
     Part::Number(u128::from(count))
@@ -57,7 +57,7 @@ fn say_deep_words<W: Sink>(found: &Found, page: &mut Page, output: &mut W)
     say!(page, output; b"Line ", number(found.line), b" may touch material at traverse: tool ", number(found.tool), b" is at most ", size(found.touch.depth), b" mm deep at X ");
 }
 
-fn say_place_words<W: Sink>(origin: &Spot, place: &Spot, page: &mut Page, output: &mut W)
+pub(crate) fn say_place_words<W: Sink>(origin: &Spot, place: &Spot, page: &mut Page, output: &mut W)
     ensures { Says (W.written output.old) (W.written output.new)
         (W.failures output.old) (W.failures output.new) page.old page.new (place_words origin.now place.now) }
 {
@@ -79,7 +79,7 @@ fn say_deep_fact<W: Sink>(found: &Found, page: &mut Page, output: &mut W)
     say!(page, output; b",\n{\"fact\":\"material\",\"kind\":\"traverse\",\"certain\":false,\"line\":", number(found.line), b",\"command\":", Part::Number(found.command as u128), b",\"tool\":", number(found.tool), b",\"part\":0,\"depth\":", number(found.touch.depth), b",\"at\":[");
 }
 
-fn say_place_fact<W: Sink>(origin: &Spot, place: &Spot, page: &mut Page, output: &mut W)
+pub(crate) fn say_place_fact<W: Sink>(origin: &Spot, place: &Spot, page: &mut Page, output: &mut W)
     ensures { Says (W.written output.old) (W.written output.new)
         (W.failures output.old) (W.failures output.new) page.old page.new (place_fact origin.now place.now) }
 {

@@ -167,7 +167,7 @@ setting_text form origins first named s setup commands motions found h lines =
     ++ (report_text form (fit_lines setup.machine commands motions)
     ++ (duration_text form setup.tools commands found.time
     ++ (remarks form s setup h commands lines
-    ++ material_text form setup.machine setup.tools found.material)))
+    ++ material_text form setup.machine setup.tools commands found.material)))
 
 -- the warnings about the machine and its tools
 abbrev pub shop_text : Form → Setup → List ℕ

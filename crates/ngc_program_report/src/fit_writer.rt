@@ -203,19 +203,22 @@ fn write_remarks<A: Allocator, W: Sink>(
     write_setting_warnings(subject, setting, execution, output)
 }
 
-// Writes which traverses of a setting may touch the material of the machine.
+// Writes which traverses of a setting may touch the material of the machine, and which of its commands
+// change a tool in it.
 fn write_stock<A: Allocator, W: Sink>(
     subject: &Subject<A>,
+    commands: &[Command],
     fit: &Fit<A>,
     output: &mut W,
 ) -> Result<(), WriteFault>
     ensures { Writes (W.written output.old) (W.written output.new) (W.failures output.old)
         (W.failures output.new) result
         (material_text subject.now.form (file_of subject.now.machine.now)
-        (tools_of subject.now.tools.now) fit.now.material) }
+        (tools_of subject.now.tools.now) commands.now fit.now.material) }
 {
     let tools = subject.tools.tools();
-    write_material(subject.form, subject.machine, tools, &fit.material, output)
+    let (form, machine) = (subject.form, subject.machine);
+    write_material(form, machine, tools, commands, &fit.material, output)
 }
 
 // Writes what fits at a setting, the time and the figures of the tools there, the lowest heights,
@@ -252,7 +255,7 @@ fn write_setting<A: Allocator, M: MotionList, W: Sink>(
         fit.tips.as_slice(),
         output,
     )?;
-    write_stock(subject, fit, output)
+    write_stock(subject, commands, fit, output)
 }
 
 // Writes the warnings about the machine and its tools.

@@ -6,6 +6,7 @@
 
 mod directive;
 mod files;
+mod outputs;
 mod reader;
 mod row;
 mod text;

@@ -1,11 +1,15 @@
 use crate::directive::Role;
 use crate::files::RowFiles;
+use crate::outputs::RowOutputs;
 use crate::text::{Text, around};
-use ngc_dialect_choice::answer_by_machine;
+use ngc_output_answers::answer_to;
+use ngc_output_words::{CallWords, WordsFault, call_words};
+use ngc_saved_files::{SavedFiles, note_wide};
 use ngc_simulator::{Options, UsageFault, read_options};
 use ngc_test_devices::FailingSink;
 use serde_json::Value;
 use std::alloc::{AllocError, Global};
+use std::cell::Cell;
 
 /// The output of the program, and its status.
 #[derive(Drop)]
@@ -37,16 +41,50 @@ pub struct Row {
     once: Vec<String>,
 }
 
-// Calls `answer_by_machine` without its clauses: they would make the proofs of its callers longer.
-fn outcome_of(alloc: Global, row: &Row, shared: &[Text], options: &Options<'_>) -> Outcome {
-    let mut files = RowFiles::new(alloc, row, shared);
+// Calls `answer_to`, as the program does, without its clauses: they would make the proofs of its callers longer. The
+// output of a row with `--out` is what that file gets, after a line with its name.
+fn outcome_of(
+    alloc: Global,
+    row: &Row,
+    shared: &[Text],
+    options: &Options<'_>,
+    out: Option<&str>,
+) -> Outcome {
+    let is_wide = Cell::new(false);
+    let mut files = SavedFiles::new(RowFiles::new(alloc, row, shared), options, &is_wide);
+    let mut outputs = RowOutputs::new(alloc, row.failing("draft"));
     let mut output = sink(alloc, row.failing("output"));
     let mut errors = sink(alloc, row.failing("errors"));
-    let status = answer_by_machine(alloc, options, &mut files, &mut output, &mut errors);
+    let status = answer_to(
+        alloc,
+        options,
+        out,
+        &mut files,
+        &mut outputs,
+        &mut output,
+        &mut errors,
+    );
+    note_wide(is_wide.get(), status, &mut errors);
+    let output = match out {
+        Some(_) => outputs.written,
+        None => output.taken,
+    };
     Outcome {
         status,
-        output: output.taken,
+        output,
         errors: errors.taken,
+    }
+}
+
+// Returns the outcome of words that are refused.
+fn refused(alloc: Global, fault: UsageFault) -> Result<Outcome, AllocError> {
+    match fault {
+        UsageFault::Usage(text) => Ok(Outcome {
+            status: 2,
+            output: Vec::new(alloc),
+            errors: text.as_bytes().to_vec(alloc)?,
+        }),
+        UsageFault::Memory => Err(AllocError),
     }
 }
 
@@ -105,17 +143,26 @@ impl Row {
         self.once.iter().any(|once| once.as_str() == name)
     }
 
+    // Runs the program with the words of its command.
+    fn outcome_with(
+        &self,
+        alloc: Global,
+        shared: &[Text],
+        call: &CallWords<'_>,
+    ) -> Result<Outcome, AllocError> {
+        match read_options(alloc, call.words.as_slice()) {
+            Ok(options) => Ok(outcome_of(alloc, self, shared, &options, call.out)),
+            Err(fault) => refused(alloc, fault),
+        }
+    }
+
     /// Runs the program on the row's files, and on those that rows share.
     pub fn outcome(&self, alloc: Global, shared: &[Text]) -> Result<Outcome, AllocError> {
         let words: Vec<&str> = self.words.as_str().split_whitespace().collect(alloc)?;
-        match read_options(alloc, words.as_slice()) {
-            Ok(options) => Ok(outcome_of(alloc, self, shared, &options)),
-            Err(UsageFault::Usage(text)) => Ok(Outcome {
-                status: 2,
-                output: Vec::new(alloc),
-                errors: text.as_bytes().to_vec(alloc)?,
-            }),
-            Err(UsageFault::Memory) => Err(AllocError),
+        match call_words(alloc, words.as_slice()) {
+            Ok(call) => self.outcome_with(alloc, shared, &call),
+            Err(WordsFault::Memory) => Err(AllocError),
+            Err(fault) => refused(alloc, UsageFault::Usage(fault.text().to_string(alloc)?)),
         }
     }
 

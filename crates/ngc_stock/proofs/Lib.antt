@@ -6,3 +6,5 @@ pub mod Bounds
 pub mod Arcs
 -- The law of silence, by induction over the commands before a traverse.
 pub mod Silences
+-- A tool change that isn't reported is free of the stock.
+pub mod FreeTools

@@ -2,3 +2,4 @@ pub mod Stocks
 pub mod Arcs
 pub mod Walk
 pub mod Silence
+pub mod Changes

@@ -1,8 +1,20 @@
-//! The law of silence.
+//! The laws of silence.
+ghost use Rattle.ngc_stock.specs.Changes.{FreeChange, FreeChanges};
 ghost use Rattle.ngc_stock.specs.Silence.{Silence};
 
 /// States that no straight traverse meets material that the feeds before it have left, for a cutter
 /// smaller by a margin and raised by a tolerance, if no traverse of the commands is reported.
 pub fn silence()
     ensures { Silence }
+{}
+
+/// States that no point of a stock is in the cutters of the tools before and after a tool change, if
+/// the change isn't reported.
+pub fn free_change()
+    ensures { FreeChange }
+{}
+
+/// States the same of each tool change of a program, if none is reported.
+pub fn free_changes()
+    ensures { FreeChanges }
 {}

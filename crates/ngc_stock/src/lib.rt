@@ -1,8 +1,10 @@
 //! A stock of material, and what the cutters of feeds leave of it: definitions, and the law that a
-//! program whose traverses aren't reported meets nothing that is left.
+//! program whose traverses aren't reported meets nothing that is left; the same of its tool changes.
 #![tactic(auto)]
 
+mod change;
 pub mod laws;
 mod stock;
 
+pub use change::Change;
 pub use stock::Stock;

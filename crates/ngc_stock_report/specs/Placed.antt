@@ -1,5 +1,5 @@
 -- The block of material of a machine file, in cells of the machine. Our own.
-use Rattle.std.specs.Prelude.{◌≡◌, ℕ, ◌*◌, ◌-◌, ◌<◌, ◌≤◌, ◌==◌, nat_le, ℤ, ◌+ℤ◌, ◌-ℤ◌, unsigned_abs, List, slice_get, Option, Some, None, Bool, IsTrue, if◌then◌else◌}
+use Rattle.std.specs.Prelude.{◌≡◌, ℕ, ◌*◌, ◌-◌, ◌<◌, ◌≤◌, ◌==◌, nat_le, ℤ, ◌+ℤ◌, ◌-ℤ◌, unsigned_abs, slice_get, Option, Some, None, Bool, IsTrue, if◌then◌else◌}
 use Rattle.std.specs.Int.{div_ceil}
 use Rattle.ngc_fixed_length.specs.Places.{zero_point}
 use Rattle.ngc_fixed_length.specs.declared.points.Point3.{Point3}

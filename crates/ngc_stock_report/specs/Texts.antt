@@ -1,13 +1,21 @@
 -- What a report says of the material. Our own.
-use Rattle.std.specs.Prelude.{ℕ, List, [], ◌∷◌, ◌++◌, codes, Option, Some, None}
+use Rattle.std.specs.Prelude.{ℕ, List, [], ◌∷◌, ◌++◌, codes, Option, Some, None, Bool, true, false, ◌||◌, if◌then◌else◌}
+use Rattle.ngc_fixed_length.specs.declared.modes.Plane.{Plane}
+use Rattle.ngc_fixed_length.specs.declared.modes.Plane.TheVariants.{XY}
 use Rattle.ngc_fixed_length.specs.declared.points.Point3.{Point3}
 use Rattle.ngc_machine_files.specs.Machine.{MachineFile}
 use Rattle.ngc_machine_files.specs.declared.machine.StockBox.{StockBox}
 use Rattle.ngc_machine_files.specs.declared.tools.Tool.{Tool}
+use Rattle.ngc_commands.specs.declared.command.Action.{Action}
+use Rattle.ngc_commands.specs.declared.command.Action.TheVariants.{Move}
+use Rattle.ngc_commands.specs.declared.command.Command.{Command}
+use Rattle.ngc_commands.specs.declared.movement.Way.{Way}
+use Rattle.ngc_commands.specs.declared.movement.Way.TheVariants.{Line, Arc}
+use Rattle.ngc_commands.specs.Reached.{at_start}
 use Rattle.ngc_cells.specs.Stretches.{spot}
 use Rattle.ngc_cells.specs.declared.stretch.Spot.{Spot}
 use Rattle.ngc_material.specs.declared.walk.Found.{Found}
-use Rattle.ngc_material_report.specs.Sentences.{touches_text, untested_text}
+use Rattle.ngc_material_report.specs.Sentences.{touches_text, changes_text, untested_text}
 use Rattle.ngc_report.specs.declared.form.Form.{Form}
 use Rattle.ngc_report.specs.declared.form.Form.TheVariants.{Words, Json}
 use Rattle.ngc_stock_report.specs.Placed.{origin_at}
@@ -25,14 +33,31 @@ block_origin m (Some b) = spot_of (origin_at m b.system)
 abbrev pub MOST_LINES : ℕ
 MOST_LINES = 10
 
--- arcs in the other planes count at their ends only: a traverse that is reported may go where one has cut
+-- an arc in another plane than that of X and Y
+abbrev pub is_other : Plane → Bool
+is_other XY = false
+is_other _ = true
+
+abbrev pub is_other_way : Way → Bool
+is_other_way (Line a b) = false
+is_other_way (Arc a) = is_other a.plane
+
+abbrev pub is_other_arc : Action → Bool
+is_other_arc (Move m) = is_other_way m.way
+is_other_arc _ = false
+
+abbrev pub has_other_arcs : List Command → Bool
+has_other_arcs [] = false
+has_other_arcs (c ∷ cs) = is_other_arc c.action || has_other_arcs cs
+
+-- such arcs count at their ends only: a traverse that is reported may go where one has cut
 unfoldable pub arcs_words : List ℕ
 arcs_words = codes "Cuts along arcs of G18 and G19 are not counted: the material may be gone there.\n"
 
-abbrev pub arcs_line : Form → List Found → List ℕ
-arcs_line Words [] = []
-arcs_line Words (f ∷ fs) = arcs_words
-arcs_line Json found = []
+abbrev pub arcs_line : Form → List Command → List Found → List ℕ
+arcs_line Words commands [] = []
+arcs_line Words commands (f ∷ fs) = if has_other_arcs commands then arcs_words else []
+arcs_line Json commands found = []
 
 -- the block, or the end of a motion, is too far from the machine's zero
 unfoldable pub far_words : List ℕ
@@ -51,12 +76,17 @@ abbrev pub unwalked_text : Form → Option StockBox → List ℕ
 unwalked_text form None = []
 unwalked_text form (Some b) = far_line form
 
-abbrev pub walk_text : Form → MachineFile → List Tool → WalkData → List ℕ
-walk_text form m tools w =
-    touches_text form MOST_LINES (block_origin m m.stock) w.found
-    ++ (arcs_line form w.found ++ untested_text form w.stock.grid tools)
+-- the tool changes below the top of the material, and what isn't tested
+abbrev pub rest_text : Form → MachineFile → List Tool → List Command → WalkData → List ℕ
+rest_text form m tools commands w =
+    changes_text form (block_origin m m.stock) w.stock (at_start m) commands ++ untested_text form w.stock.grid tools
 
--- the traverses that may touch material, and what isn't tested
-abbrev pub material_text : Form → MachineFile → List Tool → Option WalkData → List ℕ
-material_text form m tools None = unwalked_text form m.stock
-material_text form m tools (Some w) = walk_text form m tools w
+abbrev pub walk_text : Form → MachineFile → List Tool → List Command → WalkData → List ℕ
+walk_text form m tools commands w =
+    touches_text form MOST_LINES (block_origin m m.stock) w.found
+    ++ (arcs_line form commands w.found ++ rest_text form m tools commands w)
+
+-- the traverses that may touch material, the tool changes in it, and what isn't tested
+abbrev pub material_text : Form → MachineFile → List Tool → List Command → Option WalkData → List ℕ
+material_text form m tools commands None = unwalked_text form m.stock
+material_text form m tools commands (Some w) = walk_text form m tools commands w

@@ -2,6 +2,7 @@
 //! of a report about it.
 #![tactic(auto)]
 
+mod arcs;
 mod cells;
 mod grids;
 pub mod laws;

@@ -5,14 +5,16 @@ ghost use Rattle.ngc_text.specs.Failures.{CountsFailure};
 ghost use Rattle.ngc_text.specs.Written.{AppendsPrefix};
 ghost use Rattle.ngc_machine_files.specs.Machine.{file_of};
 ghost use Rattle.ngc_stock_report.specs.Texts.{block_origin, arcs_words, arcs_line, far_words, far_fact, far_line};
-ghost use Rattle.ngc_stock_report.specs.Texts.{unwalked_text, walk_text, material_text};
+ghost use Rattle.ngc_stock_report.specs.Texts.{unwalked_text, rest_text, walk_text, material_text};
 
+use crate::arcs::has_other_arcs;
 use crate::placed::origin_at;
 use crate::walked::Walk;
 use ngc_cells::Spot;
+use ngc_commands::{Command, Reached};
 use ngc_machine_files::{Machine, Tool};
 use ngc_material::Found;
-use ngc_material_report::{write_touches, write_untested};
+use ngc_material_report::{write_changes, write_touches, write_untested};
 use ngc_report::Form;
 use ngc_text::{Sink, WriteFault, write_all};
 use std::alloc::Allocator;
@@ -41,11 +43,17 @@ fn arcs_words() -> &'static [u8]
     b"Cuts along arcs of G18 and G19 are not counted: the material may be gone there.\n"
 }
 
-fn arcs_line(form: Form, found: &[Found]) -> &'static [u8]
-    ensures { result.now ≡ arcs_line form found.now }
+fn arcs_line(form: Form, commands: &[Command], found: &[Found]) -> &'static [u8]
+    ensures { result.now ≡ arcs_line form commands.now found.now }
 {
     match form {
-        Form::Words => { if found.is_empty() { b"" } else { arcs_words() } }
+        Form::Words => {
+            if !found.is_empty() && has_other_arcs(commands) {
+                arcs_words()
+            } else {
+                b""
+            }
+        }
         Form::Json => b"",
     }
 }
@@ -70,45 +78,68 @@ fn unwalked<A: Allocator>(form: Form, machine: &Machine<A>) -> &'static [u8]
     }
 }
 
-fn write_walk<A: Allocator, B: Allocator, W: Sink>(
+// Writes the tool changes below the top of the material, and what isn't tested.
+fn write_rest<A: Allocator, B: Allocator, W: Sink>(
     form: Form,
     machine: &Machine<B>,
     tools: &[Tool],
+    commands: &[Command],
     walk: &Walk<A>,
     output: &mut W,
 ) -> Result<(), WriteFault>
     ensures ok { OnOk result (Appends (W.written output.old) (W.written output.new)
-        (walk_text form (file_of machine.now) tools.now walk.now)) }
+        (rest_text form (file_of machine.now) tools.now commands.now walk.now)) }
     ensures fault { OnErr result (AppendsPrefix (W.written output.old) (W.written output.new)
-        (walk_text form (file_of machine.now) tools.now walk.now)) }
+        (rest_text form (file_of machine.now) tools.now commands.now walk.now)) }
+    ensures counts { CountsFailure (W.failures output.old) (W.failures output.new) result }
+{
+    let origin = block_origin(machine);
+    let start = Reached::at_start(machine);
+    write_changes(form, &origin, &walk.stock, &start, commands, output)?;
+    write_untested(form, &walk.stock.grid, tools, output)
+}
+
+fn write_walk<A: Allocator, B: Allocator, W: Sink>(
+    form: Form,
+    machine: &Machine<B>,
+    tools: &[Tool],
+    commands: &[Command],
+    walk: &Walk<A>,
+    output: &mut W,
+) -> Result<(), WriteFault>
+    ensures ok { OnOk result (Appends (W.written output.old) (W.written output.new)
+        (walk_text form (file_of machine.now) tools.now commands.now walk.now)) }
+    ensures fault { OnErr result (AppendsPrefix (W.written output.old) (W.written output.new)
+        (walk_text form (file_of machine.now) tools.now commands.now walk.now)) }
     ensures counts { CountsFailure (W.failures output.old) (W.failures output.new) result }
 {
     let found = walk.found.as_slice();
     write_touches(form, MOST_LINES, &block_origin(machine), found, output)?;
-    write_all(output, arcs_line(form, found))?;
-    write_untested(form, &walk.stock.grid, tools, output)
+    write_all(output, arcs_line(form, commands, found))?;
+    write_rest(form, machine, tools, commands, walk, output)
 }
 
-/// Writes what a walk has found: the straight traverses that may touch material, and what isn't
-/// tested. Without a block of material nothing is written; if the walk wasn't made because of a
-/// distance, one line says so.
+/// Writes what a walk has found: the straight traverses that may touch material, the tool changes below
+/// its top, and what isn't tested. `commands` are those of the walk. Without a block of material nothing
+/// is written; if the walk wasn't made because of a distance, one line says so.
 ///
 /// After a fault (902, only if the sink failed) a prefix of the text is written.
 pub fn write_material<A: Allocator, B: Allocator, W: Sink>(
     form: Form,
     machine: &Machine<B>,
     tools: &[Tool],
+    commands: &[Command],
     walk: &Option<Walk<A>>,
     output: &mut W,
 ) -> Result<(), WriteFault>
     ensures ok { OnOk result (Appends (W.written output.old) (W.written output.new)
-        (material_text form (file_of machine.now) tools.now walk.now)) }
+        (material_text form (file_of machine.now) tools.now commands.now walk.now)) }
     ensures fault { OnErr result (AppendsPrefix (W.written output.old) (W.written output.new)
-        (material_text form (file_of machine.now) tools.now walk.now)) }
+        (material_text form (file_of machine.now) tools.now commands.now walk.now)) }
     ensures counts { CountsFailure (W.failures output.old) (W.failures output.new) result }
 {
     match walk {
         None => write_all(output, unwalked(form, machine)),
-        Some(walk) => write_walk(form, machine, tools, walk, output),
+        Some(walk) => write_walk(form, machine, tools, commands, walk, output),
     }
 }

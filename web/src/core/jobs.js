@@ -76,6 +76,9 @@ export function makeJobs(source, firstModule, filesNow) {
   };
 }
 
+// The notes of a command for a reader.
+export const notesOf = ({ text, isCut }) => `${text.trim()}${isCut ? ' .. (the notes are longer, and end here)' : ''}`;
+
 const SENTENCES = {
   memory: 'There is not enough memory for this program.',
   trap: 'The checker ended unexpectedly: its stack or its memory may be used up.',

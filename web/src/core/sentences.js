@@ -3,7 +3,7 @@
 import { CONTROLS } from './controls.js';
 import { keptOf } from './facts.js';
 import { AXES } from './systems.js';
-import { atLeast, duration, enough, length } from './units.js';
+import { atLeast, duration, enough, length, plural } from './units.js';
 
 const FREE_RAPIDS = ' Rapids may take any way within the box of their ends.';
 const direction = (axis, isPlus) => `${AXES[axis]}${isPlus ? '+' : '\u2212'}`;
@@ -13,12 +13,30 @@ const small = text => (/^[A-Z][a-z]/.test(text) || /^A /.test(text) ? text[0].to
 export const fixtureName = (number, name) => (name ? `the ${name.replace(/^the /, '')}` : `fixture ${number}`);
 const toolName = (number, name) => (number === null || number === undefined ? 'no tool' : name ? `tool ${number} (${name})` : `tool ${number}`);
 
-// What a fault means, without its heading, its examples and the marks of code.
-export const meaningOf = explanation => (explanation.split('\n\n')[1] ?? '').replace(/`/g, '').replace(/\s+/g, ' ').trim();
+const READING = ['Reading a line', 'Reading a file'], OTHER_CONTROLS = 'Programs for other controls';
+// What is done here for a command or an option.
+const HERE = [['name the table with --tools', 'drop its table here'], ['with ngc certify, and name it with --certificate', 'by Save, Certificate'], ['with ngc certify', 'by Save, Certificate']];
+// Without the marks of code, and without saying which rules are our own.
+function plain(text) {
+  const words = text.replace(/`/g, '').replace(/\s+/g, ' ').replace(/ \([^()]*\bour own\b[^()]*\)/g, '').trim();
+  return HERE.reduce((said, [before, after]) => said.replace(before, after), words);
+}
+// The rows of an explanation, each with its section and its meaning, without its examples.
+const rowsOf = explanation => explanation.split(/^(?=Fault \d+ \()/m).map(row => ({ section: /^Fault \d+ \((.*)\)/.exec(row)?.[1] ?? '', meaning: plain(row.split('\n\n')[1] ?? '') }));
 // The first sentence of a meaning, as what is wrong and what to do: `No feed is set yet: write F ..`
 function causeAndRemedy(meaning) {
   const [, cause, remedy = '', rest = ''] = /^([^:.]*)(?:: ([^.]*(?:\.\d[^.]*)*))?\.?\s*(.*)$/.exec(meaning) ?? ['', meaning];
-  return { cause, remedy: [remedy && `${capital(remedy)}.`, rest].filter(Boolean).join(' ') };
+  return { cause, remedy: remedy && `${capital(remedy)}.`, rest };
+}
+const distinct = (parts, name) => parts.filter((it, at) => parts.findIndex(other => other[name] === it[name]) === at);
+// What a fault says is wrong, and what to do. A number with several rows may be any of those that belong to what was done with the program.
+export function meaningOf(explanation, { isUnreadable = false, dialect = null } = {}) {
+  const rows = rowsOf(explanation), isOther = it => it.section === OTHER_CONTROLS, isReading = it => READING.includes(it.section);
+  const rules = [dialect ? isOther : it => !isOther(it) && isReading(it) === isUnreadable, it => !isReading(it), () => true];
+  const meant = rules.map(rule => rows.filter(rule)).find(it => it.length) ?? [], parts = meant.map(it => causeAndRemedy(it.meaning));
+  const causes = distinct(parts, 'cause').map(({ cause }, at) => (at ? small(cause) : cause));
+  const remedies = distinct(parts, 'remedy').map(({ remedy, rest }, at) => `${at ? `Or: ${small(remedy)}` : remedy} ${rest}`.trim());
+  return { cause: causes.join(', or '), remedy: remedies.join(' ') };
 }
 
 // The ways out of a fixture: up first, since that is what a machinist does, then the shortest ways aside.
@@ -29,16 +47,17 @@ function waysOut(clear, unit) {
   return { up: enough(clear.plus[2], unit), aside: `${enough(least, unit)} toward ${nearest}` };
 }
 
-function fixtureSentence(who, isChange, { command, obstacle, clear }, unit, kept) {
-  const name = fixtureName(obstacle.fixture, obstacle.fixture_name);
-  // With a margin the tool may be clear of the fixture itself.
-  const inMargin = kept.fixtures ? `is within the margin of ${length(kept.fixtures, unit)} around ${name}` : '';
-  if (!clear) return { title: `${who} ${inMargin || `is inside ${name}`}.`, note: inMargin || `is inside ${name}`, detail: 'Move the start point in the machine file, or the fixture.' };
-  const { up, aside } = waysOut(clear, unit);
+function fixtureSentence(who, isChange, { command, obstacle, clear, marginMissing, anyWay }, unit, kept) {
+  const name = fixtureName(obstacle.fixture, obstacle.fixture_name), margin = kept.fixtures ? length(kept.fixtures, unit) : '';
+  const inMargin = `is within the margin of ${margin} around ${name}`;
+  if (!clear) { const what = margin ? inMargin : `is inside ${name}`; return { title: `${who} ${what}.`, note: what, detail: 'Move the start point in the machine file, or the fixture.' }; }
+  // The fixture itself is clear if the margin alone is in the way.
+  const what = `${marginMissing ? inMargin : `${anyWay ? 'may hit' : 'hits'} ${name}`}`, { up, aside } = waysOut(clear, unit);
   const remedy = obstacle.over_from_z === null ? `nothing passes over it within the travel, so move it ${aside}`
     : isChange ? `change the tool ${up} higher, or ${aside}` : `raise it by ${up}, or move it ${aside}`;
-  return { title: `${who} ${inMargin || `hits ${name}`}: ${remedy}.`, note: `${inMargin || `hits ${name}`}: raise by ${up}`,
-    detail: `${capital(toolName(command.tool, command.tool_name))} meets ${inMargin ? 'the margin' : 'it'} on the way. The distances clear this obstacle only; the check runs again as you edit.` };
+  const met = marginMissing ? 'the margin' : 'it', meets = anyWay ? `may meet ${met}: first retract, then move.` : `meets ${met} on the way.`;
+  return { title: `${who} ${what}: ${margin && !marginMissing ? `to keep the margin of ${margin}, ` : ''}${remedy}.`, note: `${what}: raise by ${up}`,
+    detail: `${capital(toolName(command.tool, command.tool_name))} ${meets} The distances clear this obstacle only; the check runs again as you edit.` };
 }
 
 function travelSentence(who, { obstacle, clear }, unit, kept) {
@@ -68,25 +87,42 @@ export function obstacleSentence(entry, unit, kept) {
 function refusedFileSentence(report) {
   const name = report.refusedFile === 'machine' ? 'machine file' : 'tool table';
   const [sentence = '', ...rest] = report.sentence.trim().split('\n').filter(it => !it.startsWith('`ngc explain'));
-  return { kind: 'bad', title: `The ${name} can't be used. ${sentence || meaningOf(report.explanation)}`, detail: rest.join(' ').trim() };
+  return { kind: 'bad', title: `The ${name} can't be used. ${plain(sentence) || `${meaningOf(report.explanation).cause}.`}`, detail: rest.join(' ').trim() };
 }
 
 function refusedSentence(report, group) {
-  const { cause, remedy } = causeAndRemedy(meaningOf(report.explanation)), reason = group.reason?.text;
+  const { cause, remedy } = meaningOf(report.explanation, group), reason = group.reason?.text;
   const what = group.isUnreadable ? "can't be read" : 'is refused';
   // A cause that is about the whole program is a sentence already.
   if (/^The program /.test(cause) && !reason) return { kind: 'bad', line: group.line?.number, note: `${cause}.`, title: `${cause}.`, detail: remedy };
   if (!group.line) return { kind: 'bad', title: `The program ${what}: ${small(reason ?? `${cause}.`)}`, detail: remedy };
-  // A reason says which word is wrong; then the meaning of the fault is the detail.
-  return { kind: 'bad', line: group.line.number, column: group.mark?.column, title: `Line ${group.line.number} ${what}: ${small(reason ?? `${cause}.`)}`,
-    note: reason ?? `${cause}.`, detail: reason ? meaningOf(report.explanation) : remedy };
+  // A reason says which word is wrong.
+  return { kind: 'bad', line: group.line.number, column: group.mark?.column, title: `Line ${group.line.number} ${what}: ${small(reason ?? `${cause}.`)}`, note: reason ?? `${cause}.`, detail: remedy };
 }
 
 // A program in a dialect has no report where it is refused, but one line with what is wrong, as `cutter compensation: not supported`.
 function refusalSentence({ refusal, dialect, explanation }) {
   const { setting, line, column, word } = refusal, words = refusal.words.replace(/^(the|this) dialect has/, `${CONTROLS[dialect]} has`).replace(/^(.*): not supported$/, "ngc doesn't support $1");
   const where = column ? `can't be read at column ${column}` : `is refused${word ? ` at ${word}` : ''}`, when = setting === 'on' ? ' with block delete on' : '';
-  return { kind: 'bad', line, column, note: word ? `${word}: ${words}` : words, title: `Line ${line} ${where}${when}: ${words}.`, detail: meaningOf(explanation) };
+  return { kind: 'bad', line, column, note: word ? `${word}: ${words}` : words, title: `Line ${line} ${where}${when}: ${words}.`, detail: meaningOf(explanation, { dialect }).remedy };
+}
+
+export const isRapid = ({ kind }) => kind === 'traverse';
+// What the report says about a rapid that may go through material that no feed before it has removed, or about a tool change below the top
+// of the block: the words of its card, and the note beside its line.
+export function materialSentence({ kind, tool, depth, at, line }, unit) {
+  const most = enough(depth, unit);
+  if (kind === 'change') return { line, text: `the tool is changed below the top of the material: ${toolName(tool)} is ${length(depth, unit)} below it at X ${length(at[0], unit)}, Y ${length(at[1], unit)}`, note: `tool change ${length(depth, unit)} below the top of the material` };
+  return { line, text: `the rapid may touch material: ${toolName(tool)} is at most ${most} deep at X ${length(at[0], unit)}, Y ${length(at[1], unit)}`, note: `rapid may touch material, at most ${most} deep` };
+}
+const ROUND = 10_000;   // nanometres: the margin of the test is shown to a hundredth of a millimetre, rounded up
+// What is known about rapids and the block of material of the machine file.
+export function materialWords({ material, untestedTools, materialMargin, isMaterialFar }, unit) {
+  if (isMaterialFar) return "Rapids weren't tested against the material: it, or a motion, is more than 2 m from the machine's zero.";
+  if (materialMargin === null) return '';
+  const less = `tested with each tool ${enough(Math.ceil(materialMargin / ROUND) * ROUND, unit)} smaller in radius and a little higher`, thin = untestedTools.map(it => it.tool);
+  const rapids = material.filter(isRapid).length, found = rapids ? `${plural(rapids, 'rapid')} may touch material, ${less}.` : `No rapid touches material that the feeds before it have left, ${less}.`;
+  return `${found}${thin.length ? ` Too thin to be tested: tool ${thin.join(', ')}.` : ''}`;
 }
 
 // The side of the travel with the least left, without the sides where the machine starts: there nothing is left by definition.
@@ -110,24 +146,25 @@ function marginWords(kept, hasFixtures, unit) {
 function fitSentence(group, scene, unit, kept) {
   const near = group.uses.filter(use => use.nearest_fixture !== null).sort((p, q) => p.distance - q.distance)[0];
   const least = tightest(group, scene), { verdict } = group, isNose = verdict.tested === 'nose';
+  const isTouching = near?.distance === 0 && !kept.fixtures;
   // The report counts what is left from the margins on.
   const parts = [least && `${atLeast(least.left, unit)} ${kept.travel ? 'more' : 'left'} toward ${least.toward}`,
     near && `${atLeast(near.distance, unit)} ${kept.fixtures ? 'more ' : ''}from ${fixtureName(near.nearest_fixture, near.fixture_name)}`, group.time && duration(group.time.seconds)].filter(Boolean);
   const motions = `${verdict.motions} motion${verdict.motions === 1 ? '' : 's'}`;
-  const detail = isNose ? `Without a tool only the spindle nose was tested, in ${motions} of lines ${verdict.first} to ${verdict.last}: mount a tool with M6.`
+  const detail = [isNose ? `Without a tool only the spindle nose was tested, in ${motions} of lines ${verdict.first} to ${verdict.last}: mount a tool with M6.`
     : group.hasNoFixtures ? 'The machine file describes no fixtures: only the travel was checked.'
-      : 'Every position is inside the travel and clear of every fixture, whatever the timing.';
+      : 'Every position is inside the travel and clear of every fixture, whatever the timing.', isTouching && `Nothing is left to ${fixtureName(near.nearest_fixture, near.fixture_name)}: to keep a distance, give a margin in the tab Machine.`, materialWords(group, unit)].filter(Boolean).join(' ');
   const fits = `Fits${marginWords(kept, !group.hasNoFixtures, unit)}`;
-  return { kind: 'good', isNose, title: parts.length ? `${fits}: ${parts.join(', ')}.` : `${fits}.`, detail: `${detail}${kept.hasFreeRapids ? FREE_RAPIDS : ''}` };
+  return { kind: 'good', isCareful: isNose || isTouching, title: parts.length ? `${fits}: ${parts.join(', ')}.` : `${fits}.`, detail: `${detail}${kept.hasFreeRapids ? FREE_RAPIDS : ''}` };
 }
 
 function verdictOfProgram(report, group, scene, unit) {
   if (report.refusal) return refusalSentence(report);
   if (!report.facts.length) {
-    const { cause, remedy } = causeAndRemedy(meaningOf(report.explanation));
+    const { cause, remedy } = meaningOf(report.explanation, report);
     return { kind: 'bad', title: cause ? `${cause}.` : 'There is no verdict.', detail: remedy || report.errors };
   }
-  if (!group) return { kind: 'bad', title: 'The program fits at neither setting of block delete.', detail: 'This setting is checked once the other one fits.' };
+  if (!group) return { kind: 'bad', title: "Whether it fits at this setting of block delete isn't known yet.", detail: 'Correct the other setting first.' };
   const kept = keptOf(report.facts);
   if (group.fits) return fitSentence(group, scene, unit, kept);
   if (!group.commands.length) return refusedSentence(report, group);
@@ -136,7 +173,15 @@ function verdictOfProgram(report, group, scene, unit) {
   return { kind: 'bad', line: group.commands[0].command.line ?? 0, title, note, detail: `${origin}${detail}${kept.hasFreeRapids ? FREE_RAPIDS : ''}` };
 }
 
-// Returns { kind, title, detail, line, column, note, isNose }. `kind` is 'good' or 'bad'. The title says whose language was read.
+// What is wrong, for a fault of a report of every place. A fault that can't be read has the column of a mark.
+export const causeOf = (every, { number, isUnreadable }) => meaningOf(every?.meanings[number] ?? '', { isUnreadable }).cause || `fault ${number}`;
+// Why a certificate is refused.
+export function certificateSentence({ name }, { fault, explanation }) {
+  const { cause, remedy } = meaningOf(explanation);
+  return `The certificate ${name} is refused: ${small(cause.replace(/^The certificate /, 'it '))} (fault ${fault}). ${remedy}`;
+}
+
+// Returns { kind, title, detail, line, column, note, isCareful }. `kind` is 'good' or 'bad'. The title says whose language was read.
 export function verdictOf(report, group, scene, unit) {
   if (report.refusedFile) return refusedFileSentence(report);
   const verdict = verdictOfProgram(report, group, scene, unit);

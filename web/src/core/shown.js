@@ -17,6 +17,12 @@ const groupsOfReport = remembered(report => (report ? groupsOf(report.facts) : [
 const contact = remembered(contactOf), keptOfReport = remembered(report => keptOf(report?.facts ?? []));
 
 export const sceneNow = state => current(state, 'scene')?.scene ?? null;
+// The corners of the block of material in the machine, or null.
+export const stockIn = scene => {
+  if (!scene?.stock) return null;
+  const { low, high, system } = scene.stock, origin = system ? scene.origins[system] ?? [0, 0, 0] : [0, 0, 0], placed = corner => corner.map((it, axis) => it + origin[axis]);
+  return { low: placed(low), high: placed(high) };
+};
 export const pathNow = state => current(state, 'path')?.path ?? null;
 // The report's groups, one for each setting of block delete that it covers.
 export const groupsNow = state => groupsOfReport(current(state, 'report'));
@@ -25,8 +31,9 @@ export const keptNow = state => keptOfReport(current(state, 'report'));
 // The group of the report of every place that belongs to the setting, or null.
 export const everyNow = state => groupAt(groupsOfEvery(current(state, 'every')), state.blockDelete);
 export const everyGroupsNow = state => groupsOfEvery(current(state, 'every'));
-// The group of the setting: the report's own, or that of every place if the report stopped before it.
-export const groupNow = state => groupAt(groupsNow(state), state.blockDelete) ?? (current(state, 'report') ? everyNow(state) : null);
+// The group of the setting: the report's own, or that of every place if the report stopped before it. Faults are listed for both settings
+// together, so then nothing is known about this one.
+export const groupNow = state => groupAt(groupsNow(state), state.blockDelete) ?? (current(state, 'report') && !everyNow(state)?.faults.length ? everyNow(state) : null);
 export const entryNow = state => { const group = groupNow(state); return group && !group.fits ? group.commands[0] ?? null : null; };
 export const contactNow = state => contact(entryNow(state), pathNow(state), sceneNow(state), keptNow(state).travel);
 // Whether the page asks for the program's control: it was opened, or there is no answer yet and a program as it was dropped looks like one.

@@ -31,7 +31,7 @@ export function makeStore(reduce, first) {
   };
 }
 
-const SLOTS = ['report', 'every', 'scene', 'path', 'index', 'place', 'certificate', 'search', 'drawing'];
+const SLOTS = ['report', 'every', 'remarks', 'scene', 'path', 'index', 'place', 'certificate', 'search', 'drawing'];
 const EMPTY = { key: '', status: 'none', value: null, failure: null, begun: 0, took: 0 };
 
 export const firstState = {
@@ -62,7 +62,7 @@ export const inputsKey = state =>
   `${[state.files.program, state.files.machine, state.files.tools].map(it => it?.version ?? 0).join('.')} ${JSON.stringify(changesOf(state))}`;
 export const shownKey = state => `${inputsKey(state)} ${state.blockDelete}`;
 export const keyOf = {
-  report: inputsKey, every: inputsKey, place: inputsKey, path: shownKey,
+  report: inputsKey, every: inputsKey, remarks: inputsKey, place: inputsKey, path: shownKey,
   drawing: state => `${shownKey(state)} ${state.drawing}`,
   scene: state => `${state.files.machine?.version}.${state.files.tools?.version} ${JSON.stringify(state.origins)}`,
   index: state => String(state.files.program?.base),

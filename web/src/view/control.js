@@ -4,16 +4,15 @@ import { CONTROLS, OWN } from '../core/controls.js';
 import { asksNow } from '../core/shown.js';
 import { fill, h, id } from './dom.js';
 
-const LANGUAGES = { [OWN]: 'own language', ...CONTROLS };
+const LANGUAGES = { [OWN]: 'no control', ...CONTROLS };
 
-// The choice as an element. It is disabled for examples and rewritten programs, which are in our own language.
+// The choice as an element. Examples and rewritten programs are in our own language, so they have none.
 export function makeChoice(store, actions) {
-  const choice = h('select', { id: 'language', 'aria-label': 'Control that the program is for', autocomplete: 'off', onchange: () => actions.setControl(choice.value) },
+  const choice = h('select', { id: 'language', 'aria-label': 'Control that the program is for', title: 'Control whose language the program is read in', autocomplete: 'off', onchange: () => actions.setControl(choice.value) },
     Object.entries(LANGUAGES).map(([value, name]) => h('option', { value }, name)));
   store.watch(state => [state.files.program?.isOwn, state.control], (isOwn, control) => {
     choice.value = isOwn ? OWN : control ?? OWN;
-    choice.disabled = Boolean(isOwn);
-    choice.title = isOwn ? 'Examples and rewritten programs are read in our own language' : 'Whose language the program is read in';
+    choice.disabled = choice.hidden = Boolean(isOwn);
   });
   return choice;
 }

@@ -31,6 +31,14 @@ function coloured(text) {
   return [...parts, text.slice(at)].filter(it => it !== '');
 }
 
+// The text of a line, with the word at a column underlined. Columns count bytes, so they are known after plain characters only.
+function marked(text, column) {
+  const before = text.slice(0, column - 1);
+  if (!column || before.length < column - 1 || /[^\x20-\x7e\t]/.test(before)) return coloured(text);
+  const [word = ''] = /^.[^\sA-Za-z#(;]*/.exec(text.slice(column - 1)) ?? [];
+  return word ? [...coloured(before), h('u', {}, word), ...coloured(text.slice(column - 1 + word.length))] : coloured(text);
+}
+
 export function makeEditor(store, actions) {
   const box = id('editor'), rows = id('rows'), spacer = id('spacer'), marks = id('marks'), said = id('said'), query = id('query'), hits = id('hits');
   let top = 0, frame = 0, field = null, anchor = 0, isOurs = false, hit = -1, lastEdit = 0, width = 0;
@@ -54,7 +62,7 @@ export function makeEditor(store, actions) {
     row.querySelector('.note')?.remove();
     if (!isEdited) {
       const isLong = text().lengthOf(line - 1) > LONGEST;
-      row.append(h('span', { class: 'code-text' }, coloured(text().line(line - 1, LONGEST)), isLong ? h('span', { class: 'cut' }, ` \u2026 ${size(text().lengthOf(line - 1))}`) : null));
+      row.append(h('span', { class: 'code-text' }, marked(text().line(line - 1, LONGEST), note?.column), isLong ? h('span', { class: 'cut' }, ` \u2026 ${size(text().lengthOf(line - 1))}`) : null));
     } else if (!field.row) { row.append(field.element); field.row = row; }
     if (note) row.append(h('span', { class: 'note' }, note.text));
     return row;

@@ -3,10 +3,11 @@
 import { MOST_MARGIN, NO_DEMANDS, hasDemands, isMargin } from '../core/changes.js';
 import { current, failureOf } from '../core/store.js';
 import { sentenceOfFailure } from '../core/jobs.js';
-import { AXES } from '../core/systems.js';
+import { AXES, SYSTEMS } from '../core/systems.js';
 import { inUnit, typedLength } from '../core/units.js';
 import { fill, h, id, table } from './dom.js';
 
+const MOST_TOOL = 9999;
 const listOf = text => text.trim().split(/[\s,;x\u00d7]+/).filter(Boolean);
 
 // The margins and the way of rapids of this check. An empty field leaves what the machine file says.
@@ -37,21 +38,45 @@ export function makeMachine(store, actions) {
     if (failure) return fill(out, h('p', { class: 'bad' }, `The machine file can't be shown. ${sentenceOfFailure(failure)}`));
     if (!scene) return fill(out, h('p', { class: 'quiet' }, value ? value.sheet : 'Reading\u2026'));
     const remove = it => h('button', { class: 'link', type: 'button', 'aria-label': `Remove ${it.name || `fixture ${it.number}`}`, onclick: () => actions.removeFixture(it.number) }, 'remove');
+    const removeTool = it => h('button', { class: 'link', type: 'button', 'aria-label': `Remove tool ${it.number}`, onclick: () => actions.removeTool(it.number) }, 'remove');
     fill(out,
       table(`Travel and speed, ${unit}`, ['Axis', 'From', 'To', `Speed, ${unit}/min`], AXES.map((axis, it) => [axis, at(scene.low[it]), at(scene.high[it]), at(Math.round(scene.rates.speeds[it] * 60 * 1000) / 1000)])),
       scene.fixtures.length ? table(`Fixtures, ${unit}`, ['Fixture', ...AXES, ''], scene.fixtures.map(it => [it.name || `fixture ${it.number}`, ...AXES.map((_, axis) => `${at(it.low[axis])} to ${at(it.high[axis])}`), remove(it)])) : h('p', {}, 'The machine file describes no fixtures.'),
-      h('div', { class: 'wide' }, table(`Tools, ${unit}`, ['Tool', 'Reach', 'Offset', 'Parts from the tip up'], scene.tools.map(it => [`T${it.number}${it.name ? ` ${it.name}` : ''}`, at(-it.bottom), at(it.offset), it.parts.map(part => `\u00d8 ${at(part.radius * 2)} \u00d7 ${at(part.high - part.low)}`).join(', ')]))),
+      scene.stock ? table(`Material, ${unit}, in ${scene.stock.system ?? 'machine coordinates'}`, [...AXES, ''], [[...AXES.map((_, axis) => `${at(scene.stock.low[axis])} to ${at(scene.stock.high[axis])}`), h('button', { class: 'link', type: 'button', 'aria-label': 'Remove the material', onclick: actions.removeStock }, 'remove')]]) : null,
+      h('div', { class: 'wide' }, table(`Tools, ${unit}`, ['Tool', 'Reach', 'Offset', 'Parts from the tip up', ''], scene.tools.map(it => [`T${it.number}${it.name ? ` ${it.name}` : ''}`, at(-it.bottom), at(it.offset), it.parts.map(part => `\u00d8 ${at(part.radius * 2)} \u00d7 ${at(part.high - part.low)}`).join(', '), store.state.files.tools.source === 'example' ? '' : removeTool(it)]))),
       scene.warnings.length ? h('ul', { class: 'warned' }, scene.warnings.map(it => h('li', {}, it))) : null);
   });
 
   watchDemands(store, actions);
+  // The corners of a box that were typed, or null with a notice.
+  function boxOf(form, what) {
+    const corner = name => listOf(form.elements[name].value).map(it => typedLength(it, store.state.unit)), low = corner('low'), high = corner('high');
+    const isBox = low.length === 3 && high.length === 3 && [...low, ...high].every(Number.isFinite) && low.every((it, axis) => it < high[axis]);
+    if (!isBox) actions.notice(`${what} has two corners of three numbers each: the lowest X, Y, Z and the highest.`, 'bad');
+    return isBox ? { low, high } : null;
+  }
   id('clamp').onsubmit = event => {
     event.preventDefault();
-    const form = event.target, corner = name => listOf(form.elements[name].value).map(it => typedLength(it, store.state.unit)), low = corner('low'), high = corner('high');
-    const isBox = low.length === 3 && high.length === 3 && [...low, ...high].every(Number.isFinite) && low.every((it, axis) => it < high[axis]);
-    if (!isBox) return actions.notice('A fixture has two corners of three numbers each: the lowest X, Y, Z and the highest.', 'bad');
-    actions.addFixture({ name: form.elements.name.value.trim(), low, high });
+    const form = event.target, box = boxOf(form, 'A fixture');
+    if (!box) return;
+    actions.addFixture({ name: form.elements.name.value.trim(), ...box });
     form.reset();
+  };
+  id('tool').onsubmit = event => {
+    event.preventDefault();
+    const form = event.target, { unit } = store.state, typed = name => (form.elements[name].value.trim() ? typedLength(form.elements[name].value, unit) : null);
+    const [diameter, reach, cutter, holder] = ['diameter', 'reach', 'cutter', 'holder'].map(typed), number = Number(form.elements.number.value), hasHolder = cutter !== null || holder !== null;
+    if (!(Number.isInteger(number) && number >= 1 && number <= MOST_TOOL)) return actions.notice(`The number of a tool is from 1 to ${MOST_TOOL}.`, 'bad');
+    if (![diameter, reach].every(it => it > 0) || (hasHolder && !(holder > 0 && cutter > 0 && cutter < reach))) return actions.notice('A tool has a diameter and a reach above 0. With a holder it has the holder\u2019s diameter too, and how far the cutter is out of it, which is less than the reach.', 'bad');
+    const parts = [{ length: hasHolder ? cutter : reach, radius: Math.ceil(diameter / 2) }, ...(hasHolder ? [{ length: reach - cutter, radius: Math.ceil(holder / 2) }] : [])];
+    actions.addTool({ number, name: form.elements.name.value.trim(), reach, parts });
+  };
+  const system = id('stock-system');
+  fill(system, SYSTEMS.map((it, at) => h('option', { value: String(at + 1) }, it)), h('option', { value: '0' }, 'machine coordinates'));
+  id('stock').onsubmit = event => {
+    event.preventDefault();
+    const box = boxOf(event.target, 'The material');
+    if (box) actions.setStock({ system: Number(system.value), ...box });
   };
   id('figures').onsubmit = event => {
     event.preventDefault();

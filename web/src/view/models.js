@@ -43,6 +43,15 @@ export function fixtureOf({ low, high }, isMet, isDark) {
   return group;
 }
 
+// The block of material: pale, since the path is inside it.
+export function stockOf({ low, high }, isDark) {
+  const geometry = new BoxGeometry(...low.map((it, axis) => Math.max(high[axis] - it, 0.01))), group = new Group(), colour = isDark ? 0xd9b36b : 0xc79a45;
+  group.add(new Mesh(geometry, new MeshLambertMaterial({ color: colour, transparent: true, opacity: 0.16, depthWrite: false })));
+  group.add(new LineSegments(new EdgesGeometry(geometry), new LineBasicMaterial({ color: colour, transparent: true, opacity: 0.75 })));
+  group.position.set(...middle(low, high));
+  return group;
+}
+
 // The tool from its tip up, with the boxes that are checked around it.
 export function toolOf(tool, colour, isRefused, isDark) {
   const group = new Group(), edge = isRefused ? RED : isDark ? 0xc7d2dc : 0x55636f;

@@ -4,7 +4,7 @@ import { dialectNow } from '../core/controls.js';
 import { AXES } from '../core/systems.js';
 import { isMotion, KIND_NAMES, momentAt, passesOf, tipAt } from '../core/motion.js';
 import { current, failureOf, isRunning } from '../core/store.js';
-import { contactNow, entryNow, groupNow, pathNow, sceneNow, timesNow } from '../core/shown.js';
+import { contactNow, entryNow, groupNow, pathNow, sceneNow, stockIn, timesNow } from '../core/shown.js';
 import { sentenceOfFailure } from '../core/jobs.js';
 import { inUnit, rate, short } from '../core/units.js';
 import { RAMP, TOOL_COLOURS, partsOf, toolColour } from './colours.js';
@@ -12,7 +12,7 @@ import { fill, h, id } from './dom.js';
 import { Orbit } from './camera.js';
 import { Lines, PathLines } from './lines.js';
 import { makeLabels } from './labels.js';
-import { edgesOf, emptyGroup, fixtureOf, floorOf, toolOf } from './models.js';
+import { edgesOf, emptyGroup, fixtureOf, floorOf, stockOf, toolOf } from './models.js';
 import { pick } from './picking.js';
 
 const { Color, DirectionalLight, Group, HemisphereLight, Scene, Vector2, Vector3, WebGLRenderer } = globalThis.THREE;
@@ -54,6 +54,8 @@ function pointsToFit({ path, scene, contact, entry }) {
     contact.tip.forEach((it, axis) => { low[axis] = Math.min(low[axis], it); high[axis] = Math.max(high[axis], it); });
   }
   const span = Math.max(high[0] - low[0], high[1] - low[1], 5), reach = Math.max(8, span * 0.25), margin = Math.max(3, span * 0.12);
+  const stock = stockIn(scene);
+  if (stock) corners(stock.low, stock.high);
   for (const it of scene?.fixtures ?? []) {
     const isMet = entry?.obstacle?.fixture === it.number, isNear = [0, 1].every(axis => it.low[axis] <= high[axis] + reach && it.high[axis] >= low[axis] - reach);
     if (!isMet && !isNear) continue;
@@ -77,7 +79,7 @@ export function makePicture(store) {
   sun.position.set(-1, -2, 3);
   world.add(new HemisphereLight(0xffffff, 0x8899aa, 0.75), sun, fixed, toolModel, hitModel, paths.group, ...Object.values(lines).map(it => it.mesh));
   const orbit = new Orbit(canvas, request);
-  let isWanted = false, isSlow = isSoftware, lastFrame = 0, frames = 0, fitted = '', drawnBase = 0, moment = null, shownTool = '';
+  let isWanted = false, isSlow = isSoftware, lastFrame = 0, frames = 0, fitted = '', fittedTo = 0, drawnBase = 0, moment = null, shownTool = '';
   let data = { scene: null, path: null, group: null, times: null, entry: null, contact: null };
 
   // ---- drawing
@@ -127,6 +129,11 @@ export function makePicture(store) {
       const isMet = entry?.obstacle?.fixture === it.number;
       fixed.add(fixtureOf(it, isMet, dark));
       made.push({ kind: isMet ? 'fixture met' : 'fixture', text: it.name || `fixture ${it.number}`, at: [(it.low[0] + it.high[0]) / 2, (it.low[1] + it.high[1]) / 2, it.high[2]] });
+    }
+    const stock = stockIn(scene);
+    if (stock) {
+      fixed.add(stockOf(stock, dark));
+      made.push({ kind: 'stock', text: 'material', at: [stock.high[0], (stock.low[1] + stock.high[1]) / 2, stock.high[2]] });
     }
     const used = new Set((group?.lowest ?? []).map(it => it.system)), systems = used.size ? [...used] : ['G54'], a = [], b = [], marks = [];
     for (const system of systems.filter(it => scene.origins[it])) {
@@ -270,7 +277,8 @@ export function makePicture(store) {
     drawFixed();
     // The path is shown as soon as it is there, and again with what the report adds.
     const key = `${store.state.files.program?.name} ${store.state.files.machine?.version} ${JSON.stringify(store.state.origins)} ${dialectNow(store.state)}`;
-    if (scene && (path || group) && fitted !== key) { fit(); fitted = group ? key : ''; }
+    const known = Number(Boolean(path)) + Number(Boolean(group)), isMore = fitted !== key || (known > fittedTo && !orbit.isTouched);
+    if (scene && known && isMore) { fit(); fitted = key; fittedTo = known; }
     showMoment(store.state.time);
     showLegend();
   });

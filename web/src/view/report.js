@@ -2,9 +2,9 @@
 
 import { current, failureOf, isRunning } from '../core/store.js';
 import { everyNow, groupNow, keptNow, sceneNow } from '../core/shown.js';
-import { obstacleSentence } from '../core/sentences.js';
-import { fixtureName } from '../core/sentences.js';
+import { causeOf, fixtureName, materialSentence, materialWords, obstacleSentence } from '../core/sentences.js';
 import { sentenceOfFailure } from '../core/jobs.js';
+import { withRemarks } from '../core/facts.js';
 import { AXES } from '../core/systems.js';
 import { count, duration, length, plural, rate } from '../core/units.js';
 import { fill, h, id, table } from './dom.js';
@@ -12,12 +12,16 @@ import { fill, h, id, table } from './dom.js';
 const MOST = 200;   // places that are listed
 export const TOOL_HEADS = ['Tool', 'Cutter', 'Time', 'Feeds', 'Rapids', 'Arcs', 'Nearest fixture'];
 export const FIGURE_HEADS = ['Tool', 'Feed', 'Spindle', 'Deepest plunge', 'Holes', 'Time'];
+// What the classes of notes say about a program in the language of its control.
+const KEPT = { exact: 'the commands are the same', told: 'the motions are the same', chosen: 'controls differ: check yours', bound: 'the path is the same but for this' };
 const toolName = use => (use.tool === null ? 'no tool' : `T${use.tool}${use.tool_name ? ` ${use.tool_name}` : ''}`);
 
+const TENTH = 100_000;   // nanometres: how far a tool goes in all is shown to a tenth of a millimetre
+const way = (nm, unit) => length(Math.round(nm / TENTH) * TENTH, unit);
 // The uses of tools in their order.
 export const toolRows = (group, scene, unit) => group.uses.map((use, at) => {
   const tool = scene?.tools.find(it => it.number === use.tool), time = group.useTimes[at];
-  return [toolName(use), tool ? `\u00d8 ${length(tool.parts[0].radius * 2e6, unit)}` : '', time ? duration(time.seconds) : '', length(use.feed_way, unit), length(use.traverse_way, unit), count(use.arcs),
+  return [toolName(use), tool ? `\u00d8 ${length(tool.parts[0].radius * 2e6, unit)}` : '', time ? duration(time.seconds) : '', way(use.feed_way, unit), way(use.traverse_way, unit), count(use.arcs),
     use.nearest_fixture === null ? '' : `${fixtureName(use.nearest_fixture, use.fixture_name)}, ${length(use.distance, unit)}`];
 });
 // The tool of a lowest height. If another tool's length offset is in force, the height isn't that of the mounted tool's tip.
@@ -47,15 +51,15 @@ export function makeReport(store, actions) {
   const explain = number => { asked.value = String(number); actions.explain(number); };
   id('explain').onsubmit = event => { event.preventDefault(); actions.explain(Number(asked.value)); };
 
-  function placesOf(every, isWaiting, failure, isCut, unit) {
+  function placesOf(every, everyValue, isWaiting, failure, unit) {
     if (failure) return [h('p', { class: 'bad' }, `The other places weren't found. ${sentenceOfFailure(failure)}`)];
     if (isWaiting) return [h('h3', {}, 'Looking for every place\u2026')];
-    const { commands = [], faults = [] } = every ?? {}, more = isCut || commands.length > MOST ? ': the first ones' : '';
+    const { commands = [], faults = [] } = every ?? {}, more = everyValue?.isCut || commands.length > MOST ? ': the first ones' : '';
     return [
       commands.length > 1 ? h('h3', {}, `${plural(commands.length, 'place')} in the way${more}`) : null,
       commands.length > 1 ? h('ul', { class: 'places' }, commands.slice(0, MOST).map(it => h('li', {}, it.command.line ? lineLink(it.command.line) : 'start', ` ${obstacleSentence(it, unit, keptNow(store.state)).note}`))) : null,
       faults.length ? h('h3', {}, plural(faults.length, 'fault')) : null,
-      faults.length ? h('ul', { class: 'places' }, faults.map(it => h('li', {}, it.line ? lineLink(it.line) : 'no line', ` ${it.reason} `, link(`fault ${it.number}`, () => explain(it.number)), it.isLater ? ' after earlier faults' : ''))) : null,
+      faults.length ? h('ul', { class: 'places' }, faults.map(it => h('li', {}, it.line ? lineLink(it.line) : 'no line', ` ${it.reason || `${causeOf(everyValue, it)}.`} `, link(`fault ${it.number}`, () => explain(it.number)), it.isLater ? ' after earlier faults' : ''))) : null,
     ];
   }
   // Of a program in a dialect only the first fault is known.
@@ -63,15 +67,27 @@ export function makeReport(store, actions) {
     const { line, words, word } = refusal;
     return [h('h3', {}, 'The first fault'), h('ul', { class: 'places' }, h('li', {}, lineLink(line), ` ${words}${word ? `, at ${word}` : ''} `, link(`fault ${fault}`, () => explain(fault))))];
   }
+  // What is known about rapids and the block of material, and where it may be touched.
+  function materialOf(group, unit) {
+    const words = materialWords(group, unit), places = group.material.map(it => materialSentence(it, unit));
+    return words ? [h('h3', {}, 'Material'), h('p', {}, `${words} Cuts along arcs of G18 and G19 aren't counted.`),
+      places.length ? h('ul', { class: 'places' }, places.slice(0, MOST).map(it => h('li', {}, lineLink(it.line), ` ${it.text}`))) : null] : [];
+  }
+  // What was left out of a program for another control, or which meaning was executed.
+  const notesTable = notes => table('Notes about the control', ['Line', 'What', 'How it was executed', 'Kept'],
+    notes.map(it => [link(String(it.line), () => actions.goTo(it.line, 'verdict')), `${it.text}${it.count > 1 ? ` (${count(it.count)}\u00d7)` : ''}`, it.remark ?? '', KEPT[it.class] ?? it.class]));
   function lowestTable(group, unit) {
     return table('Lowest', ['System', 'Tool', 'Z', 'Line'], group.lowest.map(it => [it.system, lowestTool(it), length(it.z, unit), link(String(it.line), () => actions.goTo(it.line, 'verdict'))]));
   }
-  store.watch(state => [current(state, 'report'), current(state, 'every'), isRunning(state, 'every'), failureOf(state, 'every'), groupNow(state), everyNow(state), sceneNow(state), state.unit], (report, everyValue, isWaiting, failure, group, every, scene, unit) => {
+  store.watch(state => [current(state, 'report'), current(state, 'every'), isRunning(state, 'every'), failureOf(state, 'every'), groupNow(state), everyNow(state), sceneNow(state), current(state, 'remarks'), failureOf(state, 'remarks'), state.unit], (report, everyValue, isWaiting, failure, group, every, scene, remarks, remarksFailure, unit) => {
     if (!report) return fill(out, h('p', { class: 'quiet' }, 'Checking\u2026'));
     fill(out,
       group?.commands[0]?.coordinates ? coordinateList(group.commands[0], unit) : null,
       report.refusal ? refusalOf(report) : null,
-      placesOf(every, isWaiting, failure, everyValue?.isCut, unit),
+      placesOf(every, everyValue, isWaiting, failure, unit),
+      group ? materialOf(group, unit) : null,
+      group?.notes.length ? h('div', { class: 'wide' }, notesTable(withRemarks(group, 'note', remarks))) : null,
+      remarksFailure ? h('p', { class: 'bad' }, `What the warnings and notes say in full isn't known. ${sentenceOfFailure(remarksFailure)}`) : null,
       group?.uses.length ? h('div', { class: 'wide' }, table('Tools in the order of use', TOOL_HEADS, toolRows(group, scene, unit))) : null,
       group?.figures.length ? h('div', { class: 'wide' }, table('Figures of each tool', FIGURE_HEADS, figureRows(group, unit))) : null,
       group?.lowest.length ? lowestTable(group, unit) : null,

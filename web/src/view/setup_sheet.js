@@ -2,7 +2,8 @@
 
 import { current } from '../core/store.js';
 import { groupNow, pathNow, sceneNow } from '../core/shown.js';
-import { verdictOf } from '../core/sentences.js';
+import { withRemarks } from '../core/facts.js';
+import { materialSentence, verdictOf } from '../core/sentences.js';
 import { duration, inUnit, plural } from '../core/units.js';
 import { fill, h, id, table } from './dom.js';
 import { FIGURE_HEADS, TOOL_HEADS, figureRows, lowestTool, toolRows } from './report.js';
@@ -31,12 +32,14 @@ export function makeSetupSheet(store, picture) {
         firstRows(`Zero, ${unit}`, ['System', 'X', 'Y', 'Z'], systems.map(it => [it, ...(scene.origins[it] ?? [0, 0, 0]).map(at)]), MOST.lowest),
         firstRows(`Travel, ${unit}`, ['Axis', 'From', 'To', 'Left below', 'Left above'], (group?.extents ?? []).map(it => [it.axis, at(it.low / 1e6), at(it.high / 1e6), at(it.left_below / 1e6), at(it.left_above / 1e6)]), 3),
         firstRows(`Lowest, ${unit}`, ['System', 'Tool', 'Z', 'Line'], (group?.lowest ?? []).map(it => [it.system, lowestTool(it), at(it.z / 1e6), String(it.line)]), MOST.lowest)),
-      h('div', {}, firstRows(`Fixtures, ${unit}, machine coordinates`, ['Fixture', 'X', 'Y', 'Top Z'], scene.fixtures.map(it => [it.name || `fixture ${it.number}`, span(it, 0), span(it, 1), at(it.high[2])]), MOST.fixtures)));
+      h('div', {}, firstRows(`Fixtures, ${unit}, machine coordinates`, ['Fixture', 'X', 'Y', 'Top Z'], scene.fixtures.map(it => [it.name || `fixture ${it.number}`, span(it, 0), span(it, 1), at(it.high[2])]), MOST.fixtures),
+        scene.stock ? table(`Material, ${unit}, ${scene.stock.system ?? 'machine coordinates'}`, ['X', 'Y', 'Z'], [[0, 1, 2].map(axis => span(scene.stock, axis))]) : null));
   }
   function build() {
     const { state } = store, report = current(state, 'report'), scene = sceneNow(state), group = groupNow(state), { unit, blockDelete } = state;
     if (!report) return fill(out, h('p', {}, 'The program is still being checked: there is no setup sheet yet.'));
-    const verdict = verdictOf(report, group, scene, unit), used = pathNow(state)?.order.filter(Boolean) ?? [], warnings = group?.warnings ?? [];
+    const verdict = verdictOf(report, group, scene, unit), used = pathNow(state)?.order.filter(Boolean) ?? [];
+    const warnings = [...withRemarks(group, 'warning', current(state, 'remarks')).map(it => ({ ...it, text: it.words })), ...(group?.material ?? []).map(it => materialSentence(it, unit))];
     const tools = (scene?.tools ?? []).filter(it => !used.length || used.includes(it.number));
     fill(out, head(state),
       h('p', { class: `verdict ${verdict.kind}` }, verdict.title, group && group.blockDelete !== null ? ` (block delete ${blockDelete ? 'on' : 'off'})` : ''),
@@ -46,7 +49,7 @@ export function makeSetupSheet(store, picture) {
       group ? firstRows('Tools in the order of use', TOOL_HEADS, toolRows(group, scene, unit), MOST.uses) : null,
       group ? firstRows('Figures of each tool', FIGURE_HEADS, figureRows(group, unit), MOST.figures) : null,
       warnings.length ? h('ul', {}, warnings.slice(0, MOST.warnings).map(it => h('li', {}, `Warning: ${it.text}${it.line ? `, line ${it.line}` : ''}`)), warnings.length > MOST.warnings ? h('li', {}, `${warnings.length - MOST.warnings} more warnings`) : null) : null,
-      h('footer', {}, `${group?.time ? `Run time ${duration(group.time.seconds)}. ` : ''}Checked by ngc: travel, fixtures and tool holders as the machine file and the tool table describe them. The workpiece isn't checked.`));
+      h('footer', {}, `${group?.time ? `Run time ${duration(group.time.seconds)}. ` : ''}Checked by ngc: travel, fixtures and tool holders as the machine file and the tool table describe them. ${group?.materialMargin !== null && group?.materialMargin !== undefined ? 'Of the workpiece only rapids are tested.' : "The workpiece isn't checked."}`));
   }
   window.addEventListener('beforeprint', build);
   return { build, print() { build(); window.print(); } };

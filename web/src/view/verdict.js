@@ -4,12 +4,15 @@ import { current, failureOf, isRunning } from '../core/store.js';
 import { asksNow, everyGroupsNow, everyNow, groupNow, groupsNow, keptNow, sceneNow } from '../core/shown.js';
 import { CUTS, MOST_CUTS } from '../core/changes.js';
 import { isRefusal } from '../core/controls.js';
-import { moreCutsMayHelp, obstacleSentence, verdictOf } from '../core/sentences.js';
+import { withRemarks } from '../core/facts.js';
+import { causeOf, certificateSentence, isRapid, materialSentence, moreCutsMayHelp, obstacleSentence, verdictOf } from '../core/sentences.js';
 import { sentenceOfFailure } from '../core/jobs.js';
 import { duration, inUnit, length, plural } from '../core/units.js';
 import { fill, h, id } from './dom.js';
 
 const PATIENCE = 1500;   // ms after which a check says how long it takes
+// A number stays beside its unit.
+const unbroken = text => text.replace(/(\d) (mm|in)\b/g, '$1\u00a0$2');
 const minus = text => text.replace('-', '\u2212');
 const capital = text => text[0].toUpperCase() + text.slice(1);
 
@@ -23,18 +26,33 @@ function barOf(extent, low, high, unit) {
     h('span', { class: 'left' }, minus(inUnit(extent.left_above / 1e6, unit))));
 }
 
-function cardOf(warning, actions) {
-  return h('button', { class: 'card', type: 'button', disabled: !warning.line, onclick: () => actions.goTo(warning.line, 'verdict') }, h('span', { class: 'sign', 'aria-hidden': 'true' }, '!'),
-    h('span', {}, h('span', { class: 'sr' }, 'Warning: '), capital(warning.text), warning.count > 1 ? ` (${warning.count}\u00d7)` : '', warning.line ? h('b', {}, ` line ${warning.line}`) : null));
+const NO_TOOL = 222;   // the fault of a tool that isn't in the table
+const MOST_WARNINGS = 40, MOST_RAPIDS = 10;   // cards
+function cardOf({ text, count = 1, line = null, isNote = false, act = null }, actions) {
+  return h('button', { class: `card${isNote ? ' told' : ''}`, type: 'button', disabled: !line && !act, onclick: act ?? (() => actions.goTo(line, 'verdict')) }, h('span', { class: 'sign', 'aria-hidden': 'true' }, isNote ? 'i' : '!'),
+    h('span', {}, h('span', { class: 'sr' }, isNote ? 'Note: ' : 'Warning: '), capital(text), count > 1 ? ` (${count}\u00d7)` : '', line ? h('b', {}, ` line ${line}`) : null));
+}
+// What the cards say: a refused certificate, warnings, rapids that may touch material, tool changes in it, and notes about what controls do differently.
+function cardsOf(group, remarks, refusedCertificate, unit, actions) {
+  const { material = [] } = group ?? {}, [warnings, notes] = ['warning', 'note'].map(kind => withRemarks(group, kind, remarks));
+  const rapids = material.filter(isRapid), changes = material.filter(it => !isRapid(it)), more = rapids.length - MOST_RAPIDS;
+  return [
+    ...(refusedCertificate ? [{ text: certificateSentence(...refusedCertificate) }] : []),
+    ...warnings.slice(0, MOST_WARNINGS).map(it => ({ ...it, text: it.words })), ...[...changes.slice(0, MOST_RAPIDS), ...rapids.slice(0, MOST_RAPIDS)].map(it => materialSentence(it, unit)),
+    ...(more > 0 ? [{ text: `${plural(more, 'more rapid')} may touch material`, act: () => actions.tab('report') }] : []),
+    ...notes.filter(it => it.class === 'chosen').map(it => ({ ...it, text: it.words, isNote: true })),
+  ];
 }
 
 // The notes beside the lines: warnings, then what is in the way or at fault.
-function notesOf(group, every, verdict, unit, kept) {
-  const notes = new Map(), add = (line, kind, text) => { if (line) notes.set(line, { kind, text }); };
-  for (const { line, text } of group?.warnings ?? []) add(line, 'warned', [notes.get(line)?.text, text].filter(Boolean).join('; '));
+function notesOf(group, every, everyValue, remarks, verdict, unit, kept) {
+  const notes = new Map(), add = (line, kind, text, column = null) => { if (line) notes.set(line, { kind, text, column }); };
+  const warn = (line, text) => add(line, 'warned', [notes.get(line)?.text, text].filter(Boolean).join('; '));
+  for (const { line, words } of withRemarks(group, 'warning', remarks)) warn(line, words);
+  for (const it of group?.material ?? []) warn(it.line, materialSentence(it, unit).note);
   for (const entry of every?.commands ?? []) add(entry.command.line, 'faulty', obstacleSentence(entry, unit, kept).note);
-  for (const { line, reason, number } of every?.faults ?? []) add(line, 'faulty', reason || `fault ${number}`);
-  add(verdict.line, 'faulty', verdict.note ?? '');
+  for (const it of every?.faults ?? []) add(it.line, 'faulty', it.reason || `${causeOf(everyValue, it)}.`, it.column);
+  add(verdict.line, 'faulty', verdict.note ?? '', verdict.column);
   return notes;
 }
 
@@ -84,7 +102,8 @@ export function makeVerdict(store, actions, editor) {
     return [mayHelp && more <= MOST_CUTS ? button(`Check with ${more} cuts`, () => actions.setCuts(more)) : null, cuts ? button(`Back to ${CUTS} cuts`, () => actions.setCuts(null)) : null];
   }
   function showActions(report, group, every, verdict) {
-    const places = every?.commands.length ?? 0, faults = every?.faults.length ?? 0, mayAsk = isRefusal(report) && !report.dialect && !store.state.files.program.isOwn && !asksNow(store.state);
+    const noTool = report.fault === NO_TOOL ? /tool (\d+)/i.exec(verdict.title)?.[1] : null;
+    const places = every?.commands.length ?? 0, faults = every?.faults.length ?? 0, mayAsk = isRefusal(report) && !report.dialect && !noTool && !store.state.files.program.isOwn && !asksNow(store.state);
     fill(buttons,
       verdict.line ? button(`Go to line ${verdict.line}`, () => actions.goTo(verdict.line, 'verdict')) : null,
       places > 1 ? button(`All ${plural(places, 'place')}`, () => actions.tab('report')) : null,
@@ -92,17 +111,19 @@ export function makeVerdict(store, actions, editor) {
       buttonsOfCuts(group, store.state.cuts),
       group?.commands[0]?.command.fact === 'command' ? button('Where would it fit?', () => { actions.tab('place'); actions.place(); }) : null,
       mayAsk ? button('Is it for a control\u2026', actions.ask) : null,
-      isRefusal(report) && !report.dialect ? button('Rewrite for this control\u2026', actions.adapt) : null,
-      report.fault ? button(`What is fault ${report.fault}?`, () => { actions.tab('report'); id('explained').focus(); }, 'small plain') : null);
+      isRefusal(report) && !report.dialect && !noTool ? button('Rewrite for this control\u2026', actions.adapt) : null,
+      noTool ? button(`Describe tool ${noTool}\u2026`, () => actions.describe('tool', noTool)) : null,
+      store.state.files.machine.source === 'example' && store.state.files.program.source !== 'example' ? button('Describe your machine\u2026', () => actions.describe('figures')) : null,
+      report.fault ? button(`What is fault ${report.fault}?`, () => actions.showIn('report', id('explained')), 'small plain') : null);
   }
   function showFigures(group, scene, unit) {
     const hasBars = group && scene && group.extents.length === 3, metric = (value, label) => h('div', {}, h('b', {}, value), h('span', {}, label));
-    fill(id('bars'), hasBars ? group.extents.map((it, axis) => barOf(it, scene.low[axis], scene.high[axis], unit)) : null);
+    fill(id('bars'), hasBars ? h('span', { class: 'label' }, `Travel, and what is left of it, ${unit}`) : null, hasBars ? group.extents.map((it, axis) => barOf(it, scene.low[axis], scene.high[axis], unit)) : null);
     fill(id('metrics'), group?.time ? metric(duration(group.time.seconds), 'run time') : null,
       group?.fits && group.useTimes.length > 1 ? group.useTimes.slice(0, 12).map(it => metric(duration(it.seconds), it.tool === null ? 'no tool' : `T${it.tool}`)) : null);
   }
 
-  store.watch(state => [current(state, 'report'), isRunning(state, 'report'), failureOf(state, 'report'), groupNow(state), everyNow(state), sceneNow(state), state.blockDelete, state.unit, asksNow(state)], (report, isWaiting, failure, group, every, scene, _, unit) => {
+  store.watch(state => [current(state, 'report'), isRunning(state, 'report'), failureOf(state, 'report'), groupNow(state), everyNow(state), sceneNow(state), state.blockDelete, state.unit, asksNow(state), current(state, 'remarks'), current(state, 'certificate'), state.files.certificate], (report, isWaiting, failure, group, every, scene, _, unit, asks, remarks, checked, certificate) => {
     id('facts').classList.toggle('stale', !report);
     if (failure) return showFailure(failure);
     if (!report) {
@@ -111,15 +132,15 @@ export function makeVerdict(store, actions, editor) {
       return showWaiting(isWaiting ? store.state.slots.report.begun : performance.now());
     }
     clearTimeout(timer);
-    const verdict = verdictOf(report, group, scene, unit), warnings = group?.warnings ?? [];
-    banner.className = verdict.kind === 'bad' ? 'bad' : verdict.isNose || warnings.length ? 'good careful' : 'good';
-    title.textContent = verdict.title;
+    const verdict = verdictOf(report, group, scene, unit), isWarned = Boolean(group?.warnings.length || group?.material.length);
+    banner.className = verdict.kind === 'bad' ? 'bad' : verdict.isCareful || isWarned ? 'good careful' : 'good';
+    title.textContent = unbroken(verdict.title);
     detail.textContent = verdict.detail ?? '';
     showActions(report, group, every, verdict);
     showSettings(groupsNow(store.state), everyGroupsNow(store.state));
     showFigures(group, scene, unit);
-    fill(id('warnings'), warnings.slice(0, 40).map(it => cardOf(it, actions)));
-    editor.setNotes(notesOf(group, every, verdict, unit, keptNow(store.state)));
+    fill(id('warnings'), cardsOf(group, remarks, checked && !checked.isAccepted ? [certificate, checked] : null, unit, actions).map(it => cardOf(it, actions)));
+    editor.setNotes(notesOf(group, every, current(store.state, 'every'), remarks, verdict, unit, keptNow(store.state)));
     if (verdict.line && store.state.line === 0) actions.goTo(verdict.line, 'verdict');
   });
   store.watch(state => [state.files.machine?.source === 'example', state.files.tools?.source === 'example'], (isMachine, isTools) => {

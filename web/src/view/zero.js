@@ -50,7 +50,8 @@ export function makeZero(store, actions) {
     if (isWaiting) return fill(out, h('p', { class: 'quiet' }, 'Trying shifts\u2026'));
     if (failure) return fill(out, h('p', { class: 'bad' }, failure.kind === 'stopped' ? 'Stopped: the shifts are not known.' : sentenceOfFailure(failure)));
     if (!found) return fill(out);
-    if (found.status) return fill(out, h('p', { class: 'bad' }, `The shifts are not known. ${meaningOf(found.explanation)}`));
+    const meaning = found.status ? meaningOf(found.explanation) : null;
+    if (meaning) return fill(out, h('p', { class: 'bad' }, `The shifts are not known. ${meaning.cause}. ${meaning.remedy}`));
     fill(out, h('p', {}, sentenceOf(found)), AXES.map((_, axis) => rowOf(found, axis, unit)),
       found.staying ? h('p', { class: 'quiet' }, `${plural(found.staying, 'motion')} of the program, as with G53 or G28, ${found.staying === 1 ? 'stays' : 'stay'} where the machine has them.`) : null,
       h('p', { class: 'quiet' }, 'Found by ngc place. At both ends of each interval the whole program was checked. Between them it fits where its motions move with the zero or stay, as they do at the ends.'));

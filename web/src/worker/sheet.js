@@ -1,4 +1,4 @@
-// A STAND-IN: reads the text of `ngc show` into what is drawn: travel, fixtures, tools, origins and rates, and the language of its programs. So
+// A STAND-IN: reads the text of `ngc show` into what is drawn: travel, fixtures, material, tools, origins and rates, and the language of its programs. So
 // the page shows what the proved code read from the files. The module doesn't print the sheet as facts yet. When it does, this file goes.
 
 import { dialectOf } from '../core/controls.js';
@@ -21,6 +21,12 @@ function readMachine(scene, key, value, axis) {
   else if (key === 'step') [scene.step] = numbers(value);
   else if (key.startsWith('origin of')) scene.origins[key.slice(10)] = numbers(value);
   else if (key === 'language of programs') scene.dialect = dialectOf(value);
+  else if (key === 'material') scene.stock = stockOf(value);
+}
+// `X 0 Y 0 Z -20 mm to X 100 Y 60 Z 0 mm in G54`, or `in machine coordinates`.
+function stockOf(value) {
+  const [corners, where] = value.split(' mm in '), ends = numbers(corners);
+  return { low: ends.slice(0, 3), high: ends.slice(3), system: /^G/.test(where) ? where : null };
 }
 function readTool(tool, key, value) {
   if (key === 'length offset') [tool.offset] = numbers(value);
@@ -32,7 +38,7 @@ function readTool(tool, key, value) {
 
 // Lengths are millimetres, speeds millimetres a second.
 export function readSheet(text) {
-  const scene = { low: [0, 0, 0], high: [0, 0, 0], start: [0, 0, 0], origins: {}, fixtures: [], tools: [], warnings: [], step: 0.01, dialect: null,
+  const scene = { low: [0, 0, 0], high: [0, 0, 0], start: [0, 0, 0], origins: {}, fixtures: [], tools: [], warnings: [], step: 0.01, dialect: null, stock: null,
     rates: { speeds: [40, 40, 40], corner: 5, acceleration: 1000, arcAcceleration: 1000 } };
   let section = '', now = null;
   for (const line of text.split('\n')) {

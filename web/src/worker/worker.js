@@ -59,6 +59,12 @@ const saved = got => {
   return [{ status: got.status, output, notes, text: textOf(notes), isCut: got.isCut }, [output.buffer, notes.buffer]];
 };
 
+// A line of a report's text, as `warning: NAME: 3, the first in line 7: what to do.` A warning of another form is taken as a whole.
+function remarkOf(line) {
+  const [, kind, rest] = /^(warning|note)(?: \(\w+\))?: (.*?)\.?$/.exec(line), [, remark = null] = /: \d+, the first in line \d+(?:: (.*))?$/.exec(rest) ?? [rest];
+  return { kind, remark, whole: / the first in line \d+/.test(rest) ? null : rest };
+}
+
 // Each job returns its value, and the buffers that are handed over with it.
 const JOBS = {
   // Calls an export with files and options, and returns what it writes. A file is bytes, or the kind of one that is in use.
@@ -78,8 +84,19 @@ const JOBS = {
     const refusedFile = /fault \d+ (machine|tools)/.exec(errors)?.[1] ?? null;
     const sentence = refusedFile ? textOf(command(['report'], changes).output) : '';
     const { facts, isCut } = factsOf(got.output);
-    const { dialect = null } = changes;
-    return [{ status: got.status, facts, isCut, errors, fault, explanation: explanationOf(fault, changes), refusedFile, sentence, dialect, refusal: dialect ? refusalOf(errors) : null }];
+    const { dialect = null } = changes, numbers = all ? [...new Set(facts.filter(it => it.fact === 'fault_in').map(it => it.number))] : [];
+    const meanings = Object.fromEntries(numbers.map(it => [it, explanationOf(it, changes)]));
+    return [{ status: got.status, facts, isCut, errors, fault, explanation: explanationOf(fault, changes), meanings, refusedFile, sentence, dialect, refusal: dialect ? refusalOf(errors) : null }];
+  },
+  // What the text of a report adds to the warnings and notes of its JSON, in their order, for each setting of block delete.
+  remarks({ changes }) {
+    const found = { null: [], off: [], on: [] };
+    let setting = null;
+    for (const line of textOf(command(['report'], changes).output).split('\n')) {
+      setting = /^With block delete (off|on):$/.exec(line)?.[1] ?? setting;
+      if (/^(warning: |note \()/.test(line)) found[setting].push(remarkOf(line));
+    }
+    return [found];
   },
   scene({ changes }) { return [sceneOf(changes.origins)]; },
   sheet({ words }) {

@@ -34,4 +34,4 @@ returns-clause-are c =
     let sl = c.limited.ensures.low (middle_of c.args.corner c.args.half i) m in
     let sh = c.limited-2.ensures.high (middle_of c.args.corner c.args.half i) m in
     indices_are c.args.corner c.limited.result c.limited-2.result c.args.half i c.first_from.result c.end_after.result c.args.span.now c.quotients-indices.result
-    (rw ql at (c.first_from.ensures i less)) (rw qh at (c.end_after.ensures.value i less)) q (rw pl at sl) (rw ph at sh)
+    (rw ql at (c.first_from.ensures.value i less)) (rw qh at (c.end_after.ensures.value i less)) q (rw pl at sl) (rw ph at sh)

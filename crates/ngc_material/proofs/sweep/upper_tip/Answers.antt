@@ -1,4 +1,4 @@
-use Rattle.std.proofs.Common.{◌≡◌, ◌≤◌, ℤ, ◌+ℤ◌, unsigned_abs, ◌∙◌, ap, ap₂, arith}
+use Rattle.std.proofs.Common.{◌≤◌, ℤ, ◌+ℤ◌, unsigned_abs, ◌∙◌, ap, ap₂, arith}
 use Rattle.std.specs.Int.{int_max}
 use Rattle.std.proofs.lemmas.Int.{ints, clamps}
 use Rattle.ngc_fixed_length.specs.declared.points.Point3.{Point3}

@@ -1,8 +1,7 @@
-use Rattle.std.proofs.Common.{◌∙◌, List, ap, ap₂}
-use Rattle.ngc_cells.specs.declared.grid.Grid.{Grid}
+use Rattle.std.proofs.Common.{◌∙◌, refl, List, ap, ap₂}
 use Rattle.ngc_cells.specs.declared.stretch.Spot.{Spot}
 use Rattle.ngc_material.specs.declared.walk.Found.{Found}
-use Rattle.ngc_material_report.specs.Sentences.{touches_text, untested_text}
+use Rattle.ngc_material_report.specs.Sentences.{touches_text}
 use Rattle.ngc_stock_report.specs.Texts.{MOST_LINES, arcs_line}
 use Rattle.ngc_stock_report.specs.Walked.{WalkData}
 use Rattle.ngc_stock_report.proofs.Prefixes.{appends_as, begins_as, begins_first, begins_last, on_err, third_fault}
@@ -18,7 +17,7 @@ pub returns-in_err-write_all-clause-fault : goal.returns-in_err-write_all-clause
 returns-in_err-write_all-clause-fault g c =
     let found = c.as_slice-found.ensures.value ∙ ap (λ (w : WalkData). w.found) c.walk.view_is in
     let touches = ap₂ (λ (o : Spot) (fs : List Found). touches_text c.args.form MOST_LINES o fs) c.block_origin.ensures found in
-    let arcs = c.arcs_line.ensures ∙ ap (λ (fs : List Found). arcs_line c.args.form fs) found in
+    let arcs = c.arcs_line.ensures ∙ ap (λ (fs : List Found). arcs_line c.args.form c.args.commands.now fs) found in
     on_err _ _ (begins_last _ _ _ _ _ (appends_as _ _ _ _ touches c.in_ok-write_touches.ensures.ok)
     (begins_first _ _ _ _ (begins_as _ _ _ _ arcs c.in_err-write_all.ensures.fault)))
 
@@ -26,8 +25,7 @@ pub returns-clause-fault : goal.returns-clause-fault
 returns-clause-fault g c =
     let found = c.as_slice-found.ensures.value ∙ ap (λ (w : WalkData). w.found) c.walk.view_is in
     let touches = ap₂ (λ (o : Spot) (fs : List Found). touches_text c.args.form MOST_LINES o fs) c.block_origin.ensures found in
-    let arcs = c.arcs_line.ensures ∙ ap (λ (fs : List Found). arcs_line c.args.form fs) found in
-    let untested = ap (λ (w : WalkData). untested_text c.args.form w.stock.grid c.args.tools.now) c.walk.view_is in
-    third_fault c.write_untested.result (g.W.Sink.written c.args.output.now) (g.W.Sink.written c.write_touches.new.output) (g.W.Sink.written c.write_all.new.sink)
-    (g.W.Sink.written c.write_untested.new.output) _ _ _ _ untested (appends_as _ _ _ _ touches c.in_ok-write_touches.ensures.ok)
-    (appends_as _ _ _ _ arcs c.in_ok-write_all.ensures.ok) c.write_untested.ensures.fault
+    let arcs = c.arcs_line.ensures ∙ ap (λ (fs : List Found). arcs_line c.args.form c.args.commands.now fs) found in
+    third_fault c.write_rest.result (g.W.Sink.written c.args.output.now) (g.W.Sink.written c.write_touches.new.output) (g.W.Sink.written c.write_all.new.sink)
+    (g.W.Sink.written c.write_rest.new.output) _ _ _ _ refl (appends_as _ _ _ _ touches c.in_ok-write_touches.ensures.ok)
+    (appends_as _ _ _ _ arcs c.in_ok-write_all.ensures.ok) c.write_rest.ensures.fault

@@ -1,0 +1,2 @@
+-- What is said of the remaining commands, after what is said of one.
+pub mod Remaining
