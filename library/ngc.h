@@ -6,7 +6,8 @@
    refused, 4 for a certificate that is refused or isn't made. Where a length is greater than the space, call again with more. Of standard error the first 65,536 bytes are
    kept.
 
-   A text is a pointer, which isn't null, and a length in bytes. What is written must not overlap what is read. A call keeps nothing. It
+   A text is a pointer, which isn't null, and a length in bytes. A byte order mark at its beginning is left out, and so are carriage
+   returns before line feeds in a certificate or events. What is written must not overlap what is read. A call keeps nothing. It
    allocates by malloc, realloc and free. */
 #ifndef NGC_H
 #define NGC_H

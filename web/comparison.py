@@ -29,6 +29,9 @@ REFUSED = (["report", "--margin=two"], ["report", "--margin=100.000001"], ["repo
 # What GRBL prints for $$, of a small router.
 SETTINGS = b"$13=0\n$22=1\n$23=3\n$27=1.000\n$100=250.000\n$101=250.000\n$102=250.000\n$110=500.000\n$111=500.000\n$112=300.000\n" \
     b"$120=10.000\n$121=10.000\n$122=10.000\n$130=200.000\n$131=180.000\n$132=45.000\nok\n"
+# A program for another control, and one in our own language.
+GRBL = b"G21 G90 G54\nG0 X1 Y1\nM30\n"
+SHORT = b"G0 X1\nM2\n"
 # More plain lines than are printed.
 LOOP = b"#1 = 0\no1 while [#1 LT 60000]\nG0 X1\nG0 X0\n#1 = [#1 + 1]\no1 endwhile\nM2\n"
 HELPERS = """
@@ -149,6 +152,40 @@ class Comparison:
         self.compare_command(["check"], {**files, "certificate": "made.cert"})
 
 
+    def run_saved(self, machine, tools):
+        """Each kind of file as an editor saves it. The page has no events."""
+        files = {"program": "short.ngc", "machine": machine, "tools": tools}
+        self.give("short.ngc", SHORT)
+        self.give("made.cert", self.compare_command(["certify", "--format=2"], files))
+        files["certificate"] = "made.cert"
+        for kind, name in files.items():
+            for how, data in as_saved((self.folder / name).read_bytes()):
+                self.give(f"{how}_{name}", data)
+                changed = {**files, kind: f"{how}_{name}"}
+                self.compare_command(["check"], changed)
+                self.compare_command(["pulses"], changed)
+                if kind != "certificate":
+                    del changed["certificate"]
+                    for words in (["report"], ["report", "--json"], ["certify"], ["list"], ["draw"]):
+                        self.compare_command(words, changed)
+        for how, data in as_saved(GRBL):
+            self.give(f"{how}.gcode", data)
+            changed = {"program": f"{how}.gcode", "machine": machine, "tools": tools}
+            self.compare_command(["report"], changed, {"dialect": "grbl"}, ["--dialect=grbl"])
+            self.compare("ngc_adapt", list(changed.values()), [1, 0], ["adapt", "--from", "grbl", *(f"--{kind}={name}" for kind, name in changed.items())])
+        for how, data in as_saved(SETTINGS):
+            self.give(f"{how}_settings", data)
+            self.compare("ngc_machine", [f"{how}_settings"], [], ["machine", "--grbl", f"{how}_settings"])
+
+
+def as_saved(data):
+    """A text as editors save it: with a byte order mark, with carriage returns, with both, with two marks, and in UTF-16."""
+    mark, returned = b"\xef\xbb\xbf", data.replace(b"\n", b"\r\n")
+    yield from {"marked": mark + data, "returned": returned, "both": mark + returned, "marked_twice": mark + mark + data}.items()
+    yield "little", b"\xff\xfe" + data.decode().encode("utf-16-le")
+    yield "big", b"\xfe\xff" + data.decode().encode("utf-16-be")
+
+
 # Rapids through material that no feed has removed, where the machine file describes it.
 THROUGH = b"G21 G90 G17 G54\nT2 M6\nS2000 M3\nG43 H2\nG0 Z20\nX20 Y30\nZ2\nG1 Z-3 F300\nX30\nG0 X60\nZ20\nX80\nZ-1\nZ20\nG28 Z20\nM30\n"
 
@@ -214,5 +251,6 @@ def compare_all(comparison, examples, count):
         comparison.compare("ngc_machine", [name], [], ["machine", "--grbl", name])
     for machine, tools in SETUPS:
         comparison.compare("ngc_show", [machine, tools], [], ["show", "--machine", machine, "--tools", tools])
+    comparison.run_saved("clamped_mill.toml", "tools.toml")
     for number in range(1, 1000):
         comparison.compare("ngc_explain", [], [number], ["explain", str(number)])

@@ -242,8 +242,8 @@ REFUSED = [
     ("G71\nM30\n", "grbl", "Line 1 is refused at G71: GRBL has no such code. Read as GRBL.", "Fault 204"),
     ("G21\no1 call\nM2\n", "grbl", "Line 2 can't be read at column 1: GRBL has no such construct. Read as GRBL.", "Fault 123"),
     ("T99 M6\nM2\n", "mach3", "Line 1 is refused: the tool table has no tool 99. Read as Mach3.", "Fault 222"),
-    ("G21\nG0 X1\n/M73\nM2\n", "linuxcnc", "Line 3 is refused at M73: ngc doesn't support saved modes. Read as LinuxCNC.", "Fault 205 (Programs for other controls)"),
-    ("/M2\nM73\nM2\n", "linuxcnc", "Line 2 is refused at M73 with block delete on: ngc doesn't support saved modes. Read as LinuxCNC.", "Fault 205 (Programs for other controls)"),
+    ("G21\nG0 X1\n/M66\nM2\n", "linuxcnc", "Line 3 is refused at M66: ngc doesn't support outputs and inputs. Read as LinuxCNC.", "Fault 205 (Programs for other controls)"),
+    ("/M2\nM66\nM2\n", "linuxcnc", "Line 2 is refused at M66 with block delete on: ngc doesn't support outputs and inputs. Read as LinuxCNC.", "Fault 205 (Programs for other controls)"),
 ]
 
 

@@ -1,6 +1,6 @@
 -- What a program does doesn't depend on what is collected while it is executed.
 use Rattle.std.proofs.Common.{◌≡◌, ℕ, zero, suc, ℤ, slice_get, List, [], ◌∷◌, ◌++◌, Bool, true, false, Result, Ok, Err, refl, ◌∙◌, ap}
-use Rattle.std.specs.Prelude.{if◌then◌else◌, ◌&&◌, Option, Some, None, is_some}
+use Rattle.std.specs.Prelude.{if◌then◌else◌, nat_lt, ◌&&◌, Option, Some, None, is_some}
 use Rattle.ngc_canonical.specs.declared.fault.Fault.{Fault}
 use Rattle.ngc_canonical.specs.declared.fault.Fault.TheVariants.{NoEnd}
 use Rattle.ngc_canonical.specs.State.{Setup, State}
@@ -37,6 +37,7 @@ use Rattle.ngc_dialect_flow.specs.Returning.{returned}
 use Rattle.ngc_dialect_flow.specs.State.{Flow, begun}
 use Rattle.ngc_dialect_execution.specs.declared.beside.StepLines.{StepLines}
 use Rattle.ngc_dialect_execution.specs.declared.beside.WaitingLine.{WaitingLine}
+use Rattle.ngc_dialect_execution.specs.declared.doing.Depths.{Depths}
 use Rattle.ngc_dialect_execution.specs.declared.fault.Cause.{Cause}
 use Rattle.ngc_dialect_execution.specs.declared.fault.Cause.TheVariants as causes
 use Rattle.ngc_dialect_execution.specs.declared.fault.DialectFault.{DialectFault}
@@ -49,7 +50,7 @@ use Rattle.ngc_dialect_execution.specs.declared.text.Mark.TheVariants.{Begins, E
 use Rattle.ngc_dialect_execution.specs.Ending.{Framed, Outcome, at, changed_by, ended_only, finished, with_changes}
 use Rattle.ngc_dialect_execution.specs.Executed.{PlainLine, Run, execute_plain, kept_with, line_run, lines_at, run}
 use Rattle.ngc_dialect_execution.specs.Faults.{◌>>=◌ as ◌>>=c◌, caused, stored_cause}
-use Rattle.ngc_dialect_execution.specs.Flow.{FlowProgress, effect_done, effect_taken, ends, flow_line_taken, flow_statements_taken, flow_taken, line_or_end, number_at, other_words, others_taken, passed_over, said_if, stepped, then_on, turned, values_from, with_values}
+use Rattle.ngc_dialect_execution.specs.Flow.{FlowProgress, depths, effect_done, effect_taken, ends, flow_line_taken, flow_statements_taken, flow_taken, level_begun, level_ended, level_taken, line_or_end, number_at, other_words, others_taken, passed_over, said_if, stepped, then_on, turned, values_from, with_line, with_values}
 use Rattle.ngc_dialect_execution.specs.Mounting.{before_lines, first_number, mounted, mounting, with_between, with_mounted}
 use Rattle.ngc_dialect_execution.specs.Program.{changes_of, commands_in, from_begun, go_from, go_on, lines_taken, marked_taken, traced_in}
 use Rattle.ngc_dialect_repeats.specs.declared.polar.PolarLine.{PolarLine}
@@ -60,6 +61,13 @@ use Rattle.ngc_dialect_repeats.specs.Turns.{turn_step}
 use Rattle.ngc_dialect_execution.specs.Faults.{polar_caused}
 use Rattle.ngc_dialect_execution.specs.Taken.{all_taken, polar_in, polar_step_taken, polar_steps_taken, polar_taken, turn_taken, turned_by, turned_taken, turning_in, turns_taken, with_polar}
 use Rattle.ngc_dialect_execution.specs.Taken.{Between, Progress, Said, END, cycle_if, cycle_taken, done_at, end_noted, ended_at, has_flow, is_deleted, known_of, line_taken, made_taken, move_taken, moves_taken, nothing_wanted, own_taken, path_ended, path_taken, plain_taken, plain_words_taken, put_off, released_if, run_of, said_at, start_progress, start_taken, statements_taken, step_carried, step_lines, step_taken, waiting_taken, with_notes, with_run, with_series, words_executed, words_noted, words_of, words_taken}
+use Rattle.ngc_dialect_saved.specs.declared.modes.SavedModes.{SavedModes}
+use Rattle.ngc_dialect_saved.specs.declared.saving.Saving.{Saving}
+use Rattle.ngc_dialect_saved.specs.declared.saving.Saving.TheVariants.{Save, Forget, Restore, SaveToReturn}
+use Rattle.ngc_dialect_saved.specs.Restoring.{restoring}
+use Rattle.ngc_dialect_saved.specs.Savings.{saving_in}
+use Rattle.ngc_dialect_saved.specs.Stack.{left, returning}
+use Rattle.ngc_dialect_execution.specs.Taken.{call_begun, call_ended, line_by, line_words_taken, modes_in, restored, restored_from, restored_if, saving_done, switched, with_stack, word_restored, words_restored}
 use Rattle.ngc_dialect_execution.specs.Text.{ProgramLines, first_byte, is_end, lines_after, mark_of, no_lines, number_of, program_of}
 
 -- ---- nothing collected
@@ -270,6 +278,50 @@ all_same : (setup : Setup) (line : ℕ) (words : List Word) (b : Between) → al
 unfolding all_taken
 all_same setup line words b = either bare (has_polar words) _ _ _ _ (polar_same setup line words b) (turned_words setup line words b)
 
+-- saved modes
+restored_word : (setup : Setup) (line : ℕ) (w : Option Word) (b : Between) → word_restored setup line w (bare b) ≡ mapped bare (word_restored setup line w b)
+restored_word setup line None b = refl
+restored_word setup line (Some w) b =
+    chain bare bare _ (words_executed setup line (w ∷ []) b) (λ c. Ok (switched (w ∷ []) c)) (λ c. Ok (switched (w ∷ []) c))
+    (executes setup line (w ∷ []) b) (λ c. refl)
+
+restored_words : (setup : Setup) (line : ℕ) (ws : List (Option Word)) (b : Between) → words_restored setup line ws (bare b) ≡ mapped bare (words_restored setup line ws b)
+unfolding words_restored
+restored_words setup line [] b = refl
+restored_words setup line (w ∷ ws) b =
+    chain bare bare _ (word_restored setup line w b) (λ c. words_restored setup line ws c) (λ c. words_restored setup line ws c)
+    (restored_word setup line w b) (λ c. restored_words setup line ws c)
+
+restored_same : (setup : Setup) (line : ℕ) (modes : SavedModes) (b : Between) → restored setup line modes (bare b) ≡ mapped bare (restored setup line modes b)
+restored_same setup line modes b = restored_words setup line (restoring modes (modes_in b)) b
+
+restored_if_same : (setup : Setup) (line : ℕ) (modes : Option SavedModes) (b : Between) →
+    restored_if setup line modes (bare b) ≡ mapped bare (restored_if setup line modes b)
+restored_if_same setup line None b = refl
+restored_if_same setup line (Some modes) b = restored_same setup line modes b
+
+restored_from_same : (setup : Setup) (line : ℕ) (modes : Option SavedModes) (b : Between) →
+    restored_from setup line modes (bare b) ≡ mapped bare (restored_from setup line modes b)
+restored_from_same setup line None b = refl
+restored_from_same setup line (Some modes) b = restored_same setup line modes b
+
+saving_same : (setup : Setup) (line : ℕ) (saving : Saving) (b : Between) → saving_done setup line saving (bare b) ≡ mapped bare (saving_done setup line saving b)
+saving_same setup line Save b = refl
+saving_same setup line Forget b = refl
+saving_same setup line Restore b = restored_from_same setup line b.saved.here.modes b
+saving_same setup line SaveToReturn b = refl
+
+line_by_same : (setup : Setup) (line : ℕ) (words : List Word) (saving : Option Saving) (b : Between) →
+    line_by setup line words saving (bare b) ≡ mapped bare (line_by setup line words saving b)
+line_by_same setup line words None b =
+    chain bare bare _ (all_taken setup line words b) (λ c. Ok (switched words c)) (λ c. Ok (switched words c)) (all_same setup line words b) (λ c. refl)
+line_by_same setup line words (Some saving) b = either bare (is_some b.path) _ _ _ _ refl (saving_same setup line saving b)
+
+line_words_same : (setup : Setup) (line : ℕ) (words : List Word) (b : Between) →
+    line_words_taken setup line words (bare b) ≡ mapped bare (line_words_taken setup line words b)
+unfolding line_words_taken
+line_words_same setup line words b = line_by_same setup line words (saving_in b.dialect words) b
+
 path_over : (setup : Setup) (b : Between) → path_ended setup (bare b) ≡ mapped bare (path_ended setup b)
 unfolding path_ended
 path_over setup b =
@@ -296,8 +348,8 @@ effect : (setup : Setup) (line : ℕ) (bytes : List ℕ) (said : List Statement)
 unfolding done_at
 effect setup line bytes said words p =
     after bare_progress (caused stored_cause (set_by_all bytes said p.values)) _ _
-    (λ k. chain bare bare_progress _ (all_taken setup line words (with_notes _ p.between)) (λ b. Ok (record { values = k; between = b }))
-    (λ b. Ok (record { values = k; between = b })) (all_same setup line words (with_notes _ p.between)) (λ b. refl))
+    (λ k. chain bare bare_progress _ (line_words_taken setup line words (with_notes _ p.between)) (λ b. Ok (record { values = k; between = b }))
+    (λ b. Ok (record { values = k; between = b })) (line_words_same setup line words (with_notes _ p.between)) (λ b. refl))
 
 statements : (setup : Setup) (line : ℕ) (bytes : List ℕ) (parts : List Part) (p : Progress) →
     statements_taken setup line bytes parts (bare_progress p) ≡ mapped bare_taken (statements_taken setup line bytes parts p)
@@ -334,32 +386,55 @@ effects_same effects.Enter arguments p = valued p (caused stored_cause (called a
 effects_same (effects.Return value) arguments p = valued p (caused stored_cause (returned value p.values))
 effects_same effects.End arguments p = refl
 
+lined : (p : Progress) (s r : Result Between Cause) → s ≡ mapped bare r → with_line (bare_progress p) s ≡ mapped bare_progress (with_line p r)
+lined p s r is = chain bare bare_progress s r (λ b. Ok (record { values = p.values; between = b })) (λ b. Ok (record { values = p.values; between = b })) is (λ b. refl)
+
+ended_level : (setup : Setup) (line : ℕ) (p : Progress) → level_ended setup line (bare_progress p) ≡ mapped bare_progress (level_ended setup line p)
+ended_level setup line p =
+    lined p _ (call_ended setup line p.between)
+    (restored_if_same setup line (returning p.between.saved) (with_stack (left p.between.saved) p.between))
+
+level_same : (setup : Setup) (line : ℕ) (d : Depths) (p : Progress) →
+    level_taken setup line d (bare_progress p) ≡ mapped bare_progress (level_taken setup line d p)
+level_same setup line d p =
+    either bare_progress (nat_lt d.before d.after) _ _ _ _ refl
+    (either bare_progress (nat_lt d.after d.before) _ _ _ _ (ended_level setup line p)
+    (either bare_progress (d.returns && nat_lt 0 d.after) _ _ _ _
+    (chain bare_progress bare_progress _ (level_ended setup line p) (λ q. level_begun q) (λ q. level_begun q) (ended_level setup line p) (λ q. refl)) refl))
+
 abbrev bare_done : Effect × Progress → Effect × Progress
 bare_done x = (x.0, bare_progress x.1)
 
-effect_same : (e : Effect) (arguments : List (Option ℤ)) (p : Progress) → effect_done e arguments (bare_progress p) ≡ mapped bare_done (effect_done e arguments p)
-effect_same e arguments p =
-    chain bare_progress bare_done _ (effect_taken e arguments p) (λ q. Ok (e, q)) (λ q. Ok (e, q)) (effects_same e arguments p) (λ q. refl)
+level_done : (setup : Setup) (line : ℕ) (d : Depths) (e : Effect) (q : Progress) →
+    (level_taken setup line d (bare_progress q) >>=c λ r. Ok (e, r)) ≡ mapped bare_done (level_taken setup line d q >>=c λ r. Ok (e, r))
+level_done setup line d e q =
+    chain bare_progress bare_done _ (level_taken setup line d q) (λ r. Ok (e, r)) (λ r. Ok (e, r)) (level_same setup line d q) (λ r. refl)
 
-stepped_same : (plan : Plan) (bytes : List ℕ) (said : Said) (s : Flow) (p : Progress) →
-    stepped plan bytes said s (bare_progress p) ≡ mapped bare_effect (stepped plan bytes said s p)
+effect_same : (setup : Setup) (line : ℕ) (d : Depths) (e : Effect) (arguments : List (Option ℤ)) (p : Progress) →
+    effect_done setup line d e arguments (bare_progress p) ≡ mapped bare_done (effect_done setup line d e arguments p)
+effect_same setup line d e arguments p =
+    chain bare_progress bare_done _ (effect_taken e arguments p) (λ q. level_taken setup line d q >>=c λ r. Ok (e, r))
+    (λ q. level_taken setup line d q >>=c λ r. Ok (e, r)) (effects_same e arguments p) (λ q. level_done setup line d e q)
+
+stepped_same : (setup : Setup) (line : ℕ) (plan : Plan) (bytes : List ℕ) (said : Said) (s : Flow) (p : Progress) →
+    stepped setup line plan bytes said s (bare_progress p) ≡ mapped bare_effect (stepped setup line plan bytes said s p)
 unfolding stepped
-stepped_same plan bytes said s p =
+stepped_same setup line plan bytes said s p =
     after bare_effect (caused causes.Flow (next plan (values_from bytes said) s)) _ _
-    (λ x. chain bare_done bare_effect _ (effect_done x.1 said.arguments p) (λ done. Ok (done.0, record { progress = done.1; flow = x.0 }))
-    (λ done. Ok (done.0, record { progress = done.1; flow = x.0 })) (effect_same x.1 said.arguments p) (λ done. refl))
+    (λ x. chain bare_done bare_effect _ (effect_done setup line (depths s x.0 said.statements) x.1 said.arguments p) (λ done. Ok (done.0, record { progress = done.1; flow = x.0 }))
+    (λ done. Ok (done.0, record { progress = done.1; flow = x.0 })) (effect_same setup line (depths s x.0 said.statements) x.1 said.arguments p) (λ done. refl))
 
-turned_same : (plan : Plan) (bytes : List ℕ) (said : Said) (s : Flow) (p : Progress) →
-    turned plan bytes said s (bare_progress p) ≡ mapped bare_effect (turned plan bytes said s p)
-turned_same plan bytes said s p = either bare_effect p.between.state.ended _ _ _ _ refl (stepped_same plan bytes said s p)
+turned_same : (setup : Setup) (line : ℕ) (plan : Plan) (bytes : List ℕ) (said : Said) (s : Flow) (p : Progress) →
+    turned setup line plan bytes said s (bare_progress p) ≡ mapped bare_effect (turned setup line plan bytes said s p)
+turned_same setup line plan bytes said s p = either bare_effect p.between.state.ended _ _ _ _ refl (stepped_same setup line plan bytes said s p)
 
 others : (setup : Setup) (plan : Plan) (line : ℕ) (bytes : List ℕ) (said : Said) (r : FlowProgress) →
     others_taken setup plan line bytes said (bare_flow r) ≡ mapped bare_effect (others_taken setup plan line bytes said r)
 unfolding others_taken
 others setup plan line bytes said r =
     chain bare_progress bare_effect _ (done_at setup line bytes said.statements (other_words (words_of said.statements)) r.progress)
-    (λ p. turned plan bytes said r.flow p) (λ p. turned plan bytes said r.flow p)
-    (effect setup line bytes said.statements (other_words (words_of said.statements)) r.progress) (λ p. turned_same plan bytes said r.flow p)
+    (λ p. turned setup line plan bytes said r.flow p) (λ p. turned setup line plan bytes said r.flow p)
+    (effect setup line bytes said.statements (other_words (words_of said.statements)) r.progress) (λ p. turned_same setup line plan bytes said r.flow p)
 
 flow_statements : (setup : Setup) (plan : Plan) (line : ℕ) (bytes : List ℕ) (parts : List Part) (r : FlowProgress) →
     flow_statements_taken setup plan line bytes parts (bare_flow r) ≡ mapped bare_effect (flow_statements_taken setup plan line bytes parts r)

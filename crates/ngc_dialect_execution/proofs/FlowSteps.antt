@@ -23,7 +23,7 @@ use Rattle.ngc_dialect_execution.specs.declared.fault.DialectFault.TheVariants a
 use Rattle.ngc_dialect_execution.specs.declared.fault.Refusal.{Refusal}
 use Rattle.ngc_dialect_execution.specs.Ending.{Outcome, at, changed_by, finished, with_changes}
 use Rattle.ngc_dialect_execution.specs.Faults.{◌>>=◌, FailsBy, Says, at_line, caused}
-use Rattle.ngc_dialect_execution.specs.Flow.{FlowProgress, effect_done, ends, flow_line_taken, flow_statements_taken, flow_taken, line_or_end, number_at, on_from, others_taken, passed_over, stepped, then_on, turned, values_from}
+use Rattle.ngc_dialect_execution.specs.Flow.{FlowProgress, depths, effect_done, ends, flow_line_taken, flow_statements_taken, flow_taken, line_or_end, number_at, on_from, others_taken, passed_over, stepped, then_on, turned, values_from}
 use Rattle.ngc_dialect_execution.specs.Taken.{Progress, Said, is_deleted}
 use Rattle.ngc_dialect_execution.specs.Text.{ProgramLines, number_of}
 use Rattle.ngc_dialect_execution.proofs.TextSteps.{fails_first, refused_at}
@@ -50,10 +50,10 @@ next_falls : (s : Flow) (r : Result (Flow × Effect) FlowCause) (f : Flow × Eff
 next_falls s (Ok x) f less = effect_kept s x.0 (f x) less
 next_falls s (Err e) f less = tt
 
-stepped_falls : (plan : Plan) (text : List ℕ) (said : Said) (s : Flow) (p : Progress) → Falls s (stepped plan text said s p)
+stepped_falls : (setup : Setup) (line : ℕ) (plan : Plan) (text : List ℕ) (said : Said) (s : Flow) (p : Progress) → Falls s (stepped setup line plan text said s p)
 unfolding stepped
-stepped_falls plan text said s p =
-    next_falls s (next plan (values_from text said) s) (λ step. effect_done step.1 said.arguments p) (fuel_falls plan (values_from text said) s)
+stepped_falls setup line plan text said s p =
+    next_falls s (next plan (values_from text said) s) (λ step. effect_done setup line (depths s step.0 said.statements) step.1 said.arguments p) (fuel_falls plan (values_from text said) s)
 
 ended_step : (s : Flow) (p : Progress) → (let over : Step = Ok (effects.End, record { progress = p; flow = s }) in Falls s over)
 ended_step s p = λ on. absurd (cc on)
@@ -62,12 +62,12 @@ either : (s : Flow) (b : Bool) (x y : Step) → Falls s x → Falls s y → Fall
 either s true x y h k = h
 either s false x y h k = k
 
-turned_falls : (plan : Plan) (text : List ℕ) (said : Said) (s : Flow) (p : Progress) → Falls s (turned plan text said s p)
-turned_falls plan text said s p = either s p.between.state.ended _ _ (ended_step s p) (stepped_falls plan text said s p)
+turned_falls : (setup : Setup) (line : ℕ) (plan : Plan) (text : List ℕ) (said : Said) (s : Flow) (p : Progress) → Falls s (turned setup line plan text said s p)
+turned_falls setup line plan text said s p = either s p.between.state.ended _ _ (ended_step s p) (stepped_falls setup line plan text said s p)
 
 others_fall : (setup : Setup) (plan : Plan) (line : ℕ) (text : List ℕ) (said : Said) (r : FlowProgress) → Falls r.flow (others_taken setup plan line text said r)
 unfolding others_taken
-others_fall setup plan line text said r = after_any r.flow _ _ (λ p. turned_falls plan text said r.flow p)
+others_fall setup plan line text said r = after_any r.flow _ _ (λ p. turned_falls setup line plan text said r.flow p)
 
 statements_fall : (setup : Setup) (plan : Plan) (line : ℕ) (text : List ℕ) (parts : List Part) (r : FlowProgress) →
     Falls r.flow (flow_statements_taken setup plan line text parts r)

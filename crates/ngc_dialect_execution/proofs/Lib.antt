@@ -20,3 +20,5 @@ pub mod ProgramSteps
 pub mod FlowSteps
 -- What a program does doesn't depend on what is collected.
 pub mod Erasure
+-- Modes are restored by the words that restore them.
+pub mod SavedSteps

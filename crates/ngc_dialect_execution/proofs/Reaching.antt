@@ -1,6 +1,6 @@
 -- What a program's plain lines lead to.
 use Rattle.std.proofs.Common.{◌≡◌, ℕ, zero, suc, ℤ, slice_get, List, [], ◌∷◌, ◌++◌, Bool, true, false, Result, Ok, Err, refl, sym, ◌∙◌, ap, subst}
-use Rattle.std.specs.Prelude.{if◌then◌else◌, ◌&&◌, IfOk, IfSome, Option, Some, None, is_some}
+use Rattle.std.specs.Prelude.{if◌then◌else◌, nat_lt, ◌&&◌, IfOk, IfSome, Option, Some, None, is_some}
 use Rattle.std.proofs.lemmas.List.{append_assoc, append-nil}
 use Rattle.ngc_canonical.specs.declared.fault.Fault.{Fault}
 use Rattle.ngc_canonical.specs.declared.fault.Fault.TheVariants.{NoEnd}
@@ -29,6 +29,7 @@ use Rattle.ngc_dialect_path.specs.Paths.{held_line}
 use Rattle.ngc_dialect_path.specs.Steps.{Written, path_end, path_step}
 use Rattle.ngc_dialect_execution.specs.declared.beside.StepLines.{StepLines}
 use Rattle.ngc_dialect_execution.specs.declared.beside.WaitingLine.{WaitingLine}
+use Rattle.ngc_dialect_execution.specs.declared.doing.Depths.{Depths}
 use Rattle.ngc_dialect_execution.specs.declared.fault.Cause.{Cause}
 use Rattle.ngc_dialect_execution.specs.declared.fault.Cause.TheVariants as causes
 use Rattle.ngc_dialect_execution.specs.declared.fault.DialectFault.{DialectFault}
@@ -50,7 +51,7 @@ use Rattle.ngc_dialect_parameters.specs.Stored.{Stored}
 use Rattle.ngc_dialect_parameters.specs.Storing.{called, set_by_all}
 use Rattle.ngc_dialect_execution.specs.Ending.{Framed, Outcome, at, changed_by, ended_only, finished, framed_by, with_changes}
 use Rattle.ngc_dialect_execution.specs.Faults.{◌>>=◌ as ◌>>=c◌, caused, stored_cause, ProgramSays}
-use Rattle.ngc_dialect_execution.specs.Flow.{FlowProgress, effect_done, effect_taken, ends, flow_line_taken, flow_statements_taken, flow_taken, line_or_end, number_at, other_words, others_taken, passed_over, said_if, stepped, then_on, turned, values_from, with_values}
+use Rattle.ngc_dialect_execution.specs.Flow.{FlowProgress, depths, effect_done, effect_taken, ends, flow_line_taken, flow_statements_taken, flow_taken, level_begun, level_ended, level_taken, line_or_end, number_at, other_words, others_taken, passed_over, said_if, stepped, then_on, turned, values_from, with_line, with_values}
 use Rattle.ngc_dialect_execution.specs.Laws.{AreLawful, AreExecuted, LeadTo}
 use Rattle.ngc_dialect_execution.specs.Mounting.{before_lines, first_number, mounted, mounting, with_between}
 use Rattle.ngc_dialect_execution.specs.Program.{commands_in, meaning_in, from_begun, go_from, go_on, lines_taken, marked_taken, traced_in}
@@ -66,6 +67,13 @@ use Rattle.ngc_dialect_repeats.specs.Turns.{turn_step}
 use Rattle.ngc_dialect_execution.specs.Faults.{polar_caused}
 use Rattle.ngc_dialect_execution.specs.Taken.{all_taken, polar_in, polar_step_taken, polar_steps_taken, polar_taken, turn_taken, turned_by, turned_taken, turning_in, turns_taken, with_polar}
 use Rattle.ngc_dialect_execution.specs.Taken.{Between, Progress, Said, END, done_at, ended_at, has_flow, is_deleted, known_of, line_taken, nothing_wanted, parts_taken, said_at, start_progress, run_of, start_kept, statements_taken, with_notes, with_run, words_executed, words_noted, words_of, words_taken, end_noted, plain_taken, move_taken, moves_taken, with_series, start_taken, cycle_taken, cycle_if, made_taken, own_taken, path_ended, path_taken, plain_words_taken, put_off, released_if, step_carried, step_lines, step_taken, waiting_taken}
+use Rattle.ngc_dialect_saved.specs.declared.modes.SavedModes.{SavedModes}
+use Rattle.ngc_dialect_saved.specs.declared.saving.Saving.{Saving}
+use Rattle.ngc_dialect_saved.specs.declared.saving.Saving.TheVariants.{Save, Forget, Restore, SaveToReturn}
+use Rattle.ngc_dialect_saved.specs.Restoring.{restoring}
+use Rattle.ngc_dialect_saved.specs.Savings.{saving_in}
+use Rattle.ngc_dialect_saved.specs.Stack.{left, returning}
+use Rattle.ngc_dialect_execution.specs.Taken.{call_begun, call_ended, line_by, line_words_taken, modes_in, restored, restored_from, restored_if, saving_done, switched, with_stack, word_restored, words_restored}
 use Rattle.ngc_dialect_execution.specs.Text.{ProgramLines, first_byte, is_end, lines_after, mark_of, no_lines, number_of, program_of}
 use Rattle.ngc_dialect_execution.proofs.Lawful.{are_lawful, in_order}
 
@@ -356,6 +364,47 @@ all_lead : (setup : Setup) (line : ℕ) (words : List Word) (b : Between) → Kn
 unfolding all_taken
 all_lead setup line words b = either_known setup (run_of b) (has_polar words) _ _ (polar_leads setup line words b) (turning_leads setup line words b)
 
+-- saved modes
+word_restored_leads : (setup : Setup) (line : ℕ) (w : Option Word) (b : Between) → KnownLeads setup (run_of b) (word_restored setup line w b)
+word_restored_leads setup line None b = stays_there setup (run_of b)
+word_restored_leads setup line (Some w) b =
+    chain setup (run_of b) (words_executed setup line (w ∷ []) b) (λ c. Ok (switched (w ∷ []) c)) (words_executed_lead setup line (w ∷ []) b)
+    (λ c. stays_there setup (run_of c))
+
+words_restored_lead : (setup : Setup) (line : ℕ) (ws : List (Option Word)) (b : Between) → KnownLeads setup (run_of b) (words_restored setup line ws b)
+unfolding words_restored
+words_restored_lead setup line [] b = stays_there setup (run_of b)
+words_restored_lead setup line (w ∷ ws) b =
+    chain setup (run_of b) (word_restored setup line w b) (λ c. words_restored setup line ws c) (word_restored_leads setup line w b)
+    (λ c. words_restored_lead setup line ws c)
+
+restored_leads : (setup : Setup) (line : ℕ) (modes : SavedModes) (b : Between) → KnownLeads setup (run_of b) (restored setup line modes b)
+restored_leads setup line modes b = words_restored_lead setup line (restoring modes (modes_in b)) b
+
+restored_if_leads : (setup : Setup) (line : ℕ) (modes : Option SavedModes) (b : Between) → KnownLeads setup (run_of b) (restored_if setup line modes b)
+restored_if_leads setup line None b = stays_there setup (run_of b)
+restored_if_leads setup line (Some modes) b = restored_leads setup line modes b
+
+restored_from_leads : (setup : Setup) (line : ℕ) (modes : Option SavedModes) (b : Between) → KnownLeads setup (run_of b) (restored_from setup line modes b)
+restored_from_leads setup line None b = tt
+restored_from_leads setup line (Some modes) b = restored_leads setup line modes b
+
+saving_leads : (setup : Setup) (line : ℕ) (saving : Saving) (b : Between) → KnownLeads setup (run_of b) (saving_done setup line saving b)
+saving_leads setup line Save b = stays_there setup (run_of b)
+saving_leads setup line Forget b = stays_there setup (run_of b)
+saving_leads setup line Restore b = restored_from_leads setup line b.saved.here.modes b
+saving_leads setup line SaveToReturn b = stays_there setup (run_of b)
+
+line_by_leads : (setup : Setup) (line : ℕ) (words : List Word) (saving : Option Saving) (b : Between) →
+    KnownLeads setup (run_of b) (line_by setup line words saving b)
+line_by_leads setup line words None b =
+    chain setup (run_of b) (all_taken setup line words b) (λ c. Ok (switched words c)) (all_lead setup line words b) (λ c. stays_there setup (run_of c))
+line_by_leads setup line words (Some saving) b = either_known setup (run_of b) (is_some b.path) _ _ tt (saving_leads setup line saving b)
+
+line_words_lead : (setup : Setup) (line : ℕ) (words : List Word) (b : Between) → KnownLeads setup (run_of b) (line_words_taken setup line words b)
+unfolding line_words_taken
+line_words_lead setup line words b = line_by_leads setup line words (saving_in b.dialect words) b
+
 -- the end of the program
 path_end_leads : (setup : Setup) (b : Between) → KnownLeads setup (run_of b) (path_ended setup b)
 unfolding path_ended
@@ -388,8 +437,8 @@ unfolding done_at
 effect_leads setup line text said words p =
     after_any (λ (q : Progress). Leads setup (run_of p.between) (run_of q.between)) (caused stored_cause (set_by_all text said p.values)) _
     (λ k. after_step (λ (c : Between). Leads setup (run_of p.between) (run_of c)) (λ (q : Progress). Leads setup (run_of p.between) (run_of q.between))
-    (all_taken setup line words (with_notes (statements_noted line said) p.between)) _
-    (all_lead setup line words (with_notes (statements_noted line said) p.between)) (λ b leads. leads))
+    (line_words_taken setup line words (with_notes (statements_noted line said) p.between)) _
+    (line_words_lead setup line words (with_notes (statements_noted line said) p.between)) (λ b leads. leads))
 
 either_leads : (setup : Setup) (s : Run) (b : Bool) (x y : Result (Taken × Progress) Cause) → LeadsOn setup s x → LeadsOn setup s y
     → LeadsOn setup s (if b then x else y)
@@ -435,19 +484,53 @@ either_flow : (setup : Setup) (s : Run) (b : Bool) (x y : Result (Effect × Flow
 either_flow setup s true x y h k = h
 either_flow setup s false x y h k = k
 
--- an effect moves nothing
-abbrev Stays : Progress → Result Progress Cause → Type 0
-Stays p r = IfOk r (λ (q : Progress). q.between ≡ p.between)
+-- an effect moves nothing, but that saved modes are restored
+abbrev EffectLeads : Setup → Progress → Result Progress Cause → Type 0
+EffectLeads setup p r = IfOk r (λ (q : Progress). Leads setup (run_of p.between) (run_of q.between))
 
-values_stay : (p : Progress) (r : Result Stored Cause) → Stays p (with_values p r)
-values_stay p (Ok k) = refl
-values_stay p (Err e) = tt
+values_stay : (setup : Setup) (p : Progress) (r : Result Stored Cause) → EffectLeads setup p (with_values p r)
+values_stay setup p (Ok k) = stays_there setup (run_of p.between)
+values_stay setup p (Err e) = tt
 
-effect_stays : (effect : Effect) (arguments : List (Option ℤ)) (p : Progress) → Stays p (effect_taken effect arguments p)
-effect_stays effects.Stay arguments p = refl
-effect_stays effects.Enter arguments p = values_stay p (caused stored_cause (called arguments p.values))
-effect_stays (effects.Return value) arguments p = values_stay p (caused stored_cause (returned value p.values))
-effect_stays effects.End arguments p = refl
+effect_leads_on : (setup : Setup) (effect : Effect) (arguments : List (Option ℤ)) (p : Progress) → EffectLeads setup p (effect_taken effect arguments p)
+effect_leads_on setup effects.Stay arguments p = stays_there setup (run_of p.between)
+effect_leads_on setup effects.Enter arguments p = values_stay setup p (caused stored_cause (called arguments p.values))
+effect_leads_on setup (effects.Return value) arguments p = values_stay setup p (caused stored_cause (returned value p.values))
+effect_leads_on setup effects.End arguments p = stays_there setup (run_of p.between)
+
+line_left : (setup : Setup) (p : Progress) (r : Result Between Cause) → KnownLeads setup (run_of p.between) r → EffectLeads setup p (with_line p r)
+line_left setup p (Ok b) h = h
+line_left setup p (Err e) h = tt
+
+ended_leads : (setup : Setup) (line : ℕ) (p : Progress) → EffectLeads setup p (level_ended setup line p)
+ended_leads setup line p =
+    line_left setup p (call_ended setup line p.between) (restored_if_leads setup line (returning p.between.saved) (with_stack (left p.between.saved) p.between))
+
+begun_leads : (setup : Setup) (p : Progress) → EffectLeads setup p (level_begun p)
+begun_leads setup p = stays_there setup (run_of p.between)
+
+effect_on : (setup : Setup) (p q : Progress) (r : Result Progress Cause) → Leads setup (run_of p.between) (run_of q.between) → EffectLeads setup q r
+    → EffectLeads setup p r
+effect_on setup p q (Ok x) first h = on_leads setup (run_of p.between) (run_of q.between) (run_of x.between) first h
+effect_on setup p q (Err e) first h = tt
+
+effect_chain : (setup : Setup) (p : Progress) (r : Result Progress Cause) (f : Progress → Result Progress Cause) → EffectLeads setup p r
+    → ((q : Progress) → EffectLeads setup q (f q)) → EffectLeads setup p (r >>=c f)
+effect_chain setup p (Ok q) f h rest = effect_on setup p q (f q) h (rest q)
+effect_chain setup p (Err e) f h rest = tt
+
+either_effect : (setup : Setup) (p : Progress) (b : Bool) (x y : Result Progress Cause) → EffectLeads setup p x → EffectLeads setup p y
+    → EffectLeads setup p (if b then x else y)
+either_effect setup p true x y h k = h
+either_effect setup p false x y h k = k
+
+level_leads : (setup : Setup) (line : ℕ) (d : Depths) (p : Progress) → EffectLeads setup p (level_taken setup line d p)
+level_leads setup line d p =
+    either_effect setup p (nat_lt d.before d.after) _ _ (begun_leads setup p)
+    (either_effect setup p (nat_lt d.after d.before) _ _ (ended_leads setup line p)
+    (either_effect setup p (d.returns && nat_lt 0 d.after) _ _
+    (effect_chain setup p (level_ended setup line p) (λ q. level_begun q) (ended_leads setup line p) (λ q. begun_leads setup q))
+    (stays_there setup (run_of p.between))))
 
 abbrev with_effect : Effect → Result Progress Cause → Result (Effect × Progress) Cause
 with_effect effect r = r >>=c λ q. Ok (effect, q)
@@ -455,25 +538,32 @@ with_effect effect r = r >>=c λ q. Ok (effect, q)
 abbrev with_flow : Flow → Result (Effect × Progress) Cause → Result (Effect × FlowProgress) Cause
 with_flow flow r = r >>=c λ done. Ok (done.0, record { progress = done.1; flow = flow })
 
-effect_done_stays : (setup : Setup) (flow : Flow) (effect : Effect) (arguments : List (Option ℤ)) (p : Progress) →
-    FlowLeads setup (run_of p.between) (with_flow flow (effect_done effect arguments p))
-effect_done_stays setup flow effect arguments p = by (effect_taken effect arguments p) (effect_stays effect arguments p) where
-  by : (r : Result Progress Cause) → Stays p r → FlowLeads setup (run_of p.between) (with_flow flow (with_effect effect r))
-  by (Ok q) same = subst (λ (b : Between). Leads setup (run_of p.between) (run_of b)) (sym same) (stays_there setup (run_of p.between))
-  by (Err e) same = tt
+-- an effect, and then the level
+level_after : (setup : Setup) (line : ℕ) (d : Depths) (flow : Flow) (effect : Effect) (p : Progress) (r : Result Progress Cause) → EffectLeads setup p r
+    → FlowLeads setup (run_of p.between) (with_flow flow (r >>=c λ q. with_effect effect (level_taken setup line d q)))
+level_after setup line d flow effect p (Ok q) leads = by (level_taken setup line d q) (effect_on setup p q _ leads (level_leads setup line d q)) where
+  by : (x : Result Progress Cause) → EffectLeads setup p x → FlowLeads setup (run_of p.between) (with_flow flow (with_effect effect x))
+  by (Ok z) h = h
+  by (Err e) h = tt
+level_after setup line d flow effect p (Err e) leads = tt
 
-stepped_leads : (setup : Setup) (plan : Plan) (text : List ℕ) (said : Said) (s : Flow) (p : Progress) →
-    FlowLeads setup (run_of p.between) (stepped plan text said s p)
+effect_done_leads : (setup : Setup) (line : ℕ) (d : Depths) (flow : Flow) (effect : Effect) (arguments : List (Option ℤ)) (p : Progress) →
+    FlowLeads setup (run_of p.between) (with_flow flow (effect_done setup line d effect arguments p))
+effect_done_leads setup line d flow effect arguments p =
+    level_after setup line d flow effect p (effect_taken effect arguments p) (effect_leads_on setup effect arguments p)
+
+stepped_leads : (setup : Setup) (line : ℕ) (plan : Plan) (text : List ℕ) (said : Said) (s : Flow) (p : Progress) →
+    FlowLeads setup (run_of p.between) (stepped setup line plan text said s p)
 unfolding stepped
-stepped_leads setup plan text said s p =
+stepped_leads setup line plan text said s p =
     after_any (λ (x : Effect × FlowProgress). Leads setup (run_of p.between) (run_of x.1.progress.between))
     (caused causes.Flow (next plan (values_from text said) s)) _
-    (λ step. effect_done_stays setup step.0 step.1 said.arguments p)
+    (λ step. effect_done_leads setup line (depths s step.0 said.statements) step.0 step.1 said.arguments p)
 
-turned_leads : (setup : Setup) (plan : Plan) (text : List ℕ) (said : Said) (s : Flow) (p : Progress) →
-    FlowLeads setup (run_of p.between) (turned plan text said s p)
-turned_leads setup plan text said s p =
-    either_flow setup (run_of p.between) p.between.state.ended _ _ (stays_there setup (run_of p.between)) (stepped_leads setup plan text said s p)
+turned_leads : (setup : Setup) (line : ℕ) (plan : Plan) (text : List ℕ) (said : Said) (s : Flow) (p : Progress) →
+    FlowLeads setup (run_of p.between) (turned setup line plan text said s p)
+turned_leads setup line plan text said s p =
+    either_flow setup (run_of p.between) p.between.state.ended _ _ (stays_there setup (run_of p.between)) (stepped_leads setup line plan text said s p)
 
 flow_from_there : (setup : Setup) (s t : Run) (r : Result (Effect × FlowProgress) Cause) → Leads setup s t → FlowLeads setup t r → FlowLeads setup s r
 flow_from_there setup s t (Ok x) first leads = on_leads setup s t (run_of x.1.progress.between) first leads
@@ -487,8 +577,8 @@ others_lead setup plan line text said r =
     (λ (x : Effect × FlowProgress). Leads setup (run_of r.progress.between) (run_of x.1.progress.between))
     (done_at setup line text said.statements (other_words (words_of said.statements)) r.progress) _
     (effect_leads setup line text said.statements (other_words (words_of said.statements)) r.progress)
-    (λ q leads. flow_from_there setup (run_of r.progress.between) (run_of q.between) (turned plan text said r.flow q) leads
-    (turned_leads setup plan text said r.flow q))
+    (λ q leads. flow_from_there setup (run_of r.progress.between) (run_of q.between) (turned setup line plan text said r.flow q) leads
+    (turned_leads setup line plan text said r.flow q))
 
 flow_statements_lead : (setup : Setup) (plan : Plan) (line : ℕ) (text : List ℕ) (parts : List Part) (r : FlowProgress) →
     FlowLeads setup (run_of r.progress.between) (flow_statements_taken setup plan line text parts r)

@@ -25,6 +25,7 @@ cause_number causes.TooManyNames = 139
 cause_number (causes.Flow cause) = flow_number cause
 cause_number (causes.Rule fault) = rule_number fault.cause
 cause_number (causes.Polar refusal) = polar_number refusal
+cause_number causes.NothingSaved = 211
 cause_number (causes.Plain fault) = plain_number fault
 
 abbrev pub dialect_number : DialectFault → ℕ

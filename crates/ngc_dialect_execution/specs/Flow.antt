@@ -1,6 +1,6 @@
 -- Lines of a program whose flow has begun: which one is next is decided by the line that was executed.
 -- Our own.
-use Rattle.std.specs.Prelude.{ℕ, zero, suc, ◌+◌, ◌==◌, ◌&&◌, ◌||◌, not, ℤ, List, [], ◌++◌, filter, slice_get, Bool, true, false}
+use Rattle.std.specs.Prelude.{ℕ, zero, suc, ◌+◌, ◌==◌, nat_lt, ◌&&◌, ◌||◌, not, ℤ, List, [], ◌++◌, filter, slice_get, Bool, true, false}
 use Rattle.std.specs.Prelude.{Option, Some, None, Result, Ok, Err, if◌then◌else◌}
 use Rattle.std.specs.List.{list_any}
 use Rattle.ngc_frames.specs.declared.change.FrameChange.{FrameChange}
@@ -8,7 +8,10 @@ use Rattle.ngc_canonical.specs.State.{Setup}
 use Rattle.ngc_dialect_reader.specs.declared.part.Part.{Part}
 use Rattle.ngc_dialect_reader.specs.Line.{line_of}
 use Rattle.ngc_dialect_reader.specs.Text.{text}
+use Rattle.ngc_dialect_parameters.specs.declared.statement.Statement.{Statement}
+use Rattle.ngc_dialect_parameters.specs.declared.statement.Statement.TheVariants as statements
 use Rattle.ngc_dialect_parameters.specs.declared.statement.Word.{Word}
+use Rattle.ngc_dialect_execution.specs.declared.doing.Depths.{Depths}
 use Rattle.ngc_dialect_parameters.specs.Stored.{Stored}
 use Rattle.ngc_dialect_parameters.specs.Storing.{called}
 use Rattle.ngc_dialect_flow.specs.declared.effect.Effect.{Effect}
@@ -17,7 +20,7 @@ use Rattle.ngc_dialect_flow.specs.declared.fault.Cause.TheVariants.{TooManyLines
 use Rattle.ngc_dialect_flow.specs.Next.{needs_values, next, skipped}
 use Rattle.ngc_dialect_flow.specs.Places.{Plan, plan_in}
 use Rattle.ngc_dialect_flow.specs.Returning.{returned}
-use Rattle.ngc_dialect_flow.specs.State.{Flow, begun}
+use Rattle.ngc_dialect_flow.specs.State.{Flow, begun, depth}
 use Rattle.ngc_dialect_flow.specs.Words.{Values}
 use Rattle.ngc_dialect_execution.specs.declared.fault.Cause.{Cause}
 use Rattle.ngc_dialect_execution.specs.declared.fault.Cause.TheVariants as causes
@@ -25,7 +28,7 @@ use Rattle.ngc_dialect_execution.specs.declared.fault.DialectFault.{DialectFault
 use Rattle.ngc_dialect_execution.specs.declared.fault.DialectFault.TheVariants as faults
 use Rattle.ngc_dialect_execution.specs.Faults.{◌>>=◌, caused, stored_cause}
 use Rattle.ngc_dialect_execution.specs.Ending.{Outcome, at, changed_by, finished, with_changes}
-use Rattle.ngc_dialect_execution.specs.Taken.{Progress, Said, done_at, is_deleted, is_m, said_at, words_of}
+use Rattle.ngc_dialect_execution.specs.Taken.{Between, Progress, Said, call_begun, call_ended, done_at, is_deleted, is_m, said_at, words_of}
 use Rattle.ngc_dialect_execution.specs.Text.{ProgramLines, number_of}
 
 -- what is known between two lines, and where the flow is
@@ -69,29 +72,66 @@ effect_taken (effects.Return value) arguments p =
     with_values p (caused stored_cause (returned value p.values))
 effect_taken effects.End arguments p = Ok p
 
--- the same, with the effect
-abbrev pub effect_done : Effect → List (Option ℤ) → Progress → Result (Effect × Progress) Cause
-effect_done effect arguments p = effect_taken effect arguments p >>= λ q. Ok (effect, q)
+-- what it does to the saved modes: a call begins, or ends at a line with this number
+abbrev pub with_line : Progress → Result Between Cause → Result Progress Cause
+with_line p r = r >>= λ b. Ok (record p { between = b })
+
+abbrev pub level_begun : Progress → Result Progress Cause
+level_begun p = with_line p (call_begun p.between)
+
+abbrev pub level_ended : Setup → ℕ → Progress → Result Progress Cause
+level_ended setup line p = with_line p (call_ended setup line p.between)
+
+abbrev pub level_repeated : Setup → ℕ → Progress → Result Progress Cause
+level_repeated setup line p = level_ended setup line p >>= λ q. level_begun q
+
+-- Calls are levels, also those of M98, which have no parameters of their own. M99 that leaves as many
+-- calls open executes its program again.
+abbrev pub level_taken : Setup → ℕ → Depths → Progress → Result Progress Cause
+level_taken setup line d p =
+    if nat_lt d.before d.after then level_begun p else (
+    if nat_lt d.after d.before then level_ended setup line p else (
+    if d.returns && nat_lt 0 d.after then level_repeated setup line p else Ok p))
+
+abbrev pub is_m99 : Statement → Bool
+is_m99 (statements.Word w) = is_m 99 w
+is_m99 _ = false
+
+abbrev pub has_m99 : List Statement → Bool
+has_m99 said = list_any is_m99 said
+
+abbrev pub depths : Flow → Flow → List Statement → Depths
+depths s t said = record { before = depth s; after = depth t; returns = has_m99 said }
+
+-- both, with the effect
+abbrev pub effect_done :
+    Setup → ℕ → Depths → Effect → List (Option ℤ) → Progress → Result (Effect × Progress) Cause
+effect_done setup line d effect arguments p = do
+  q ← effect_taken effect arguments p
+  r ← level_taken setup line d q
+  Ok (effect, r)
 
 -- where the flow is after a line that said this and took effect
-unfoldable pub stepped : Plan → List ℕ → Said → Flow → Progress → Result (Effect × FlowProgress) Cause
-stepped plan text said s p = do
+unfoldable pub stepped :
+    Setup → ℕ → Plan → List ℕ → Said → Flow → Progress → Result (Effect × FlowProgress) Cause
+stepped setup line plan text said s p = do
   step ← caused causes.Flow (next plan (values_from text said) s)
-  done ← effect_done step.1 said.arguments p
+  done ← effect_done setup line (depths s step.0 said.statements) step.1 said.arguments p
   Ok (done.0, record { progress = done.1; flow = step.0 })
 
 -- the same, unless the line has ended the program
-abbrev pub turned : Plan → List ℕ → Said → Flow → Progress → Result (Effect × FlowProgress) Cause
-turned plan text said s p =
+abbrev pub turned :
+    Setup → ℕ → Plan → List ℕ → Said → Flow → Progress → Result (Effect × FlowProgress) Cause
+turned setup line plan text said s p =
     if p.between.state.ended then Ok (effects.End, record { progress = p; flow = s })
-    else stepped plan text said s p
+    else stepped setup line plan text said s p
 
 -- a line that says this takes effect, and then the flow goes on
 unfoldable pub others_taken :
     Setup → Plan → ℕ → List ℕ → Said → FlowProgress → Result (Effect × FlowProgress) Cause
 others_taken setup plan line text said r = do
   p ← done_at setup line text said.statements (other_words (words_of said.statements)) r.progress
-  turned plan text said r.flow p
+  turned setup line plan text said r.flow p
 
 -- a line with this text and these parts
 unfoldable pub flow_statements_taken :

@@ -49,6 +49,15 @@ use Rattle.ngc_dialect_rules.specs.declared.plain.Plain.TheVariants as plain
 use Rattle.ngc_dialect_rules.specs.Faults.{about_code}
 use Rattle.ngc_dialect_rules.specs.Front.{start_front}
 use Rattle.ngc_dialect_rules.specs.Rules.{plain_lines}
+use Rattle.ngc_dialect_saved.specs.declared.modes.SavedModes.{SavedModes}
+use Rattle.ngc_dialect_saved.specs.declared.saving.Saving.{Saving}
+use Rattle.ngc_dialect_saved.specs.declared.saving.Saving.TheVariants.{Save, Forget, Restore, SaveToReturn}
+use Rattle.ngc_dialect_saved.specs.declared.switches.Switches.{Switches}
+use Rattle.ngc_dialect_saved.specs.Modes.{modes_now}
+use Rattle.ngc_dialect_saved.specs.Restoring.{restoring}
+use Rattle.ngc_dialect_saved.specs.Savings.{saving_code, saving_in}
+use Rattle.ngc_dialect_saved.specs.Stack.{Stack, entered, forgotten, left, no_stack, returning, saved}
+use Rattle.ngc_dialect_saved.specs.Switched.{start_switches, switches_after}
 use Rattle.ngc_dialect_execution.specs.declared.beside.StepLines.{StepLines}
 use Rattle.ngc_dialect_execution.specs.declared.beside.WaitingLine.{WaitingLine}
 use Rattle.ngc_dialect_execution.specs.declared.fault.Cause.{Cause}
@@ -78,6 +87,8 @@ pub record Between : Type 0 where
   pub notes : Option Notes
   pub kept : Option (List PlainLine)
   pub polar : Option PolarEnd
+  pub saved : Stack
+  pub switches : Switches
 
 abbrev pub nothing_wanted : Wanted
 nothing_wanted = record { notes = false; lines = false }
@@ -100,6 +111,8 @@ start w d machine = record {
   notes = start_notes w.notes;
   kept = start_kept w.lines;
   polar = None;
+  saved = no_stack;
+  switches = start_switches;
 }
 
 -- what is known between two lines of a program: also what it has set
@@ -414,12 +427,83 @@ unfoldable pub all_taken : Setup → ℕ → List Word → Between → Result Be
 all_taken setup line words b =
     if has_polar words then polar_taken setup line words b else turned_taken setup line words b
 
+-- ---- saved modes (LinuxCNC's documentation, "M70" to "M73")
+
+abbrev pub modes_in : Between → SavedModes
+modes_in b = modes_now (known_of b) b.switches
+
+-- what a line with these words has switched is kept
+abbrev pub switched : List Word → Between → Between
+switched words b = record b { switches = switches_after words b.switches }
+
+-- a word that restores a mode, as a line of its own
+abbrev pub word_restored : Setup → ℕ → Option Word → Between → Result Between Cause
+word_restored setup line None b = Ok b
+word_restored setup line (Some w) b =
+    words_executed setup line (w ∷ []) b >>= λ c. Ok (switched (w ∷ []) c)
+
+unfoldable pub words_restored : Setup → ℕ → List (Option Word) → Between → Result Between Cause
+words_restored setup line [] b = Ok b
+words_restored setup line (w ∷ ws) b =
+    word_restored setup line w b >>= λ c. words_restored setup line ws c
+
+-- modes where others are in force
+abbrev pub restored : Setup → ℕ → SavedModes → Between → Result Between Cause
+restored setup line modes b = words_restored setup line (restoring modes (modes_in b)) b
+
+abbrev pub restored_from : Setup → ℕ → Option SavedModes → Between → Result Between Cause
+restored_from setup line None b = Err causes.NothingSaved
+restored_from setup line (Some modes) b = restored setup line modes b
+
+abbrev pub restored_if : Setup → ℕ → Option SavedModes → Between → Result Between Cause
+restored_if setup line None b = Ok b
+restored_if setup line (Some modes) b = restored setup line modes b
+
+abbrev pub with_stack : Stack → Between → Between
+with_stack stack b = record b { saved = stack }
+
+abbrev pub with_saved : Bool → Between → Between
+with_saved returns b = with_stack (saved returns (modes_in b) b.saved) b
+
+abbrev pub saving_done : Setup → ℕ → Saving → Between → Result Between Cause
+saving_done setup line Save b = Ok (with_saved false b)
+saving_done setup line Forget b = Ok (with_stack (forgotten b.saved) b)
+saving_done setup line Restore b = restored_from setup line b.saved.here.modes b
+saving_done setup line SaveToReturn b = Ok (with_saved true b)
+
+-- not while cutter compensation is on: our own limit
+abbrev pub saving_taken : Setup → ℕ → Saving → Between → Result Between Cause
+saving_taken setup line saving b =
+    if is_some b.path
+    then Err (causes.Rule (about_code rules.WhileCompensating (saving_code saving)))
+    else saving_done setup line saving b
+
+abbrev pub switched_taken : Setup → ℕ → List Word → Between → Result Between Cause
+switched_taken setup line words b =
+    all_taken setup line words b >>= λ c. Ok (switched words c)
+
+abbrev pub line_by : Setup → ℕ → List Word → Option Saving → Between → Result Between Cause
+line_by setup line words None b = switched_taken setup line words b
+line_by setup line words (Some saving) b = saving_taken setup line saving b
+
+-- the words of a line
+unfoldable pub line_words_taken : Setup → ℕ → List Word → Between → Result Between Cause
+line_words_taken setup line words b = line_by setup line words (saving_in b.dialect words) b
+
+-- a call begins, in which nothing is saved yet
+abbrev pub call_begun : Between → Result Between Cause
+call_begun b = Ok (with_stack (entered b.saved) b)
+
+-- a call ends, and what M73 saved in it is restored
+abbrev pub call_ended : Setup → ℕ → Between → Result Between Cause
+call_ended setup line b = restored_if setup line (returning b.saved) (with_stack (left b.saved) b)
+
 -- a line with this text takes effect: its settings are made, and its words executed
 unfoldable pub done_at : Setup → ℕ → List ℕ → List Statement → List Word → Progress →
     Result Progress Cause
 done_at setup line text said words p = do
   k ← caused stored_cause (set_by_all text said p.values)
-  b ← all_taken setup line words (with_notes (statements_noted line said) p.between)
+  b ← line_words_taken setup line words (with_notes (statements_noted line said) p.between)
   Ok (record { values = k; between = b })
 
 -- what was done, and what is known then

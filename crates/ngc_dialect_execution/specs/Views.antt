@@ -12,6 +12,7 @@ use Rattle.ngc_dialect_execution.specs.declared.doing.Execution.{Execution}
 use Rattle.ngc_dialect_execution.specs.declared.lines.DialectInterpreter.{DialectInterpreter}
 use Rattle.ngc_dialect_execution.specs.declared.framing.Executed.{Executed}
 use Rattle.ngc_dialect_execution.specs.declared.program.Traced.{Traced}
+use Rattle.ngc_dialect_saved.specs.Stack.{stack_of}
 use Rattle.ngc_dialect_execution.specs.Ending.{Framed}
 use Rattle.ngc_dialect_execution.specs.Taken.{Between, Progress, Said}
 
@@ -38,6 +39,8 @@ between_of i = record {
   notes = i.notes;
   kept = kept_in i.run.kept;
   polar = i.polar;
+  saved = stack_of i.saved;
+  switches = i.switches;
 }
 
 abbrev pub progress_of : {A : Type 0} → Execution A → Progress

@@ -28,6 +28,8 @@ pub enum Cause {
     Rule(RuleFault),
     /// 101, 211: polar words.
     Polar(PolarRefusal),
+    /// 211: M72 where neither M70 nor M73 has saved modes.
+    NothingSaved,
     /// The fault of a plain line that the line became.
     Plain(ngc_canonical::Fault),
 }
@@ -46,6 +48,7 @@ impl Cause {
             Cause::Flow(cause) => cause.number(),
             Cause::Rule(fault) => fault.cause.number(),
             Cause::Polar(refusal) => refusal.number(),
+            Cause::NothingSaved => 211,
             Cause::Plain(fault) => fault.number(),
         }
     }

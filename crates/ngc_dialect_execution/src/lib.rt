@@ -13,6 +13,7 @@ mod program;
 mod reading;
 mod repeats;
 mod run;
+mod saving;
 mod text;
 mod words;
 

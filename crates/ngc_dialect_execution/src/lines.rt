@@ -186,7 +186,7 @@ impl<A: Allocator + Copy> DialectInterpreter<A> {
             Ok(()) => {}
             Err(refusal) => return Err(refusal),
         }
-        self.execution.turn(table, state, &self.line, &self.values)
+        self.execution.turn(machine, tools, line, table, state, &self.line, &self.values)
     }
 
     // Executes the line that was read, and goes on.

@@ -139,8 +139,8 @@ pub(crate) fn said_if<A: Allocator + Copy>(
     }
 }
 
-// Returns whether a word is the M code with this number.
-fn is_m(number: u8, word: &Word) -> bool
+/// Returns whether a word is the M code with this number.
+pub(crate) fn is_m(number: u8, word: &Word) -> bool
     ensures { result ≡ spec.is_m number word.now }
 {
     word.letter == b'M' && word.value.trillionths() == i128::from(number) * ONE

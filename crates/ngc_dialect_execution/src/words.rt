@@ -30,6 +30,7 @@ use ngc_dialect_repeats::PolarEnd;
 use ngc_dialect_rules::{
     Code, Front, Known, LineCycle, LineResult, Plain, PlainLines, plain_lines,
 };
+use ngc_dialect_saved::{SavedStack, Switches};
 use ngc_fixed_length::Value;
 use ngc_frames::Frame;
 use ngc_line_reader::{Letter, Word as PlainWord};
@@ -48,6 +49,8 @@ pub struct WordInterpreter<A: Allocator> {
     pub(crate) waiting: Vec<WaitingLine, A>,
     path_lines: PathLines,
     pub(crate) polar: Option<PolarEnd>,
+    pub(crate) saved: SavedStack<A>,
+    pub(crate) switches: Switches,
 }
 
 /// The commands of a program, and what was collected while it was executed.
@@ -135,6 +138,8 @@ impl<A: Allocator + Copy> WordInterpreter<A> {
                 own: ArrayVec::new(),
             },
             polar: None,
+            saved: SavedStack::new(alloc),
+            switches: Switches::start(),
         })
     }
 
@@ -387,9 +392,9 @@ impl<A: Allocator + Copy> WordInterpreter<A> {
         }
     }
 
-    // Executes the words of a line.
+    /// Executes the words of a line.
     #[tactic(auto, unfolding(crate::specs::Taken::words_executed))]
-    fn execute_words(
+    pub(crate) fn execute_words(
         &mut self,
         machine: &Machine<A>,
         tools: &Tools<A>,

@@ -7,7 +7,7 @@ use Rattle.ngc_certificate_text.specs.declared.piece.Setting.{Setting}
 use Rattle.ngc_certificate_text.specs.declared.piece.Setting.TheVariants.{Off, On}
 use Rattle.ngc_dialect_execution.specs.Faults.{cause_number}
 use Rattle.ngc_dialect_execution.specs.declared.fault.Cause.{Cause}
-use Rattle.ngc_dialect_execution.specs.declared.fault.Cause.TheVariants.{Reading, Value, TooManyNames, Flow, Rule, Polar, Plain}
+use Rattle.ngc_dialect_execution.specs.declared.fault.Cause.TheVariants.{Reading, Value, TooManyNames, Flow, Rule, Polar, NothingSaved, Plain}
 use Rattle.ngc_dialect_rules.specs.declared.code.Code.{Code}
 use Rattle.ngc_dialect_rules.specs.declared.code.Code.TheVariants.{G, M}
 use Rattle.ngc_dialect_rules.specs.declared.fault.About.{About}
@@ -57,6 +57,7 @@ cause_text TooManyNames = codes "over 10,000 names"
 cause_text (Flow cause) = flow_words cause
 cause_text (Rule fault) = rule_text fault
 cause_text (Polar refusal) = polar_words refusal
+cause_text NothingSaved = codes "M72 restores modes that neither M70 nor M73 has saved here"
 cause_text (Plain fault) = plain_words fault ++ plain_end fault
 
 -- ---- the line

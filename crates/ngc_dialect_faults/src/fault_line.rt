@@ -95,6 +95,8 @@ fn say_cause<W: Sink>(cause: &Cause, page: &mut Page, output: &mut W)
         Cause::Flow(cause) => say!(page, output; Part::Text(flow_words(*cause))),
         Cause::Rule(fault) => say_rule(fault, page, output),
         Cause::Polar(refusal) => say!(page, output; Part::Text(polar_words(*refusal))),
+        Cause::NothingSaved =>
+            say!(page, output; b"M72 restores modes that neither M70 nor M73 has saved here"),
         Cause::Plain(fault) =>
             say!(page, output; Part::Text(plain_words(*fault)), plain_end(fault)),
     }

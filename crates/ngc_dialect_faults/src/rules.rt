@@ -27,7 +27,7 @@ fn left_out_words(left_out: LeftOut) -> &'static [u8]
         LeftOut::SpindleAngle => b"an angle of the spindle",
         LeftOut::Outputs => b"outputs and inputs",
         LeftOut::ToolInSpindle => b"the number of the tool in the spindle",
-        LeftOut::ModeSaving => b"saved modes",
+        LeftOut::ModeSaving => b"saved modes beside other words or in this dialect",
         LeftOut::Calls => b"subprograms",
         LeftOut::ChipBreaking => { b"G73 by a distance back that a setting of the control decides" }
         LeftOut::ToolTable => b"the tool table",

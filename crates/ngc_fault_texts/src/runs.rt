@@ -171,9 +171,9 @@ pub(crate) fn shell() -> &'static [Row]
             example: "command `ngc list >/dev/full`",
             answer: "`ngc: fault 902`",
             place: Some("1"),
-            mend: "What was written is a prefix of the output. Where a pipe was closed, as by `head`, the status is\n\
-             the same, but no line is written. With `--out` the file is as it was, and a second line says why:\n\
-             the file is one that the command reads, or it can't be made or written.",
+            mend: "What was written is a prefix of the output. Where a pipe was closed, as by `head`, the status\n\
+             is the same, but no line is written. With `--out` the file is as it was. A second line says\n\
+             if the file is one that the command reads, can't be made or can't get its name.",
         },
     ];
     ROWS

@@ -12,3 +12,5 @@ pub mod Sweeps
 pub mod Ends
 -- How far a tip is below a top, by how far it is from a bottom.
 pub mod Depths
+-- The feeds of the remaining commands, after those of one.
+pub mod LaterFeeds

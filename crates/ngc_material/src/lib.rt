@@ -1,7 +1,9 @@
 //! A walk over the commands of a machine that keeps the heights of the material that feeds leave, and
-//! finds straight traverses that may touch it; tool changes below the top of a stock.
+//! finds straight traverses that may touch it; tool changes below the top of a stock, and feeds below
+//! its bottom.
 #![tactic(auto)]
 
+mod below;
 mod change;
 mod chord;
 mod cutter;
@@ -15,6 +17,7 @@ mod sweep;
 mod touch;
 mod walk;
 
+pub use below::find_below;
 pub use change::change_at;
 pub use cutter::{is_thin, margin};
 pub use touch::Touch;

@@ -1,14 +1,16 @@
--- How traverses that may touch material, and tool changes in it, are written, in words and as facts of a
--- JSON document. Our own.
-use Rattle.std.specs.Prelude.{ℕ, ◌+◌, ◌-◌, ◌*◌, ◌/◌, nat_lt, ◌-ℤ◌, unsigned_abs, List, [], ◌++◌, codes, decimal, length, take, slice_get, flat_map, Option, Some, None, if◌then◌else◌}
+-- How traverses that may touch material, tool changes in it and feeds below its bottom are written, in
+-- words and as facts of a JSON document. Our own.
+use Rattle.std.specs.Prelude.{ℕ, ◌+◌, ◌-◌, ◌*◌, ◌/◌, ◌==◌, nat_lt, ◌-ℤ◌, unsigned_abs, List, [], ◌++◌, codes, decimal, length, take, slice_get, flat_map, Option, Some, None, if◌then◌else◌}
 use Rattle.ngc_text.specs.Millimetres.{sign_text, size_text}
 use Rattle.ngc_machine_files.specs.declared.tools.Tool.{Tool}
 use Rattle.ngc_commands.specs.declared.command.Command.{Command}
 use Rattle.ngc_commands.specs.declared.reached.Reached.{Reached}
 use Rattle.ngc_cells.specs.declared.grid.Grid.{Grid}
 use Rattle.ngc_cells.specs.declared.stretch.Spot.{Spot}
+use Rattle.ngc_stock.specs.declared.below.AllBelow.{AllBelow}
 use Rattle.ngc_stock.specs.declared.change.Change.{Change}
 use Rattle.ngc_stock.specs.declared.stock.Stock.{Stock}
+use Rattle.ngc_stock.specs.Below.{all_below}
 use Rattle.ngc_stock.specs.Changes.{changes}
 use Rattle.ngc_stock.specs.Stocks.{margin, radius, reduction}
 use Rattle.ngc_material.specs.declared.walk.Found.{Found}
@@ -102,6 +104,45 @@ change_line form origin (Some c) = change_text form origin c
 -- those of a program, from a state
 abbrev pub changes_text : Form → Spot → Stock → Reached → List Command → List ℕ
 changes_text form origin s r commands = flat_map (change_text form origin) (changes s r 0 commands)
+
+-- ---- feeds below the stock's bottom
+
+unfoldable pub deepest_words : AllBelow → List ℕ
+deepest_words a =
+    codes "Line " ++ decimal a.deepest.line ++ codes " feeds below the stock's bottom: tool " ++ decimal a.deepest.tool
+    ++ codes " is at most " ++ size_text a.deepest.depth ++ codes " mm below it."
+
+unfoldable pub range_words : AllBelow → List ℕ
+range_words a =
+    codes " The first such feed is in line " ++ decimal a.first ++ codes ", the last in line " ++ decimal a.last
+    ++ codes "."
+
+-- where the others are, if there are others in other lines
+abbrev pub others_words : AllBelow → List ℕ
+others_words a = if a.first == a.last then [] else range_words a
+
+abbrev pub below_words : AllBelow → List ℕ
+below_words a = deepest_words a ++ (others_words a ++ codes "\n")
+
+unfoldable pub below_fact : AllBelow → List ℕ
+below_fact a =
+    codes ",\n{\"fact\":\"material\",\"kind\":\"bottom\",\"certain\":false,\"line\":" ++ decimal a.deepest.line
+    ++ codes ",\"command\":" ++ decimal a.deepest.command ++ codes ",\"tool\":" ++ decimal a.deepest.tool
+    ++ codes ",\"part\":0,\"depth\":" ++ decimal a.deepest.depth ++ codes ",\"first\":" ++ decimal a.first
+    ++ codes ",\"last\":" ++ decimal a.last ++ codes "}"
+
+abbrev pub all_below_text : Form → AllBelow → List ℕ
+all_below_text Words a = below_words a
+all_below_text Json a = below_fact a
+
+abbrev pub below_text : Form → Option AllBelow → List ℕ
+below_text form None = []
+below_text form (Some a) = all_below_text form a
+
+-- the tool changes and the feeds of a program, from a state
+abbrev pub depths_text : Form → Spot → Stock → Reached → List Command → List ℕ
+depths_text form origin s r commands =
+    changes_text form origin s r commands ++ below_text form (all_below s r 0 commands None)
 
 -- ---- what isn't tested
 

@@ -1,9 +1,6 @@
 //! How tool changes below the top of a stock are said.
-ghost use Rattle.std.specs.Prelude.{◌≡◌, decimal, OnOk, OnErr, flat_map};
-ghost use Rattle.std.specs.Io.KnownBytes.{Appends};
-ghost use Rattle.ngc_text.specs.Failures.{CountsFailure};
+ghost use Rattle.std.specs.Prelude.{◌≡◌, decimal, flat_map};
 ghost use Rattle.ngc_text.specs.Millimetres.{size_text};
-ghost use Rattle.ngc_text.specs.Written.{AppendsPrefix};
 ghost use Rattle.ngc_sentences.specs.Parts.{part_text};
 ghost use Rattle.ngc_sentences.specs.Saying.{Says};
 ghost use Rattle.ngc_material_report.specs.Sentences.{low_words, low_fact, change_words, change_fact, change_text, change_line, changes_text};
@@ -15,7 +12,7 @@ use ngc_material::change_at;
 use ngc_report::Form;
 use ngc_sentences::{Page, Part, say};
 use ngc_stock::{Change, Stock};
-use ngc_text::{Sink, WriteFault};
+use ngc_text::Sink;
 
 fn depth(change: &Change) -> Part<'static>
     ensures { part_text result ≡ size_text change.now.depth }
@@ -84,7 +81,9 @@ fn say_line<W: Sink>(
     }
 }
 
-fn say_changes<W: Sink>(
+/// Says the tool changes of a program at which the tip of one of both tools is below the top of a stock
+/// and over it, or at most the tool's radius beside it.
+pub(crate) fn say_changes<W: Sink>(
     form: Form,
     origin: &Spot,
     stock: &Stock,
@@ -106,29 +105,4 @@ fn say_changes<W: Sink>(
         reached = reached.after(&command.action);
         left = later;
     }
-}
-
-/// Writes the tool changes of a program at which the tip of one of both tools is below the top of a
-/// stock and over it, or at most the tool's radius beside it. Places count from `origin`, which is in
-/// nanometres of the machine.
-///
-/// The function allocates no memory. After a fault (902, only if the sink failed) a prefix of the
-/// text is written.
-pub fn write_changes<W: Sink>(
-    form: Form,
-    origin: &Spot,
-    stock: &Stock,
-    start: &Reached,
-    commands: &[Command],
-    output: &mut W,
-) -> Result<(), WriteFault>
-    ensures ok { OnOk result (Appends (W.written output.old) (W.written output.new)
-        (changes_text form origin.now stock.now start.now commands.now)) }
-    ensures fault { OnErr result (AppendsPrefix (W.written output.old) (W.written output.new)
-        (changes_text form origin.now stock.now start.now commands.now)) }
-    ensures counts { CountsFailure (W.failures output.old) (W.failures output.new) result }
-{
-    let mut page = Page::new();
-    say_changes(form, origin, stock, start, commands, &mut page, output);
-    page.finish(output)
 }

@@ -1,9 +1,12 @@
 -- The result of a call.
-use Rattle.std.specs.Prelude.{◌≡◌, ◌<◌, ℕ, List, [], ◌++◌, length, take, drop, min, Option, Some}
+use Rattle.std.specs.Prelude.{◌≡◌, ◌<◌, ℕ, List, [], ◌++◌, length, take, drop, min, Bool, Option, Some}
 use Rattle.std.specs.Prelude.{IfErr, Result}
 use Rattle.ngc_text.specs.declared.input_fault.InputFault.{InputFault}
 use Rattle.ngc_text.specs.declared.input_fault.InputFault.TheVariants.{Device}
 use Rattle.ngc_command_line.specs.declared.options.Options.{Options}
+use Rattle.ngc_saved_files.specs.Files.{saved_bytes}
+use Rattle.ngc_saved_files.specs.Lines.{lines_of}
+use Rattle.ngc_saved_files.specs.Notes.{IsNoted}
 use Rattle.ngc_simulator.specs.Answers.{ResultsBy, Prints, status_of}
 use Rattle.ngc_inputs.specs.Setups.{FileBytes}
 use Rattle.ngc_inputs.specs.Unread.{unread_by}
@@ -19,18 +22,26 @@ ReportsUnreadable _ = ⊥
 abbrev pub LINES_KEPT : ℕ
 LINES_KEPT = 65536
 
--- The result of `ngc` with these options on these files: its output, the lines of its standard
--- error, of which the first 65,536 bytes are stored, and its status. No file is unreadable.
+-- The lines of standard error, of which the first 65,536 bytes are stored: those of the outcome, and the one
+-- about UTF-16.
+pub record TellsOf (outcome : Result Done AnswerFault) (status : ℕ) (errors : List ℕ) : Type 0 where
+  pub told : Option (List ℕ)
+  pub missed : ℕ
+  pub failed : ℕ
+  pub is_wide : Bool
+  pub tells : Prints outcome (record { old = Some []; new = told; failures = 0; failures_now = missed })
+  pub noted : IsNoted is_wide status told (Some errors) missed failed
+  pub keeps : 0 < failed → length errors ≡ LINES_KEPT
+
+-- The result of `ngc` with these options on these files as an editor saves them: its output, the lines of its
+-- standard error, and its status. No file is unreadable.
 pub record IsResult (files : FileBytes) (options : Options) (output errors : List ℕ) (status : ℕ) :
     Type 0 where
   pub outcome : Result Done AnswerFault
-  pub failed : ℕ
-  pub comes : ResultsBy files options (Some []) (Some output) outcome
+  pub comes : ResultsBy (saved_bytes (lines_of options) files) options (Some []) (Some output) outcome
   pub says : status ≡ status_of outcome
   pub read : IfErr outcome (λ fault. ¬ ReportsUnreadable (unread_by fault))
-  pub tells : Prints outcome
-      (record { old = Some []; new = Some errors; failures = 0; failures_now = failed })
-  pub keeps : 0 < failed → length errors ≡ LINES_KEPT
+  pub lines : TellsOf outcome status errors
 
 -- the text is at the front of the old contents, as far as these reach
 abbrev pub Holds : List ℕ → List ℕ → List ℕ → Type 0

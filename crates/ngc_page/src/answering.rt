@@ -6,9 +6,11 @@ ghost use Rattle.ngc_page.specs.Files.{bytes_of};
 use crate::files::PassedFiles;
 use crate::lines::Lines;
 use ngc_command_line::Options;
+use ngc_saved_files::{SavedFiles, note_wide};
 use ngc_simulator::answer;
 use ngc_text::Device;
 use std::alloc::Global;
+use std::cell::Cell;
 
 /// The lengths of the two texts in bytes, which may exceed the space for them.
 #[repr(C)]
@@ -26,13 +28,16 @@ struct Answer {
     status: u8,
 }
 
-fn answer_in_memory(alloc: Global, options: &Options<'_>, mut files: PassedFiles<'_>) -> Answer
+fn answer_in_memory(alloc: Global, options: &Options<'_>, files: PassedFiles<'_>) -> Answer
     ensures { IsResult (bytes_of files.entry) options.now result.output.items result.errors.taken.items
         result.status }
 {
+    let is_wide = Cell::new(false);
+    let mut saved = SavedFiles::new(files, options, &is_wide);
     let mut output = Device::new(Vec::new(alloc));
     let mut errors = Lines::new();
-    let status = answer(alloc, options, &mut files, &mut output, &mut errors);
+    let status = answer(alloc, options, &mut saved, &mut output, &mut errors);
+    note_wide(is_wide.get(), status, &mut errors);
     Answer {
         output: output.into_inner(),
         errors,

@@ -32,6 +32,9 @@ offset = 20000000
 
 const STILL: &[u8] = b"M2\n";
 
+// A text in UTF-16, of which the mark is read.
+const WIDE: &[u8] = b"\xff\xfeM\0";
+
 const NO_MOTIONS: &[u8] = b"ngc-certificate 1\nsetting off 0\nsetting on 0\nend\n";
 
 // 100 steps a millimetre make a step of 0.01 mm, which is 10,000 nm.
@@ -162,12 +165,67 @@ impl Space {
         )
     }
 
+    // Checks a certificate with one of the files in UTF-16: that with this number, if there is one.
+    fn check_wide(&mut self, alloc: Global, number: usize) -> u32 {
+        let program = if number == 0 { WIDE } else { STILL };
+        let machine = if number == 1 { WIDE } else { MACHINE };
+        let tools = if number == 2 { WIDE } else { TOOLS };
+        let certificate = if number == 3 { WIDE } else { NO_MOTIONS };
+        let output = self.output.as_mut_slice();
+        let errors = self.errors.as_mut_slice();
+        let lengths = &mut self.lengths;
+        ngc_check(
+            alloc,
+            program,
+            machine,
+            tools,
+            certificate,
+            output,
+            errors,
+            lengths,
+        )
+    }
+
+    // Checks a certificate with all files as an editor saves them.
+    fn check_saved(&mut self, alloc: Global) -> Result<u32, AllocError> {
+        let program = as_saved(alloc, STILL)?;
+        let machine = as_saved(alloc, MACHINE)?;
+        let tools = as_saved(alloc, TOOLS)?;
+        let certificate = as_saved(alloc, NO_MOTIONS)?;
+        let output = self.output.as_mut_slice();
+        let errors = self.errors.as_mut_slice();
+        let lengths = &mut self.lengths;
+        Ok(ngc_check(
+            alloc,
+            program.as_slice(),
+            machine.as_slice(),
+            tools.as_slice(),
+            certificate.as_slice(),
+            output,
+            errors,
+            lengths,
+        ))
+    }
+
     fn explain(&mut self, alloc: Global) -> u32 {
         let output = self.output.as_mut_slice();
         let errors = self.errors.as_mut_slice();
         let lengths = &mut self.lengths;
         ngc_explain(alloc, 113, output, errors, lengths)
     }
+}
+
+/// A text with a byte order mark at its beginning, and a carriage return before each line feed.
+fn as_saved(alloc: Global, text: &[u8]) -> Result<Vec<u8>, AllocError> {
+    let mut saved = Vec::new(alloc);
+    saved.extend_from_slice(b"\xef\xbb\xbf")?;
+    for byte in text {
+        if *byte == b'\n' {
+            saved.push(b'\r')?;
+        }
+        saved.push(*byte)?;
+    }
+    Ok(saved)
 }
 
 /// A call on small files.
@@ -367,6 +425,31 @@ fn refused_words_have_a_message_among_the_errors(rt: HostRuntime) -> Result<(), 
             && space.lengths.output == 0
             && has(space.errors.as_slice(), part);
         assert!(&rt; refused, "at {words:?}");
+    }
+    Ok(())
+}
+
+#[test]
+fn files_are_read_as_editors_save_them(rt: HostRuntime) -> Result<(), Fail> {
+    let mut space = Space::new(rt.alloc(), 10)?;
+    let status = space.check_saved(rt.alloc())?;
+    let accepted = status == 0
+        && space.lengths.errors == 0
+        && space.output.as_slice().starts_with(b"accepted\n");
+    assert!(&rt; accepted);
+    Ok(())
+}
+
+// The faults are 112, 269, 269 and 301. The line after each says how to save the file.
+#[test]
+fn each_file_in_utf_16_is_refused_with_a_line_about_it(rt: HostRuntime) -> Result<(), Fail> {
+    for number in 0..4 {
+        let mut space = Space::new(rt.alloc(), 10)?;
+        let status = space.check_wide(rt.alloc(), number);
+        let refused = status >= 3
+            && space.lengths.output == 0
+            && has(space.errors.as_slice(), b"UTF-16: save it as UTF-8\n");
+        assert!(&rt; refused, "at {number}");
     }
     Ok(())
 }

@@ -23,7 +23,7 @@ use Rattle.ngc_stock.proofs.Distances.{point_around}
 
 -- ---- along an axis
 
-root_most : (z : ℤ) (m : ℕ) → square z ≤ℤ pos (m * m) → unsigned_abs z ≤ m
+pub root_most : (z : ℤ) (m : ℕ) → square z ≤ℤ pos (m * m) → unsigned_abs z ≤ m
 root_most (pos n) m h = from_squares n m (omega (arith, ints, h))
 root_most (negsuc n) m h = let p = from_squares (n + 1) m (omega (arith, ints, h)) in omega (arith, ints, p)
 
@@ -37,7 +37,7 @@ beside corner p q half count i r less h near =
     let e : (2 * i + 1) * half + half ≡ (2 * i + 2) * half = omega arith in
     (omega (arith, ints, h, near), omega (arith, ints, h, near, m, e))
 
-of_le : (x y : ℤ) → x ≤ℤ y → int_le x y ≡ true
+pub of_le : (x y : ℤ) → x ≤ℤ y → int_le x y ≡ true
 of_le x y h = grind (arith, ints)
 
 is_beside_of : (corner p : ℤ) (half count r : ℕ) → ((corner -ℤ pos r) ≤ℤ p) × (p ≤ℤ (corner +ℤ pos (2 * count * half + r))) → is_beside corner half count r p ≡ true
@@ -48,7 +48,7 @@ is_beside_of corner p half count r h =
 
 -- ---- a tool at a place
 
-some_of : (w h k : ℕ) → k < w * h → 0 < w
+pub some_of : (w h k : ℕ) → k < w * h → 0 < w
 some_of zero h k less = absurd (omega (arith, less))
 some_of (suc w) h k less = omega arith
 
@@ -79,11 +79,11 @@ tip_most t p q cut =
     let e = no_climb cut.k p.z in
     times_out (pos cut.n) (p.z +ℤ t.bottom) q.z (omega (arith, ints, cut.some)) (omega (arith, ints, e, cut.low))
 
-none_left : (z : ℤ) → natural_of z ≡ 0 → z ≤ℤ pos 0
+pub none_left : (z : ℤ) → natural_of z ≡ 0 → z ≤ℤ pos 0
 none_left (pos n) h = omega (arith, ints, h)
 none_left (negsuc n) h = omega (arith, ints)
 
-depth_over : (b : Bool) (z : ℤ) → b ≡ true → cond b (natural_of z) 0 ≡ 0 → z ≤ℤ pos 0
+pub depth_over : (b : Bool) (z : ℤ) → b ≡ true → cond b (natural_of z) 0 ≡ 0 → z ≤ℤ pos 0
 depth_over true z is h = none_left z h
 depth_over false z is h = absurd (cc)
 
@@ -100,7 +100,7 @@ free_at s (Some t) p h = λ q stock cut.
 some_none : (x : Change) → Some x ≡ None → ⊥
 some_none x h = cc
 
-more_of : (m n : ℕ) → ltb m n ≡ false → n ≤ m
+pub more_of : (m n : ℕ) → ltb m n ≡ false → n ≤ m
 more_of m n e = elim (cases_lt m n) [ inl less ↦ absurd (let p = lt-ltb m n less in cc) | inr more ↦ more ]
 
 no_some : (b : Bool) (x : Change) (depth : ℕ) → (b ≡ false → depth ≡ 0) → cond b (Some x) None ≡ None → depth ≡ 0

@@ -8,3 +8,5 @@ pub mod Arcs
 pub mod Silences
 -- A tool change that isn't reported is free of the stock.
 pub mod FreeTools
+-- A program of which no feed below the stock is reported cuts nothing under it along straight feeds.
+pub mod AboveFeeds

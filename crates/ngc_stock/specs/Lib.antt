@@ -3,3 +3,4 @@ pub mod Arcs
 pub mod Walk
 pub mod Silence
 pub mod Changes
+pub mod Below

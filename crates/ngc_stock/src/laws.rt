@@ -1,4 +1,5 @@
 //! The laws of silence.
+ghost use Rattle.ngc_stock.specs.Below.{AllAbove};
 ghost use Rattle.ngc_stock.specs.Changes.{FreeChange, FreeChanges};
 ghost use Rattle.ngc_stock.specs.Silence.{Silence};
 
@@ -17,4 +18,10 @@ pub fn free_change()
 /// States the same of each tool change of a program, if none is reported.
 pub fn free_changes()
     ensures { FreeChanges }
+{}
+
+/// States that no straight feed of a program cuts a point under a stock, if no feed below the stock's
+/// bottom is reported.
+pub fn all_above()
+    ensures { AllAbove }
 {}

@@ -1,10 +1,13 @@
 //! A stock of material, and what the cutters of feeds leave of it: definitions, and the law that a
-//! program whose traverses aren't reported meets nothing that is left; the same of its tool changes.
+//! program whose traverses aren't reported meets nothing that is left; the same of its tool changes;
+//! which feeds go below its bottom.
 #![tactic(auto)]
 
+mod below;
 mod change;
 pub mod laws;
 mod stock;
 
+pub use below::{AllBelow, Below, PathBox};
 pub use change::Change;
 pub use stock::Stock;

@@ -15,7 +15,7 @@ use Rattle.ngc_commands.specs.Reached.{at_start}
 use Rattle.ngc_cells.specs.Stretches.{spot}
 use Rattle.ngc_cells.specs.declared.stretch.Spot.{Spot}
 use Rattle.ngc_material.specs.declared.walk.Found.{Found}
-use Rattle.ngc_material_report.specs.Sentences.{touches_text, changes_text, untested_text}
+use Rattle.ngc_material_report.specs.Sentences.{touches_text, depths_text, untested_text}
 use Rattle.ngc_report.specs.declared.form.Form.{Form}
 use Rattle.ngc_report.specs.declared.form.Form.TheVariants.{Words, Json}
 use Rattle.ngc_stock_report.specs.Placed.{origin_at}
@@ -76,17 +76,17 @@ abbrev pub unwalked_text : Form → Option StockBox → List ℕ
 unwalked_text form None = []
 unwalked_text form (Some b) = far_line form
 
--- the tool changes below the top of the material, and what isn't tested
+-- the tool changes below the top of the material, the feeds below its bottom, and what isn't tested
 abbrev pub rest_text : Form → MachineFile → List Tool → List Command → WalkData → List ℕ
 rest_text form m tools commands w =
-    changes_text form (block_origin m m.stock) w.stock (at_start m) commands ++ untested_text form w.stock.grid tools
+    depths_text form (block_origin m m.stock) w.stock (at_start m) commands ++ untested_text form w.stock.grid tools
 
 abbrev pub walk_text : Form → MachineFile → List Tool → List Command → WalkData → List ℕ
 walk_text form m tools commands w =
     touches_text form MOST_LINES (block_origin m m.stock) w.found
     ++ (arcs_line form commands w.found ++ rest_text form m tools commands w)
 
--- the traverses that may touch material, the tool changes in it, and what isn't tested
+-- the traverses that may touch material, the tool changes in it, the feeds below it, and what isn't tested
 abbrev pub material_text : Form → MachineFile → List Tool → List Command → Option WalkData → List ℕ
 material_text form m tools commands None = unwalked_text form m.stock
 material_text form m tools commands (Some w) = walk_text form m tools commands w

@@ -14,7 +14,7 @@ use ngc_cells::Spot;
 use ngc_commands::{Command, Reached};
 use ngc_machine_files::{Machine, Tool};
 use ngc_material::Found;
-use ngc_material_report::{write_changes, write_touches, write_untested};
+use ngc_material_report::{write_depths, write_touches, write_untested};
 use ngc_report::Form;
 use ngc_text::{Sink, WriteFault, write_all};
 use std::alloc::Allocator;
@@ -78,7 +78,8 @@ fn unwalked<A: Allocator>(form: Form, machine: &Machine<A>) -> &'static [u8]
     }
 }
 
-// Writes the tool changes below the top of the material, and what isn't tested.
+// Writes the tool changes below the top of the material, the feeds below its bottom, and what isn't
+// tested.
 fn write_rest<A: Allocator, B: Allocator, W: Sink>(
     form: Form,
     machine: &Machine<B>,
@@ -95,7 +96,7 @@ fn write_rest<A: Allocator, B: Allocator, W: Sink>(
 {
     let origin = block_origin(machine);
     let start = Reached::at_start(machine);
-    write_changes(form, &origin, &walk.stock, &start, commands, output)?;
+    write_depths(form, &origin, &walk.stock, &start, commands, output)?;
     write_untested(form, &walk.stock.grid, tools, output)
 }
 
@@ -120,8 +121,9 @@ fn write_walk<A: Allocator, B: Allocator, W: Sink>(
 }
 
 /// Writes what a walk has found: the straight traverses that may touch material, the tool changes below
-/// its top, and what isn't tested. `commands` are those of the walk. Without a block of material nothing
-/// is written; if the walk wasn't made because of a distance, one line says so.
+/// its top, the feeds below its bottom, and what isn't tested. `commands` are those of the walk. Without
+/// a block of material nothing is written; if the walk wasn't made because of a distance, one line says
+/// so.
 ///
 /// After a fault (902, only if the sink failed) a prefix of the text is written.
 pub fn write_material<A: Allocator, B: Allocator, W: Sink>(

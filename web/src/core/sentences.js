@@ -108,11 +108,15 @@ function refusalSentence({ refusal, dialect, explanation }) {
 }
 
 export const isRapid = ({ kind }) => kind === 'traverse';
-// What the report says about a rapid that may go through material that no feed before it has removed, or about a tool change below the top
-// of the block: the words of its card, and the note beside its line.
-export function materialSentence({ kind, tool, depth, at, line }, unit) {
+// What the report says about a rapid that may go through material that no feed before it has removed, about a tool change below the top
+// of the block, or about feeds below its bottom: the words of its card, and the note beside its line.
+export function materialSentence({ kind, tool, depth, at, line, first, last }, unit) {
   const most = enough(depth, unit);
   if (kind === 'change') return { line, text: `the tool is changed below the top of the material: ${toolName(tool)} is ${length(depth, unit)} below it at X ${length(at[0], unit)}, Y ${length(at[1], unit)}`, note: `tool change ${length(depth, unit)} below the top of the material` };
+  if (kind === 'bottom') {
+    const others = first === last ? '' : `; the first such feed is in line ${first}, the last in line ${last}`;
+    return { line, text: `the feed goes below the bottom of the material: ${toolName(tool)} is at most ${most} below it${others}`, note: `feed at most ${most} below the bottom of the material` };
+  }
   return { line, text: `the rapid may touch material: ${toolName(tool)} is at most ${most} deep at X ${length(at[0], unit)}, Y ${length(at[1], unit)}`, note: `rapid may touch material, at most ${most} deep` };
 }
 const ROUND = 10_000;   // nanometres: the margin of the test is shown to a hundredth of a millimetre, rounded up

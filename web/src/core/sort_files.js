@@ -3,7 +3,8 @@
 const HEAD = 65_536;   // bytes that are looked at
 
 export function kindOf(bytes, name) {
-  const head = new TextDecoder('latin1').decode(bytes.subarray(0, HEAD));
+  // Without the byte order mark of UTF-8.
+  const head = new TextDecoder('latin1').decode(bytes.subarray(0, HEAD)).replace(/^\xef\xbb\xbf/, '');
   if (head.startsWith('ngc-certificate')) return 'certificate';
   if (head.includes('\0') || /^(PK\x03\x04|%PDF|\x89PNG|\xff\xd8)/.test(head) || /^\s*<(svg|html|\?xml|!doctype)/i.test(head)) return 'unknown';
   const lines = head.split('\n').map(it => it.trim()).filter(it => it && !it.startsWith('#'));

@@ -70,7 +70,7 @@ export function makeReport(store, actions) {
   // What is known about rapids and the block of material, and where it may be touched.
   function materialOf(group, unit) {
     const words = materialWords(group, unit), places = group.material.map(it => materialSentence(it, unit));
-    return words ? [h('h3', {}, 'Material'), h('p', {}, `${words} Cuts along arcs of G18 and G19 aren't counted.`),
+    return words ? [h('h3', {}, 'Material'), h('p', {}, `${words} Rapids count no cuts along arcs of G18 and G19.`),
       places.length ? h('ul', { class: 'places' }, places.slice(0, MOST).map(it => h('li', {}, lineLink(it.line), ` ${it.text}`))) : null] : [];
   }
   // What was left out of a program for another control, or which meaning was executed.

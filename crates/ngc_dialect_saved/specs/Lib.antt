@@ -1,0 +1,5 @@
+pub mod Switched
+pub mod Modes
+pub mod Restoring
+pub mod Savings
+pub mod Stack

@@ -1,0 +1,6 @@
+use Rattle.std.proofs.Common.{rules}
+use Rattle.ngc_page.proofs.BoundOptions.{answered}
+use Rattle.ngc_page.proofs.ngc_adapt.Goals as goal
+
+pub returns : goal.returns
+returns c = answered _ _ _ _ _ c.adapt_options.result c.in-Some.options (search rules) c.adapt_options.ensures c.answer_into.ensures

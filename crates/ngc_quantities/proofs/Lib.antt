@@ -1,0 +1,2 @@
+-- The number of bytes at the beginning of a text.
+pub mod Counts

@@ -1,0 +1,60 @@
+-- Texts of one quantity. Lengths are in nanometres, speeds in nanometres per minute, accelerations in
+-- nanometres per second squared, turning is in millionths of a turn per minute. Our own.
+use Rattle.std.specs.Prelude.{ℕ, ℤ, pos, unsigned_abs, ◌+◌, nat_lt, int_lt, List, length, Option, None, Result, Ok}
+use Rattle.std.specs.Prelude.{if◌then◌else◌}
+use Rattle.ngc_quantities.specs.declared.fault.Cause.TheVariants as causes
+use Rattle.ngc_quantities.specs.declared.fault.Fault.{Fault}
+use Rattle.ngc_quantities.specs.declared.unit.Ending.{Ending}
+use Rattle.ngc_quantities.specs.declared.unit.Ending.TheVariants as endings
+use Rattle.ngc_quantities.specs.declared.unit.Kind.{Kind}
+use Rattle.ngc_quantities.specs.declared.unit.Kind.TheVariants as kinds
+use Rattle.ngc_quantities.specs.declared.unit.Unit.{Unit}
+use Rattle.ngc_quantities.specs.declared.written.Wanted.{Wanted}
+use Rattle.ngc_quantities.specs.declared.written.Whole.{Whole}
+use Rattle.ngc_quantities.specs.Numbers.{and_then}
+use Rattle.ngc_quantities.specs.Written.{fault, whole_in}
+
+-- a text has at most 256 bytes
+abbrev pub short_length : List ℕ → Result ℕ Fault
+short_length text =
+    if nat_lt 256 (length text) then fault 257 causes.LongText else Ok (length text)
+
+abbrev pub a : Kind → Option Unit → Ending → Wanted
+a kind otherwise ending = record { kind = kind; otherwise = otherwise; ending = ending }
+
+-- the amount of a kind that a text says, whose first byte is in column at + 1. If it names no unit,
+-- the other unit counts
+abbrev pub amount_in : Kind → Option Unit → ℕ → List ℕ → Result Whole Fault
+amount_in kind otherwise at text = whole_in (a kind otherwise endings.Nothing) at text
+
+abbrev pub not_negative : Whole → Result Whole Fault
+not_negative w = if int_lt w.amount (pos 0) then fault w.column causes.Negative else Ok w
+
+-- a kind of which there is none below zero
+abbrev pub size_in : Kind → Option Unit → ℕ → List ℕ → Result Whole Fault
+size_in kind otherwise at text = and_then (amount_in kind otherwise at text) not_negative
+
+abbrev pub the_size : Whole → Result ℕ Fault
+the_size w = Ok (unsigned_abs w.amount)
+
+abbrev pub one_size : Kind → List ℕ → Result ℕ Fault
+one_size kind text =
+    and_then (short_length text) (λ _.
+    and_then (size_in kind None 0 text) the_size)
+
+abbrev pub the_amount : Whole → Result ℤ Fault
+the_amount w = Ok w.amount
+
+abbrev pub length_of : List ℕ → Result ℤ Fault
+length_of text =
+    and_then (short_length text) (λ _.
+    and_then (amount_in kinds.Length None 0 text) the_amount)
+
+abbrev pub speed_of : List ℕ → Result ℕ Fault
+speed_of text = one_size kinds.Speed text
+
+abbrev pub acceleration_of : List ℕ → Result ℕ Fault
+acceleration_of text = one_size kinds.Acceleration text
+
+abbrev pub turning_of : List ℕ → Result ℕ Fault
+turning_of text = one_size kinds.Turning text
