@@ -12,10 +12,10 @@ use Rattle.ngc_inputs.specs.Setups.{FileBytes}
 use Rattle.ngc_inputs.specs.Unread.{ReportsUnread}
 use Rattle.ngc_inputs.specs.declared.fault.AnswerFault.TheVariants.{Input as Unread}
 use Rattle.ngc_machine_files.specs.Machine.{MachineFile}
-use Rattle.ngc_machine_files.specs.MachineText.{machine_file}
 use Rattle.ngc_machine_files.specs.declared.fault.FileFault.{FileFault}
 use Rattle.ngc_simulator.specs.Answers.{Answers, Given, IsQuiet, Takes, Taking}
 use Rattle.ngc_text.specs.declared.input_fault.InputFault.{InputFault}
+use Rattle.ngc_written_machines.specs.Reading.{any_machine}
 
 -- the name of the language that a machine file names; one that is refused names none
 abbrev pub key_of : Result MachineFile FileFault → Option (List ℕ)
@@ -23,7 +23,7 @@ key_of (Ok machine) = option_map name_of machine.dialect
 key_of (Err fault) = None
 
 abbrev pub key_in : List ℕ → Option (List ℕ)
-key_in text = key_of (machine_file text)
+key_in text = key_of (any_machine text)
 
 -- the machine file, unless the command line names a language
 abbrev pub unless_given : Option (Bor (List ℕ)) → Option (List ℕ) → Option (List ℕ)

@@ -6,8 +6,9 @@ ghost use Rattle.ngc_inputs.specs.Unread.{ReportsUnread, SourceFails};
 
 use ngc_dialect_names::Dialect;
 use ngc_inputs::{Files, bytes_of};
-use ngc_machine_files::{FileFault, Machine};
+use ngc_machine_files::FileFault;
 use ngc_text::InputFault;
+use ngc_written_machines::read_machine;
 use std::alloc::Global;
 
 // Returns the name of the language that a machine file's text names. A text that is refused names none: the
@@ -16,7 +17,7 @@ fn key_in(alloc: Global, text: &[u8]) -> Result<Option<&'static str>, InputFault
     ensures key { IfOk result (λ name. option_map (λ n. n.now) name ≡ key_in text.now) }
     ensures fault { IfErr result (λ fault. fault ≡ InputFault.Memory) }
 {
-    match Machine::read(alloc, text) {
+    match read_machine(alloc, text) {
         Ok(machine) => Ok(machine.dialect.map(Dialect::name)),
         Err(FileFault::Memory) => Err(InputFault::Memory),
         Err(_) => Ok(None),

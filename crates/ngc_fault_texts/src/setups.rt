@@ -12,8 +12,8 @@ pub(crate) fn setup() -> &'static [Row]
     const ROWS: &[Row] = &[
         Row {
             number: 261,
-            rule: "The version of this machine file is unknown: write `version = 1`, or 2 with `axis_rate`.",
-            example: "machine file `version = 3`",
+            rule: "The version of this machine file is unknown: write `version = 3`, or 2 or 1 for whole numbers.",
+            example: "machine file `version = 4`",
             answer: "`ngc: fault 261 machine`",
             place: None,
             mend: "Only version 2 has `axis_rate`, `jump`, `ring`, `arc_feed`, `changer`, `margin`,\n\

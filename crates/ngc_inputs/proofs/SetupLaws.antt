@@ -3,10 +3,10 @@ use Rattle.std.proofs.Common.{◌≡◌, ℕ, List, [], Option, Some, None, Resu
 use Rattle.std.specs.Prelude.{IsOk}
 use Rattle.ngc_canonical.specs.State.{Setup}
 use Rattle.ngc_machine_files.specs.Machine.{MachineFile, built_in_machine}
-use Rattle.ngc_machine_files.specs.MachineText.{machine_file}
 use Rattle.ngc_machine_files.specs.ToolText.{tool_table}
 use Rattle.ngc_machine_files.specs.declared.fault.FileFault.{FileFault}
 use Rattle.ngc_machine_files.specs.declared.tools.Tool.{Tool}
+use Rattle.ngc_written_machines.specs.Reading.{any_machine}
 use Rattle.ngc_inputs.specs.Setups.{FileBytes, IfParsed, KeepsFiles, IfMachine, IfTools, OnSetup, AreSetup, Refuses}
 use Rattle.ngc_inputs.specs.Setups.{OnPlaced, changed_in}
 use Rattle.ngc_inputs.specs.Shops.{PlacedResultIs, ShopResultIs, IsPlaced, RefusesMachine, RefusesPlaced, RefusesShop, RefusesTools}
@@ -46,7 +46,7 @@ pub on_setup : (bytes : FileBytes) (machine tools : Option (List ℕ)) (setup : 
     → IfMachine bytes machine (λ says. says ≡ Ok setup.machine) → IfTools bytes tools (λ says. says ≡ Ok setup.tools) → P setup
     → OnSetup bytes machine tools P
 on_setup bytes machine tools setup P parsed_machine parsed_tools p =
-    said_weaker machine_file built_in_machine bytes machine (λ says. says ≡ Ok setup.machine)
+    said_weaker any_machine built_in_machine bytes machine (λ says. says ≡ Ok setup.machine)
     (λ m. IfTools bytes tools (λ t. (s : Setup) × AreSetup m t s × P s))
     (λ m said_m.
     said_weaker tool_table [] bytes tools (λ says. says ≡ Ok setup.tools) (λ t. (s : Setup) × AreSetup m t s × P s)
@@ -58,7 +58,7 @@ pub on_placed : (bytes : FileBytes) (machine tools : Option (List ℕ)) (changes
     → IfMachine bytes machine (IsPlaced changes setup.machine) → IfTools bytes tools (λ says. says ≡ Ok setup.tools) → P setup
     → OnPlaced bytes machine tools changes P
 on_placed bytes machine tools changes setup P parsed_machine parsed_tools p =
-    said_weaker machine_file built_in_machine bytes machine (IsPlaced changes setup.machine)
+    said_weaker any_machine built_in_machine bytes machine (IsPlaced changes setup.machine)
     (λ m. IfTools bytes tools (λ t. (s : Setup) × AreSetup (changed_in changes m) t s × P s))
     (λ m said_m.
     said_weaker tool_table [] bytes tools (λ says. says ≡ Ok setup.tools) (λ t. (s : Setup) × AreSetup (changed_in changes m) t s × P s)
@@ -70,7 +70,7 @@ pub shop_placed : (bytes : FileBytes) (machine tools : Option (List ℕ)) (chang
     → ShopResultIs bytes machine tools (Ok shop) → changed changes (file_of shop.machine) ≡ Ok (file_of placed_shop.machine)
     → tools_of placed_shop.tools ≡ tools_of shop.tools → PlacedResultIs bytes machine tools changes (Ok placed_shop)
 shop_placed bytes machine tools changes shop placed_shop said placed_machine same_tools = (
-  said_weaker machine_file built_in_machine bytes machine (λ says. says ≡ Ok (file_of shop.machine)) (IsPlaced changes (file_of placed_shop.machine))
+  said_weaker any_machine built_in_machine bytes machine (λ says. says ≡ Ok (file_of shop.machine)) (IsPlaced changes (file_of placed_shop.machine))
       (λ says is. ap (changed_in changes) is ∙ placed_machine) said.0,
   said_weaker tool_table [] bytes tools (λ says. says ≡ Ok (tools_of shop.tools)) (λ says. says ≡ Ok (tools_of placed_shop.tools))
       (λ says is. is ∙ ap Ok (sym same_tools)) said.1,
@@ -81,14 +81,14 @@ pub changes_refused : (bytes : FileBytes) (machine tools : Option (List ℕ)) (c
     → ShopResultIs bytes machine tools (Ok shop) → changed changes (file_of shop.machine) ≡ Err e
     → PlacedResultIs bytes machine tools changes (Err (answers.Machine e))
 changes_refused bytes machine tools changes shop e said refused =
-    said_weaker machine_file built_in_machine bytes machine (λ says. says ≡ Ok (file_of shop.machine)) (λ says. Refuses e (changed_in changes says))
+    said_weaker any_machine built_in_machine bytes machine (λ says. says ≡ Ok (file_of shop.machine)) (λ says. Refuses e (changed_in changes says))
     (λ says is _. ap (changed_in changes) is ∙ refused) said.0
 
 -- a refusal of one of the two files
 pub shop_refused : (bytes : FileBytes) (machine tools : Option (List ℕ)) (changes : Changes) (fault : AnswerFault) → RefusesShop bytes machine tools fault
     → RefusesPlaced bytes machine tools changes fault
 shop_refused bytes machine tools changes (answers.Machine e) refuses =
-    said_weaker machine_file built_in_machine bytes machine (Refuses e) (λ says. Refuses e (changed_in changes says))
+    said_weaker any_machine built_in_machine bytes machine (Refuses e) (λ says. Refuses e (changed_in changes says))
     (λ says refused held. ap (changed_in changes) (refused held)) refuses
 shop_refused bytes machine tools changes (answers.Tools e) refuses = refuses
 shop_refused bytes machine tools changes (answers.Input e) refuses = refuses
@@ -108,7 +108,7 @@ refused_machine bytes machine tools _ refuses = absurd refuses
 pub refused_tools : (bytes after : FileBytes) (machine tools : Option (List ℕ)) (m : MachineFile) (fault : AnswerFault)
     → IfMachine bytes machine (λ says. says ≡ Ok m) → KeepsFiles bytes after → RefusesTools after tools fault → RefusesShop bytes machine tools fault
 refused_tools bytes after machine tools m (answers.Tools e) read keeps refuses = (
-  said_weaker machine_file built_in_machine bytes machine (λ says. says ≡ Ok m) IsOk (λ says is_m. subst IsOk (sym is_m) refl) read,
+  said_weaker any_machine built_in_machine bytes machine (λ says. says ≡ Ok m) IsOk (λ says is_m. subst IsOk (sym is_m) refl) read,
   said_before tool_table [] bytes after tools (Refuses e) keeps refuses,
 )
 refused_tools bytes after machine tools m (answers.Input e) read keeps refuses = tt

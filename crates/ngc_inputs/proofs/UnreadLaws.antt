@@ -9,9 +9,9 @@ use Rattle.ngc_text.specs.declared.input_fault.InputFault.TheVariants as inputs
 use Rattle.ngc_line_reader.specs.declared.program.fault.ReadFault.{ReadFault}
 use Rattle.ngc_line_reader.specs.declared.program.fault.ReadFault.TheVariants as reads
 use Rattle.ngc_machine_files.specs.Machine.{MachineFile, file_of}
-use Rattle.ngc_machine_files.specs.MachineText.{machine_file}
 use Rattle.ngc_machine_files.specs.declared.fault.FileFault.{FileFault}
 use Rattle.ngc_machine_files.specs.ToolText.{tool_table}
+use Rattle.ngc_written_machines.specs.Reading.{any_machine}
 use Rattle.ngc_inputs.specs.Setups.{FileBytes, IfMachine, KeepsFiles}
 use Rattle.ngc_inputs.specs.Shops.{PlacedResultIs, ShopResultIs, IsPlaced}
 use Rattle.ngc_margins.specs.declared.changes.Changes.{Changes}
@@ -104,9 +104,9 @@ pub shop_read : (bytes : FileBytes) (machine tools : Option (List ℕ)) (shop : 
     AllRead bytes (shop_inputs machine tools)
 shop_read bytes None None shop said = tt
 shop_read bytes None (Some t) shop said = (is_read tool_table _ (bytes (Some t)) (bytes (Some t)) refl said.1, tt)
-shop_read bytes (Some m) None shop said = (is_read machine_file _ (bytes (Some m)) (bytes (Some m)) refl said.0, tt)
+shop_read bytes (Some m) None shop said = (is_read any_machine _ (bytes (Some m)) (bytes (Some m)) refl said.0, tt)
 shop_read bytes (Some m) (Some t) shop said =
-    (is_read machine_file _ (bytes (Some m)) (bytes (Some m)) refl said.0, (is_read tool_table _ (bytes (Some t)) (bytes (Some t)) refl said.1, tt))
+    (is_read any_machine _ (bytes (Some m)) (bytes (Some m)) refl said.0, (is_read tool_table _ (bytes (Some t)) (bytes (Some t)) refl said.1, tt))
 
 -- the same of a machine with changes
 pub placed_read : (bytes : FileBytes) (machine tools : Option (List ℕ)) (changes : Changes) (shop : Shop) → PlacedResultIs bytes machine tools changes (Ok shop)
@@ -117,10 +117,10 @@ placed_read bytes machine tools changes shop said = both machine tools said
     unchanged (Ok m) said = refl
     unchanged (Err e) said = let bad : Err e ≡ Ok (file_of shop.machine) = said in cc
 
-    of_machine : (known : Option (List ℕ)) → IfSome known (λ text. IsPlaced changes (file_of shop.machine) (machine_file text)) →
-        IfSome known (λ text. IsOk (machine_file text))
+    of_machine : (known : Option (List ℕ)) → IfSome known (λ text. IsPlaced changes (file_of shop.machine) (any_machine text)) →
+        IfSome known (λ text. IsOk (any_machine text))
     of_machine None said = tt
-    of_machine (Some text) said = unchanged (machine_file text) said
+    of_machine (Some text) said = unchanged (any_machine text) said
 
     both : (machine tools : Option (List ℕ)) → PlacedResultIs bytes machine tools changes (Ok shop) → AllRead bytes (shop_inputs machine tools)
     both None None said = tt
@@ -142,7 +142,7 @@ tools_told fails bytes after machine (Some name) old mid new (Some e) read keeps
 pub machine_read : (bytes : FileBytes) (machine : Option (List ℕ)) (m : MachineFile) → IfMachine bytes machine (λ says. says ≡ Ok m) →
     AllRead bytes (setup_input OfMachine machine)
 machine_read bytes None m said = tt
-machine_read bytes (Some name) m said = (is_read machine_file m (bytes (Some name)) (bytes (Some name)) refl said, tt)
+machine_read bytes (Some name) m said = (is_read any_machine m (bytes (Some name)) (bytes (Some name)) refl said, tt)
 
 -- ---- programs and certificates
 

@@ -15,6 +15,7 @@ use crate::opening::open_file;
 use ngc_machine_files::{FileFault, Machine, Tools, built_in_machine};
 use ngc_margins::Changes;
 use ngc_text::{InputFault, read_whole};
+use ngc_written_machines::read_machine as machine_in;
 use std::alloc::Global;
 
 /// The machine and its tools.
@@ -76,7 +77,7 @@ fn named_machine<F: Files>(
         (F.failures files.new) result }
 {
     let bytes = bytes_of(alloc, name, files)?;
-    match Machine::read(alloc, bytes.as_slice()) {
+    match machine_in(alloc, bytes.as_slice()) {
         Ok(machine) => Ok(machine),
         Err(fault) => Err(AnswerFault::Machine(fault)),
     }

@@ -20,9 +20,15 @@ mod tree;
 pub use built_in::built_in_machine;
 pub use fault::FileFault;
 pub use machine::{ArcFeed, AxisRates, Fixture, Machine, Margins, Rapids, StockBox};
-pub use machine_contents::{Coordinates, MACHINE_KEYS};
+pub use machine_contents::{
+    Coordinates, Corners, MACHINE_KEYS, MachineContents, MachineNumbers, MachineOptions,
+    MachinePoints, OptionalNumbers, StockNumbers,
+};
 pub use name::Name;
 pub use part_length::PartLength;
 pub use parts::{Part, Parts};
 pub use tools::{Tool, Tools};
-pub use tree::{coordinates, coordinates_at, is_one_of, read_tree, whole_at};
+pub use tree::{
+    coordinates, coordinates_at, dialect_at, has_only, is_one_of, name_at, rapids_at, read_tree,
+    whole_at, whole_or,
+};

@@ -1,6 +1,6 @@
 ghost use Rattle.std.specs.Prelude.{◌≡◌, IfOk, IsOk, option_map};
 ghost use Rattle.ngc_machine_files.specs.Machine.{file_of};
-ghost use Rattle.ngc_machine_files.specs.MachineText.{machine_file, values_in, values_of};
+ghost use Rattle.ngc_machine_files.specs.MachineText.{checked_machine, machine_file, values_in, values_of};
 ghost use Rattle.toml.specs.Errors.{IsBlank};
 ghost use Rattle.ngc_machine_files.specs.Refusals.{FileResultIs};
 
@@ -20,6 +20,18 @@ fn read_contents(alloc: Global, bytes: &[u8]) -> Result<Option<MachineContents>,
     }
 }
 
+impl MachineContents {
+    /// Makes the machine of these values.
+    ///
+    /// Returns the first of the faults 261 to 267 that holds, or 900 if memory is refused.
+    pub fn checked_machine(&self, alloc: Global) -> Result<Machine<Global>, FileFault>
+        ensures { FileResultIs file_of result (checked_machine (Some (values_of self.now))) }
+    {
+        self.check()?;
+        self.machine(alloc).map_err(|_| FileFault::Memory)
+    }
+}
+
 impl Machine<Global> {
     /// Reads a machine file, version 1 or 2: a TOML document of whole numbers and names.
     ///
@@ -36,7 +48,6 @@ impl Machine<Global> {
             Ok(None) => return Err(FileFault::Document),
             Err(_) => return Err(FileFault::Memory),
         };
-        contents.check()?;
-        contents.machine(alloc).map_err(|_| FileFault::Memory)
+        contents.checked_machine(alloc)
     }
 }

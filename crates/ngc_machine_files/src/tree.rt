@@ -50,7 +50,7 @@ fn are_known(table: &Table, keys: &[&str]) -> bool
 }
 
 /// Returns whether the value is a table without keys other than `keys`.
-pub(crate) fn has_only(tree: &Value, keys: &[&str]) -> bool
+pub fn has_only(tree: &Value, keys: &[&str]) -> bool
     ensures { result ≡ has_only (map (λ k. k.now) keys.entry.now) (view tree.now) }
 {
     match tree.as_table() {
@@ -68,7 +68,7 @@ pub fn whole_at(tree: &Value, key: &str) -> Option<i64>
 
 /// Returns the whole number of a key, `missing` if the key is missing, or `None` if it has another
 /// value.
-pub(crate) fn whole_or(missing: i64, tree: &Value, key: &str) -> Option<i64>
+pub fn whole_or(missing: i64, tree: &Value, key: &str) -> Option<i64>
     ensures { result ≡ whole_or missing key.now (view tree.now) }
 {
     match tree.get(key) {
@@ -107,7 +107,7 @@ fn named(value: &Value) -> Option<Option<Name>>
 
 /// Returns the name of the key `name`: without characters if the key is missing, an inner `None`
 /// for a text that is not a name, and `None` for another value.
-pub(crate) fn name_at(tree: &Value) -> Option<Option<Name>>
+pub fn name_at(tree: &Value) -> Option<Option<Name>>
     ensures { result ≡ name_at (view tree.now) }
 {
     match tree.get("name") {
@@ -130,7 +130,7 @@ fn rapids_named(text: &str) -> Option<Rapids>
 
 /// Returns the traverses of the key `rapids`, which are straight if the key is missing, or `None`
 /// for a value other than `"straight"` and `"free"`.
-pub(crate) fn rapids_at(tree: &Value) -> Option<Rapids>
+pub fn rapids_at(tree: &Value) -> Option<Rapids>
     ensures { result ≡ rapids_at (view tree.now) }
 {
     match tree.get("rapids") {
@@ -147,7 +147,7 @@ fn dialect_of(value: &Value) -> Option<Option<Dialect>>
 
 /// Returns the language of the key `dialect`: an inner `None` if the key is missing, and `None` for a
 /// value that isn't the name of one.
-pub(crate) fn dialect_at(tree: &Value) -> Option<Option<Dialect>>
+pub fn dialect_at(tree: &Value) -> Option<Option<Dialect>>
     ensures { result ≡ dialect_at (view tree.now) }
 {
     match tree.get("dialect") {

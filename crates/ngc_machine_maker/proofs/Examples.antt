@@ -23,17 +23,17 @@ abbrev pub mm : ℕ → Length
 mm n = record { nanometres = n * 1000000 }
 
 abbrev pub mm_a_minute : ℕ → Speed
-mm_a_minute n = record { micrometres_a_minute = n * 1000 }
+mm_a_minute n = record { nanometres_a_minute = n * 1000000 }
 
 abbrev pub mm_a_second_squared : ℕ → Acceleration
-mm_a_second_squared n = record { micrometres_a_second_squared = n * 1000 }
+mm_a_second_squared n = record { nanometres_a_second_squared = n * 1000000 }
 
 -- 800 mm/s^2 reach 4 mm/s in 5 ms, which is 240 mm/min; 401 mm/s^2 reach 2.005 mm/s. 400 mm/s^2 reach
 -- 2 mm/s, and so does the corner with any smaller acceleration
 corner_by_acceleration : usual_corner (three (mm_a_second_squared 1000) (mm_a_second_squared 800) (mm_a_second_squared 900)) ≡ mm_a_minute 240
 corner_by_acceleration = refl
 
-corner_above_the_least : (usual_corner (three (mm_a_second_squared 401) (mm_a_second_squared 401) (mm_a_second_squared 401))).micrometres_a_minute ≡ 120300
+corner_above_the_least : (usual_corner (three (mm_a_second_squared 401) (mm_a_second_squared 401) (mm_a_second_squared 401))).nanometres_a_minute ≡ 120300000
 corner_above_the_least = refl
 
 least_corner : usual_corner (three (mm_a_second_squared 400) (mm_a_second_squared 400) (mm_a_second_squared 400)) ≡ mm_a_minute 120
@@ -44,13 +44,13 @@ corner_of_a_slow_machine = refl
 
 -- 188.976 steps per millimetre are steps of 5,291.677 nm; 20 turns per inch with 1,600 steps per
 -- turn are 1259.84252 steps per millimetre, and steps of 793.75 nm
-nearest_of_188_976 : nearest_step 188976000 ≡ 5292
+nearest_of_188_976 : nearest_step 188976000 1000000000000 ≡ 5292
 nearest_of_188_976 = refl
 
-nearest_of_20_turns_an_inch : nearest_step 1259842520 ≡ 794
+nearest_of_20_turns_an_inch : nearest_step 1259842520 1000000000000 ≡ 794
 nearest_of_20_turns_an_inch = refl
 
-nearest_of_800 : nearest_step 800000000 ≡ 1250
+nearest_of_800 : nearest_step 800000000 1000000000000 ≡ 1250
 nearest_of_800 = refl
 
 -- A small router with 800 steps per millimetre, 300 by 180 by 45 mm. 1,000 mm/min are 13,333.3
@@ -59,7 +59,7 @@ nearest_of_800 = refl
 -- 2 mm/s: 1,600 steps per second, over 27,000 0.059259. The jump has the same rate.
 abbrev pub small_router : Figures
 small_router = record {
-  steps = record { millionths = 800000000 };
+  scale = record { steps = 800000000; per = 1000000000000 };
   travel = three (mm 300) (mm 180) (mm 45);
   feed = three (mm_a_minute 1000) (mm_a_minute 1000) (mm_a_minute 600);
   acceleration = three (mm_a_second_squared 30) (mm_a_second_squared 30) (mm_a_second_squared 20);
@@ -100,7 +100,7 @@ numbers_of_a_small_router = refl
 -- is longer than the motor's: X has 277,078 steps of it, 219.999932 mm.
 abbrev bench_mill : Figures
 bench_mill = record {
-  steps = record { millionths = 1259842520 };
+  scale = record { steps = 1259842520; per = 1000000000000 };
   travel = three (mm 220) (mm 127) (mm 159);
   feed = three (mm_a_minute 558) (mm_a_minute 558) (mm_a_minute 400);
   acceleration = three (mm_a_second_squared 50) (mm_a_second_squared 50) (mm_a_second_squared 50);
@@ -140,7 +140,7 @@ numbers_of_a_bench_mill = refl
 -- second, with its start at the top of Z, a ring of 64 commands, and arcs at their feed.
 abbrev pub large_router : Figures
 large_router = record {
-  steps = record { millionths = 188976000 };
+  scale = record { steps = 188976000; per = 1000000000000 };
   travel = three (mm 800) (mm 600) (mm 100);
   feed = three (mm_a_minute 10000) (mm_a_minute 10000) (mm_a_minute 5000);
   acceleration = three (mm_a_second_squared 200) (mm_a_second_squared 200) (mm_a_second_squared 150);
@@ -177,10 +177,10 @@ numbers_of_a_large_router : numbers_of large_router ≡ Ok (record {
 numbers_of_a_large_router = refl
 
 -- 10 steps per millimetre are steps of 100,000 nm, and 2,100 are steps of 476 nm
-long_step : numbers_of (record large_router { steps = record { millionths = 10000000 } }) ≡ Err refusals.Step
+long_step : numbers_of (record large_router { scale = record { steps = 10000000; per = 1000000000000 } }) ≡ Err refusals.Step
 long_step = refl
 
-short_step : numbers_of (record large_router { steps = record { millionths = 2100000000 } }) ≡ Err refusals.Step
+short_step : numbers_of (record large_router { scale = record { steps = 2100000000; per = 1000000000000 } }) ≡ Err refusals.Step
 short_step = refl
 
 -- 10,000 mm/min are 31,496 steps per second: more than 30,000 ticks

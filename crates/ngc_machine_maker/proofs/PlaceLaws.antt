@@ -1,5 +1,5 @@
 -- The travel and the places in it, as nanometres of a file.
-use Rattle.std.proofs.Common.{◌≡◌, ℕ, ◌≤◌, ◌<◌, ◌+◌, ◌*◌, ◌%◌, ap, subst, arith}
+use Rattle.std.proofs.Common.{◌≡◌, ℕ, ◌≤◌, ◌<◌, ◌+◌, ◌*◌, ◌%◌, subst, refl, arith}
 use Rattle.std.specs.Prelude.{pos, neg_ℤ, ◌-ℤ◌, ◌≤ℤ◌, unsigned_abs}
 use Rattle.std.proofs.lemmas.Int.{ints}
 use Rattle.std.proofs.Math.Nat.{mul_assoc}
@@ -8,10 +8,11 @@ use Rattle.ngc_machine_maker.specs.declared.figures.End.{End}
 use Rattle.ngc_machine_maker.specs.declared.figures.End.TheVariants as ends
 use Rattle.ngc_machine_maker.specs.declared.figures.Length.{Length}
 use Rattle.ngc_machine_maker.specs.declared.figures.Figures.{Figures}
+use Rattle.ngc_machine_maker.specs.declared.figures.Ratio.{Ratio}
 use Rattle.ngc_machine_maker.specs.declared.numbers.Steps.{Steps}
 use Rattle.ngc_machine_maker.specs.declared.rates.Rates.{Rates}
 use Rattle.ngc_machine_maker.specs.declared.scale.Scale.{Scale}
-use Rattle.ngc_machine_maker.specs.Asked.{IsTravelWithin, IsWithinRequest, scale_in}
+use Rattle.ngc_machine_maker.specs.Asked.{IsTravelWithin, IsWithinRequest, IsScaleOf, scale_in}
 use Rattle.ngc_machine_maker.specs.InFile.{IsAxisInFile, AreInFile, AreStepsWithin}
 use Rattle.ngc_machine_maker.specs.Numbers.{numbers_by}
 use Rattle.ngc_machine_maker.specs.Places.{low_of, high_of, coordinate}
@@ -25,14 +26,14 @@ stop_within stop travel step h most = let p : stop * step ≤ travel * step = mu
 travel_file : (steps step length : ℕ) → steps * (1 * step) ≤ length → steps * step ≤ length
 travel_file steps step length h = grind arith
 
-motor_order : (steps step : ℕ) → steps * step * 1000000000000 ≡ steps * (1 * 1000000000000) * step
-motor_order steps step = grind arith
+motor_order : (steps step per : ℕ) → steps * step * per ≡ steps * (1 * per) * step
+motor_order steps step per = grind arith
 
-travel_motor : (steps step length motor : ℕ) → steps * (1 * 1000000000000) ≤ length * motor → steps * step * 1000000000000 ≤ length * (motor * step)
-travel_motor steps step length motor h =
-    let p : steps * (1 * 1000000000000) * step ≤ length * motor * step = mul-le (steps * (1 * 1000000000000)) step (length * motor) step h (omega arith) in
+travel_motor : (steps step per length motor : ℕ) → steps * (1 * per) ≤ length * motor → steps * step * per ≤ length * (motor * step)
+travel_motor steps step per length motor h =
+    let p : steps * (1 * per) * step ≤ length * motor * step = mul-le (steps * (1 * per)) step (length * motor) step h (omega arith) in
     let q : length * motor * step ≡ length * (motor * step) = mul_assoc length motor step in
-    let r : steps * step * 1000000000000 ≡ steps * (1 * 1000000000000) * step = motor_order steps step in
+    let r : steps * step * per ≡ steps * (1 * per) * step = motor_order steps step per in
     omega (arith, p, q, r)
 
 -- the length of a travel, with zero at either end
@@ -43,7 +44,7 @@ span_length scale ends.High steps = omega (arith, ints)
 pub travel_within : (scale : Scale) (zero : End) (steps : ℕ) (length : Length) → IsNoFarther scale steps length → IsTravelWithin scale (low_of scale zero steps) (high_of scale zero steps) length
 travel_within scale zero steps length h = record {
   by_file = rw (span_length scale zero steps) (travel_file steps scale.step length.nanometres h.by_file);
-  by_motor = rw (span_length scale zero steps) (travel_motor steps scale.step length.nanometres scale.steps h.by_motor);
+  by_motor = rw (span_length scale zero steps) (travel_motor steps scale.step scale.per length.nanometres scale.steps h.by_motor);
 }
 
 whole_stop : (stop step : ℕ) → 0 < step → stop * step % step ≡ 0
@@ -113,13 +114,16 @@ numbers_in_file f scale rates steps ring s r w i = record {
   };
 }
 
-abbrev scale_with : ℕ → ℕ → Scale
-scale_with steps step = record { steps = steps; step = step }
+abbrev scale_with : ℕ → ℕ → ℕ → Scale
+scale_with steps per step = record { steps = steps; per = per; step = step }
 
-pub numbers_as_asked : (f : Figures) (scale : Scale) (rates : Rates) (steps : Steps) (ring : ℕ) → scale.steps ≡ f.steps.millionths → AreSafe scale rates f
+own_scale : (scale : Scale) (ratio : Ratio) → IsScaleOf ratio scale → scale ≡ scale_with ratio.steps ratio.per scale.step
+own_scale scale ratio same = rw (← same.steps, ← same.per) refl
+
+pub numbers_as_asked : (f : Figures) (scale : Scale) (rates : Rates) (steps : Steps) (ring : ℕ) → IsScaleOf f.scale scale → AreSafe scale rates f
     → AreNoFarther scale steps.travel f.travel → IsWithinRequest (numbers_by f scale rates steps ring) f
 numbers_as_asked f scale rates steps ring same r w =
-    let own : scale ≡ scale_in (numbers_by f scale rates steps ring) f = ap (λ (n : ℕ). scale_with n scale.step) same in
+    let own : scale ≡ scale_in (numbers_by f scale rates steps ring) f = own_scale scale f.scale same in
     record {
       rates = subst (λ (s : Scale). AreSafe s rates f) own r;
       x = subst (λ (s : Scale). IsTravelWithin s (low_of scale f.zero.x steps.travel.x) (high_of scale f.zero.x steps.travel.x) f.travel.x) own (travel_within scale f.zero.x steps.travel.x f.travel.x w.x);

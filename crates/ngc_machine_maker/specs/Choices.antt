@@ -10,7 +10,6 @@ use Rattle.ngc_machine_maker.specs.declared.figures.Figures.{Figures}
 use Rattle.ngc_machine_maker.specs.declared.figures.Length.{Length}
 use Rattle.ngc_machine_maker.specs.declared.figures.PerAxis.{PerAxis}
 use Rattle.ngc_machine_maker.specs.declared.figures.Speed.{Speed}
-use Rattle.ngc_machine_maker.specs.declared.refusal.Field.{Field}
 use Rattle.ngc_machine_maker.specs.declared.refusal.Field.TheVariants as fields
 use Rattle.ngc_machine_maker.specs.declared.refusal.FigureRefusal.{FigureRefusal}
 use Rattle.ngc_machine_maker.specs.declared.refusal.Stop.{Stop}
@@ -112,7 +111,7 @@ chosen f choices =
     and_then (home_by f.zero stops.Home28 f.home28 choices.home28) (λ home28.
     and_then (home_by f.zero stops.Home30 f.home30 choices.home30) (λ home30.
     Ok (record {
-      steps = f.steps;
+      scale = f.scale;
       travel = f.travel;
       feed = f.feed;
       acceleration = f.acceleration;

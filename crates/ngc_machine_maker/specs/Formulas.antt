@@ -7,6 +7,7 @@ use Rattle.std.specs.Prelude.{Result, Ok, Err, Bool, if◌then◌else◌}
 use Rattle.ngc_machine_maker.specs.declared.figures.Axis.{Axis}
 use Rattle.ngc_machine_maker.specs.declared.figures.Axis.TheVariants as axes
 use Rattle.ngc_machine_maker.specs.declared.figures.PerAxis.{PerAxis}
+use Rattle.ngc_machine_maker.specs.declared.figures.Ratio.{Ratio}
 use Rattle.ngc_machine_maker.specs.declared.figures.StepsPerMillimetre.{StepsPerMillimetre}
 use Rattle.ngc_machine_maker.specs.declared.figures.Speed.{Speed}
 use Rattle.ngc_machine_maker.specs.declared.figures.Acceleration.{Acceleration}
@@ -21,33 +22,42 @@ abbrev pub and_then : {T U : Type 0} → Result T FigureRefusal → (T → Resul
 and_then (Err refusal) f = Err refusal
 and_then (Ok x) f = f x
 
--- a millimetre has 1,000,000 nm, and steps per millimetre are in millionths: the nearest whole
--- number of nanometres, halves upwards
-abbrev pub nearest_step : ℕ → ℕ
-nearest_step steps = (2000000000000 + steps) / (2 * steps)
+-- a millimetre has 1,000,000 nm, and steps per millimetre are in millionths
+abbrev pub ratio_of : StepsPerMillimetre → Ratio
+ratio_of s = record { steps = s.millionths; per = 1000000000000 }
 
--- a motor's step is from 500 to 50,000 nm if it has 20 to 2,000 steps per millimetre
-abbrev pub scale_of : StepsPerMillimetre → Result Scale FigureRefusal
-scale_of s =
-    if nat_lt s.millionths 20000000 || nat_lt 2000000000 s.millionths then Err refusals.Step
-    else Ok (record { steps = s.millionths; step = nearest_step s.millionths })
+-- the length of a step, if a motor makes `steps` of them in `per` nanometres: the nearest whole
+-- number of nanometres, halves upwards
+abbrev pub nearest_step : ℕ → ℕ → ℕ
+nearest_step steps per = (2 * per + steps) / (2 * steps)
+
+-- a motor's step is from 500 to 50,000 nm, and its ratio is over 2^40 nm at most
+abbrev pub is_refused : Ratio → Bool
+is_refused r =
+    (r.steps == 0) || (nat_lt 1099511627776 r.per
+    || (nat_lt r.per (500 * r.steps) || nat_lt (50000 * r.steps) r.per))
+
+abbrev pub scale_of : Ratio → Result Scale FigureRefusal
+scale_of r =
+    if is_refused r then Err refusals.Step
+    else Ok (record { steps = r.steps; per = r.per; step = nearest_step r.steps r.per })
 
 -- the number of steps in a length, which is an amount of nanometres over a divisor: the lesser of
 -- the numbers with the motor's step and with the file's
 abbrev pub steps_in : Scale → ℕ → ℕ → ℕ
 steps_in scale amount divisor =
-    min (amount * scale.steps / (divisor * 1000000000000)) (amount / (divisor * scale.step))
+    min (amount * scale.steps / (divisor * scale.per)) (amount / (divisor * scale.step))
 
--- ---- rates, in millionths of a step per tick. A speed is in thousandths of a millimetre per
--- minute, and an acceleration in thousandths of a millimetre per second squared
+-- ---- rates, in millionths of a step per tick. A speed is in nanometres per minute, and an
+-- acceleration in nanometres per second squared
 
 abbrev pub rate_of : Scale → ℕ → Speed → ℕ
 rate_of scale ticks speed =
-    steps_in scale (speed.micrometres_a_minute * 1000000000) (60 * ticks)
+    steps_in scale (speed.nanometres_a_minute * 1000000) (60 * ticks)
 
 -- the change of the rate from a tick to the next
 abbrev pub change_of : Scale → ℕ → ℕ → ℕ
-change_of scale ticks acceleration = steps_in scale (acceleration * 1000000000) (ticks * ticks)
+change_of scale ticks acceleration = steps_in scale (acceleration * 1000000) (ticks * ticks)
 
 -- The acceleration towards the centre where an arc runs diagonally, in turns. With `arc_feed = 2`
 -- the turn holds there too. Without it the rate is the same everywhere, and the acceleration there
@@ -57,23 +67,23 @@ diagonal_turns by_place = if by_place then 1 else 2
 
 abbrev pub turn_of : Bool → Scale → ℕ → ℕ → ℕ
 turn_of by_place scale ticks acceleration =
-    steps_in scale (acceleration * 1000000000000000) (diagonal_turns by_place * (ticks * ticks))
+    steps_in scale (acceleration * 1000000000000) (diagonal_turns by_place * (ticks * ticks))
 
 abbrev pub fastest : PerAxis Speed → ℕ
 fastest speeds =
-    max (max speeds.x.micrometres_a_minute speeds.y.micrometres_a_minute)
-    speeds.z.micrometres_a_minute
+    max (max speeds.x.nanometres_a_minute speeds.y.nanometres_a_minute)
+    speeds.z.nanometres_a_minute
 
 abbrev pub least : PerAxis Acceleration → ℕ
 least a =
-    min (min a.x.micrometres_a_second_squared a.y.micrometres_a_second_squared)
-    a.z.micrometres_a_second_squared
+    min (min a.x.nanometres_a_second_squared a.y.nanometres_a_second_squared)
+    a.z.nanometres_a_second_squared
 
 -- two ticks for each step of the fastest axis, in the next whole thousand above; from 10,000 to
 -- 1,000,000
 abbrev pub chosen_ticks : Scale → PerAxis Speed → ℕ
 chosen_ticks scale feed =
-    min (max (1000 * (fastest feed * scale.steps / 30000000000000 + 1)) 10000) 1000000
+    min (max (1000 * (fastest feed * scale.steps / (30000 * scale.per) + 1)) 10000) 1000000
 
 abbrev pub given_ticks : ℕ → Result ℕ FigureRefusal
 given_ticks ticks =
@@ -135,13 +145,17 @@ abbrev pub limited_change : Scale → ℕ → PerAxis Acceleration → Result �
 limited_change scale ticks accelerations =
     some refusals.LowAcceleration (min (change_of scale ticks (least accelerations)) 1000000)
 
+-- an acceleration above 4,400 m/s^2 counts as that
+abbrev pub on_arcs : ℕ → ℕ
+on_arcs acceleration = min acceleration 4400000000000
+
 abbrev pub limited_turn : Bool → Scale → ℕ → ℕ → Result ℕ FigureRefusal
 limited_turn by_place scale ticks acceleration =
-    some refusals.LowArcs (min (turn_of by_place scale ticks acceleration) 1000000000000)
+    some refusals.LowArcs (min (turn_of by_place scale ticks (on_arcs acceleration)) 1000000000000)
 
 abbrev pub arcs_by : ℕ → Option Acceleration → ℕ
 arcs_by otherwise None = otherwise
-arcs_by otherwise (Some a) = a.micrometres_a_second_squared
+arcs_by otherwise (Some a) = a.nanometres_a_second_squared
 
 -- the greatest acceleration towards the centre of an arc: the one specified, or that of the slowest
 -- axis

@@ -123,7 +123,7 @@ homed_axes mask pull_off travel =
 abbrev pub started_by_grbl : Figures → PerAxis Length → Figures
 started_by_grbl f start =
     record {
-      steps = f.steps;
+      scale = f.scale;
       travel = f.travel;
       feed = f.feed;
       acceleration = f.acceleration;

@@ -48,7 +48,7 @@ numbers_by f scale rates steps ring =
 -- the numbers, or the first refusal
 abbrev pub numbers_of : Figures → Result MachineNumbers FigureRefusal
 numbers_of f =
-    and_then (scale_of f.steps) (λ scale.
+    and_then (scale_of f.scale) (λ scale.
     and_then (rates_of scale f) (λ rates.
     and_then (placed scale f) (λ steps.
     and_then (ring_of f.ring) (λ ring.

@@ -16,7 +16,7 @@ use Rattle.ngc_machine_maker.specs.declared.refusal.Field.TheVariants as fields
 use Rattle.ngc_machine_maker.specs.declared.refusal.FigureRefusal.{FigureRefusal}
 use Rattle.ngc_machine_maker.specs.declared.refusal.FigureRefusal.TheVariants as refusals
 use Rattle.ngc_machine_maker.specs.Decimals.{number_in, numbers_in}
-use Rattle.ngc_machine_maker.specs.Formulas.{and_then, least}
+use Rattle.ngc_machine_maker.specs.Formulas.{and_then, least, ratio_of}
 
 abbrev pub same_for_all : {T : Type 0} → T → PerAxis T
 same_for_all value = record { x = value; y = value; z = value }
@@ -29,11 +29,13 @@ steps n = record { millionths = n }
 abbrev pub length_of : ℕ → Length
 length_of n = record { nanometres = n }
 
+-- a speed in thousandths of a millimetre per minute
 abbrev pub speed_of : ℕ → Speed
-speed_of n = record { micrometres_a_minute = n }
+speed_of n = record { nanometres_a_minute = 1000 * n }
 
+-- an acceleration in thousandths of a millimetre per second squared
 abbrev pub acceleration_of : ℕ → Acceleration
-acceleration_of n = record { micrometres_a_second_squared = n }
+acceleration_of n = record { nanometres_a_second_squared = 1000 * n }
 
 abbrev pub each_of : {T : Type 0} → (ℕ → T) → PerAxis ℕ → PerAxis T
 each_of f p = record { x = f p.x; y = f p.y; z = f p.z }
@@ -88,9 +90,9 @@ frame_by (Some text) = frame_in text.now
 
 -- ---- what is used where nothing is chosen
 
--- the speed that an acceleration reaches in 5 ms, in thousandths of a millimetre per minute
+-- the speed that an acceleration reaches in 5 ms, in whole thousandths of a millimetre per minute
 abbrev pub reached_in_5_ms : ℕ → ℕ
-reached_in_5_ms acceleration = acceleration * 5 * 60 / 1000
+reached_in_5_ms acceleration = acceleration * 5 * 60 / 1000000
 
 -- the corner speed: what the axis with the least acceleration reaches in 5 ms, and at least 2 mm/s
 abbrev pub usual_corner : PerAxis Acceleration → Speed
@@ -102,7 +104,7 @@ abbrev pub figures_by : StepsPerMillimetre → PerAxis Length → PerAxis Speed 
     PerAxis Acceleration → PerAxis End → Figures
 figures_by steps travel feed acceleration zero =
     record {
-      steps = steps;
+      scale = ratio_of steps;
       travel = travel;
       feed = feed;
       acceleration = acceleration;

@@ -1,13 +1,15 @@
 -- The ranges of the numbers of a machine file.
-use Rattle.std.specs.Prelude.{ℕ, ◌≤◌, ◌*◌}
+use Rattle.std.specs.Prelude.{ℕ, ◌<◌, ◌≤◌, ◌*◌}
 use Rattle.ngc_machine_maker.specs.declared.figures.PerAxis.{PerAxis}
 use Rattle.ngc_machine_maker.specs.declared.rates.Rates.{Rates}
 use Rattle.ngc_machine_maker.specs.declared.scale.Scale.{Scale}
 
--- a step of 500 to 50,000 nm
+-- a step of 500 to 50,000 nm, and the motor's as a ratio of numbers up to 2^40
 pub record IsScale (scale : Scale) : Type 0 where
-  pub least_steps : 20000000 ≤ scale.steps
-  pub greatest_steps : scale.steps ≤ 2000000000
+  pub some_steps : 0 < scale.steps
+  pub greatest_steps : scale.steps ≤ 1099511627776
+  pub some_length : 0 < scale.per
+  pub greatest_length : scale.per ≤ 1099511627776
   pub least : 500 ≤ scale.step
   pub greatest : scale.step ≤ 50000
 

@@ -13,22 +13,22 @@ use Rattle.ngc_machine_maker.specs.Formulas.{arcs_of, diagonal_turns, jump_speed
 -- and with the motor's
 pub record IsNoMore (scale : Scale) (steps amount divisor : ℕ) : Type 0 where
   pub by_file : steps * (divisor * scale.step) ≤ amount
-  pub by_motor : steps * (divisor * 1000000000000) ≤ amount * scale.steps
+  pub by_motor : steps * (divisor * scale.per) ≤ amount * scale.steps
 
 -- a rate is no faster than a speed
 abbrev pub IsNoFaster : Scale → ℕ → ℕ → Speed → Type 0
 IsNoFaster scale ticks rate speed =
-    IsNoMore scale rate (speed.micrometres_a_minute * 1000000000) (60 * ticks)
+    IsNoMore scale rate (speed.nanometres_a_minute * 1000000) (60 * ticks)
 
 -- a change of the rate is no greater than an acceleration
 abbrev pub IsNoGreaterAcceleration : Scale → ℕ → ℕ → ℕ → Type 0
 IsNoGreaterAcceleration scale ticks change acceleration =
-    IsNoMore scale change (acceleration * 1000000000) (ticks * ticks)
+    IsNoMore scale change (acceleration * 1000000) (ticks * ticks)
 
 -- the same for an arc where it runs diagonally, at the rate that is aimed at
 abbrev pub IsNoHarderOnArcs : Bool → Scale → ℕ → ℕ → ℕ → Type 0
 IsNoHarderOnArcs by_place scale ticks turn acceleration =
-    IsNoMore scale turn (acceleration * 1000000000000000)
+    IsNoMore scale turn (acceleration * 1000000000000)
     (diagonal_turns by_place * (ticks * ticks))
 
 pub record AreNoFaster (scale : Scale) (ticks : ℕ) (rates : PerAxis ℕ) (feed : PerAxis Speed)
@@ -38,7 +38,7 @@ pub record AreNoFaster (scale : Scale) (ticks : ℕ) (rates : PerAxis ℕ) (feed
   pub z : IsNoFaster scale ticks rates.z feed.z
 
 abbrev pub IsFollowedBy : Scale → ℕ → ℕ → Acceleration → Type 0
-IsFollowedBy scale ticks change a = IsNoGreaterAcceleration scale ticks change a.micrometres_a_second_squared
+IsFollowedBy scale ticks change a = IsNoGreaterAcceleration scale ticks change a.nanometres_a_second_squared
 
 -- rates and changes are no greater than requested, on each axis
 pub record AreSafe (scale : Scale) (rates : Rates) (f : Figures) : Type 0 where

@@ -37,18 +37,18 @@ arc_acceleration n = rounded (diagonal_turns n.arc_feed * gain n n.turn) 1000000
 
 -- the motor's step, in thousandths of a nanometre
 abbrev pub motor_step : Figures → ℕ
-motor_step f = rounded 1000000000000000 f.steps.millionths
+motor_step f = rounded (1000 * f.scale.per) f.scale.steps
 
--- the file's step in steps of the motor, in millionths of a millionth
+-- the file's step in steps of the motor, times the length of the motor's ratio
 abbrev pub file_step : MachineNumbers → Figures → ℕ
-file_step n f = n.step * f.steps.millionths
+file_step n f = n.step * f.scale.steps
 
 abbrev pub is_whole : MachineNumbers → Figures → Bool
-is_whole n f = file_step n f == 1000000000000
+is_whole n f = file_step n f == f.scale.per
 
 -- if the file's step is the longer one, the axes go less far than the file says
 abbrev pub is_short : MachineNumbers → Figures → Bool
-is_short n f = nat_lt 1000000000000 (file_step n f)
+is_short n f = nat_lt f.scale.per (file_step n f)
 
 abbrev pub difference : ℕ → ℕ → ℕ
 difference a b = (a - b) + (b - a)
@@ -56,7 +56,7 @@ difference a b = (a - b) + (b - a)
 -- over a distance in the file, the difference to the motor's distance, in nanometres, rounded up
 abbrev pub error_over : MachineNumbers → Figures → ℕ → ℕ
 error_over n f distance =
-    (distance * difference (file_step n f) 1000000000000 + file_step n f - 1) / file_step n f
+    (distance * difference (file_step n f) f.scale.per + file_step n f - 1) / file_step n f
 
 abbrev pub travel_length : ℤ → ℤ → ℕ
 travel_length low high = unsigned_abs (high -ℤ low)

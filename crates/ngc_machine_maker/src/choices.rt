@@ -5,6 +5,7 @@ ghost use Rattle.ngc_machine_maker.specs.Options.{second_speed_in};
 
 use crate::decimal::{begins, number_in, split_three, without_first};
 use crate::figures::{Acceleration, End, Figures, Length, PerAxis, Speed};
+use crate::options::acceleration_of;
 use crate::refusal::{Field, FigureRefusal, Stop};
 
 /// The texts of the optional options.
@@ -38,7 +39,7 @@ fn second_speed_in(field: Field, text: &[u8]) -> Result<Speed, FigureRefusal>
 {
     match number_in(text, 3) {
         Some(number) if number <= 71_582_788 => Ok(Speed {
-            micrometres_a_minute: 60 * number,
+            nanometres_a_minute: 60_000 * u64::from(number),
         }),
         _ => Err(FigureRefusal::Unread(field)),
     }
@@ -70,9 +71,7 @@ fn arcs_in(text: &[u8]) -> Result<Option<Acceleration>, FigureRefusal>
 {
     match number_in(text, 3) {
         None => Err(FigureRefusal::Unread(Field::Arcs)),
-        Some(micrometres_a_second_squared) => Ok(Some(Acceleration {
-            micrometres_a_second_squared,
-        })),
+        Some(number) => Ok(Some(acceleration_of(number))),
     }
 }
 
@@ -226,7 +225,7 @@ impl Figures {
         let home28 = home_by(&self.zero, Stop::Home28, self.home28, choices.home28)?;
         let home30 = home_by(&self.zero, Stop::Home30, self.home30, choices.home30)?;
         Ok(Figures {
-            steps: self.steps,
+            scale: self.scale,
             travel: self.travel,
             feed: self.feed,
             acceleration: self.acceleration,

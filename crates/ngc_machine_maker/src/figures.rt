@@ -1,4 +1,6 @@
 //! The figures that a shop knows of its machine.
+ghost use Rattle.std.specs.Prelude.{◌≡◌};
+ghost use Rattle.ngc_machine_maker.specs.Formulas.{ratio_of};
 
 /// An axis of the machine.
 #[derive(Clone, Copy)]
@@ -23,6 +25,25 @@ pub struct StepsPerMillimetre {
     pub millionths: u32,
 }
 
+/// A motor's step as a ratio: in `per` nanometres the motor makes `steps` steps.
+#[derive(Clone, Copy)]
+pub struct Ratio {
+    pub steps: u64,
+    pub per: u64,
+}
+
+impl Ratio {
+    /// Returns the ratio of a motor with these steps per millimetre.
+    pub fn of(steps: StepsPerMillimetre) -> Ratio
+        ensures { result ≡ ratio_of steps }
+    {
+        Ratio {
+            steps: u64::from(steps.millionths),
+            per: 1_000_000_000_000,
+        }
+    }
+}
+
 /// A length.
 #[derive(Clone, Copy)]
 pub struct Length {
@@ -32,15 +53,13 @@ pub struct Length {
 /// A speed.
 #[derive(Clone, Copy)]
 pub struct Speed {
-    /// In thousandths of a millimetre per minute.
-    pub micrometres_a_minute: u32,
+    pub nanometres_a_minute: u64,
 }
 
 /// An acceleration.
 #[derive(Clone, Copy)]
 pub struct Acceleration {
-    /// In thousandths of a millimetre per second squared.
-    pub micrometres_a_second_squared: u32,
+    pub nanometres_a_second_squared: u64,
 }
 
 /// The end of an axis' travel at which its coordinate is zero.
@@ -55,7 +74,8 @@ pub enum End {
 /// The figures of a machine. A stop is the distance of an axis from its zero, into the travel.
 #[derive(Clone, Copy)]
 pub struct Figures {
-    pub steps: StepsPerMillimetre,
+    /// The step of the motors: the same on all axes.
+    pub scale: Ratio,
     pub travel: PerAxis<Length>,
     /// The greatest speed of each axis.
     pub feed: PerAxis<Speed>,

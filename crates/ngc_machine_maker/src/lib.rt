@@ -18,7 +18,9 @@ mod shop_units;
 
 pub use choices::Choices;
 pub use decimal::{number_in, split_three};
-pub use figures::{Acceleration, Axis, End, Figures, Length, PerAxis, Speed, StepsPerMillimetre};
+pub use figures::{
+    Acceleration, Axis, End, Figures, Length, PerAxis, Ratio, Speed, StepsPerMillimetre,
+};
 pub use file::{write_machine_file, write_notes};
 pub use grbl::read_grbl;
 pub use numbers::{MachineNumbers, numbers_of};

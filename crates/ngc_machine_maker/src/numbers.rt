@@ -95,7 +95,7 @@ pub fn numbers_of(figures: &Figures) -> Result<MachineNumbers, FigureRefusal>
     ensures safe { IfOk result (λ numbers. IsWithinRequest numbers figures.now) }
     ensures scale { IfOk result (λ numbers. IsScale (scale_in numbers figures.now)) }
 {
-    let scale = Scale::of(figures.steps)?;
+    let scale = Scale::of(figures.scale)?;
     let rates = rates_of(&scale, figures)?;
     let steps = steps_of(&scale, figures)?;
     let ring = ring_of(figures.ring)?;

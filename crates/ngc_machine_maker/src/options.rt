@@ -4,7 +4,9 @@ ghost use Rattle.ngc_machine_maker.specs.declared.refusal.Field.TheVariants as f
 ghost use Rattle.ngc_machine_maker.specs.Options as spec;
 
 use crate::decimal::{number_in, numbers_in};
-use crate::figures::{Acceleration, End, Figures, Length, PerAxis, Speed, StepsPerMillimetre};
+use crate::figures::{
+    Acceleration, End, Figures, Length, PerAxis, Ratio, Speed, StepsPerMillimetre,
+};
 use crate::rates::least;
 use crate::refusal::{Field, FigureRefusal};
 
@@ -33,15 +35,15 @@ fn speed_of(micrometres_a_minute: u32) -> Speed
     ensures { result ≡ spec.speed_of micrometres_a_minute }
 {
     Speed {
-        micrometres_a_minute,
+        nanometres_a_minute: 1_000 * u64::from(micrometres_a_minute),
     }
 }
 
-fn acceleration_of(micrometres_a_second_squared: u32) -> Acceleration
+pub(crate) fn acceleration_of(micrometres_a_second_squared: u32) -> Acceleration
     ensures { result ≡ spec.acceleration_of micrometres_a_second_squared }
 {
     Acceleration {
-        micrometres_a_second_squared,
+        nanometres_a_second_squared: 1_000 * u64::from(micrometres_a_second_squared),
     }
 }
 
@@ -146,12 +148,15 @@ fn frame_by(text: Option<&[u8]>) -> Result<PerAxis<End>, FigureRefusal>
     }
 }
 
-// Returns the speed that the axis with the least acceleration reaches in 5 ms, and at least 2 mm/s.
+// Returns the speed that the axis with the least acceleration reaches in 5 ms, and at least 2 mm/s,
+// in whole thousandths of a millimetre per minute.
 fn usual_corner(accelerations: &PerAxis<Acceleration>) -> Speed
     ensures { result ≡ spec.usual_corner accelerations.now }
 {
-    let reached = u64::from(least(accelerations)) * 5 * 60 / 1_000;
-    speed_of(reached.max(120_000) as u32)
+    let reached = u128::from(least(accelerations)) * 5 * 60 / 1_000_000;
+    Speed {
+        nanometres_a_minute: 1_000 * (reached.max(120_000) as u64),
+    }
 }
 
 /// Returns the figures of a machine that starts at zero. It has the usual corner speed, the same
@@ -167,7 +172,7 @@ pub(crate) fn figures_by(
     ensures { result ≡ spec.figures_by steps travel feed acceleration zero }
 {
     Figures {
-        steps,
+        scale: Ratio::of(steps),
         travel,
         feed,
         acceleration,

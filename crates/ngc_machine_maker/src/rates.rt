@@ -18,6 +18,9 @@ const GREATEST_RATE: u128 = 1_000_000;
 
 const GREATEST_TURN: u128 = 1_000_000_000_000;
 
+// In nanometres per second squared.
+const GREATEST_ON_ARCS: u64 = 4_400_000_000_000;
+
 /// The rates of a machine file, in millionths of a step per tick.
 #[derive(Clone, Copy)]
 pub(crate) struct Rates {
@@ -30,37 +33,40 @@ pub(crate) struct Rates {
     pub jump: u32,
 }
 
-fn fastest(speeds: &PerAxis<Speed>) -> u32
+fn fastest(speeds: &PerAxis<Speed>) -> u64
     ensures { result ≡ fastest speeds.now }
 {
     speeds
         .x
-        .micrometres_a_minute
-        .max(speeds.y.micrometres_a_minute)
-        .max(speeds.z.micrometres_a_minute)
+        .nanometres_a_minute
+        .max(speeds.y.nanometres_a_minute)
+        .max(speeds.z.nanometres_a_minute)
 }
 
-/// Returns the least of three accelerations, in thousandths of a millimetre per second squared.
-pub(crate) fn least(accelerations: &PerAxis<Acceleration>) -> u32
+/// Returns the least of three accelerations, in nanometres per second squared.
+pub(crate) fn least(accelerations: &PerAxis<Acceleration>) -> u64
     ensures { result ≡ least accelerations.now }
 {
     accelerations
         .x
-        .micrometres_a_second_squared
-        .min(accelerations.y.micrometres_a_second_squared)
-        .min(accelerations.z.micrometres_a_second_squared)
+        .nanometres_a_second_squared
+        .min(accelerations.y.nanometres_a_second_squared)
+        .min(accelerations.z.nanometres_a_second_squared)
 }
 
 // Returns about two ticks for each step of the fastest axis, in whole thousands.
 fn chosen_ticks(scale: &Scale, feed: &PerAxis<Speed>) -> u32
+    requires { IsScale scale.now }
     ensures value { result ≡ chosen_ticks scale.now feed.now }
     ensures range { IsRate result }
 {
-    let thousands = u64::from(fastest(feed)) * u64::from(scale.steps) / 30_000_000_000_000 + 1;
+    let steps = u128::from(fastest(feed)) * u128::from(scale.steps);
+    let thousands = steps / (30_000 * u128::from(scale.per)) + 1;
     (1_000 * thousands).clamp(10_000, 1_000_000) as u32
 }
 
 fn ticks_of(scale: &Scale, figures: &Figures) -> Result<u32, FigureRefusal>
+    requires { IsScale scale.now }
     ensures value { result ≡ ticks_of scale.now figures.now }
     ensures range { IfOk result IsRate }
 {
@@ -77,17 +83,17 @@ fn rate_of(scale: &Scale, ticks: u32, speed: Speed) -> u128
     ensures value { result ≡ rate_of scale.now ticks speed }
     ensures safe { IsNoFaster scale.now ticks result speed }
 {
-    let amount = u128::from(speed.micrometres_a_minute) * 1_000_000_000;
+    let amount = u128::from(speed.nanometres_a_minute) * 1_000_000;
     scale.steps_in(amount, 60 * u128::from(ticks))
 }
 
-fn change_of(scale: &Scale, ticks: u32, acceleration: u32) -> u128
+fn change_of(scale: &Scale, ticks: u32, acceleration: u64) -> u128
     requires scale { IsScale scale.now }
     requires ticks { IsRate ticks }
     ensures value { result ≡ change_of scale.now ticks acceleration }
     ensures safe { IsNoGreaterAcceleration scale.now ticks result acceleration }
 {
-    let amount = u128::from(acceleration) * 1_000_000_000;
+    let amount = u128::from(acceleration) * 1_000_000;
     scale.steps_in(amount, u128::from(ticks) * u128::from(ticks))
 }
 
@@ -101,13 +107,14 @@ pub(crate) fn diagonal_turns(by_place: bool) -> u128
     if by_place { 1 } else { 2 }
 }
 
-fn turn_of(by_place: bool, scale: &Scale, ticks: u32, acceleration: u32) -> u128
+fn turn_of(by_place: bool, scale: &Scale, ticks: u32, acceleration: u64) -> u128
     requires scale { IsScale scale.now }
     requires ticks { IsRate ticks }
+    requires acceleration { acceleration ≤ 4400000000000 }
     ensures value { result ≡ turn_of by_place scale.now ticks acceleration }
     ensures safe { IsNoHarderOnArcs by_place scale.now ticks result acceleration }
 {
-    let amount = u128::from(acceleration) * 1_000_000_000_000_000;
+    let amount = u128::from(acceleration) * 1_000_000_000_000;
     let turns = diagonal_turns(by_place);
     scale.steps_in(amount, turns * (u128::from(ticks) * u128::from(ticks)))
 }
@@ -201,7 +208,7 @@ fn limited_turn(
     by_place: bool,
     scale: &Scale,
     ticks: u32,
-    acceleration: u32,
+    acceleration: u64,
 ) -> Result<u64, FigureRefusal>
     requires scale { IsScale scale.now }
     requires ticks { IsRate ticks }
@@ -210,6 +217,7 @@ fn limited_turn(
     ensures safe { IfOk result (λ turn.
         IsNoHarderOnArcs by_place scale.now ticks turn acceleration) }
 {
+    let acceleration = acceleration.min(GREATEST_ON_ARCS);
     let turn = turn_of(by_place, scale, ticks, acceleration).min(GREATEST_TURN);
     if turn == 0 {
         return Err(FigureRefusal::LowArcs);
@@ -218,11 +226,11 @@ fn limited_turn(
 }
 
 // Returns the requested acceleration towards the centre of an arc.
-fn arcs_of(figures: &Figures) -> u32
+fn arcs_of(figures: &Figures) -> u64
     ensures { result ≡ arcs_of figures.now }
 {
     match figures.arcs {
-        Some(acceleration) => acceleration.micrometres_a_second_squared,
+        Some(acceleration) => acceleration.nanometres_a_second_squared,
         None => least(&figures.acceleration),
     }
 }

@@ -31,7 +31,7 @@ pub enum Field {
 pub enum FigureRefusal {
     /// The text of an option can't be read.
     Unread(Field),
-    /// The step is not from 500 to 50,000 nm.
+    /// The motor's step is not from 500 to 50,000 nm, or its ratio is over more than 2^40 nm.
     Step,
     /// The ticks per second are not from 1 to 1,000,000.
     Ticks,

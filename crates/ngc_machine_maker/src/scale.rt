@@ -1,46 +1,56 @@
 //! A motor's step.
-ghost use Rattle.std.specs.Prelude.{◌≡◌, ◌<◌, ◌≤◌, ◌^◌, IfOk};
+ghost use Rattle.std.specs.Prelude.{◌≡◌, ◌<◌, ◌≤◌, ◌*◌, ◌^◌, IfOk};
+ghost use Rattle.ngc_machine_maker.specs.Asked.{IsScaleOf};
 ghost use Rattle.ngc_machine_maker.specs.Formulas.{nearest_step, scale_of, steps_in};
 ghost use Rattle.ngc_machine_maker.specs.Ranges.{IsScale};
 ghost use Rattle.ngc_machine_maker.specs.Safe.{IsNoMore};
 
-use crate::figures::StepsPerMillimetre;
+use crate::figures::Ratio;
 use crate::refusal::FigureRefusal;
+
+const GREATEST_LENGTH: u64 = 1_099_511_627_776;
 
 /// A step of the motor and of the file.
 #[derive(Clone, Copy)]
 pub(crate) struct Scale {
-    /// Steps per millimetre, in millionths.
-    pub steps: u32,
+    /// The motor's steps in `per` nanometres.
+    pub steps: u64,
+    pub per: u64,
     /// The file's step, in nanometres.
     pub step: u32,
 }
 
-fn nearest_step(steps: u32) -> u32
-    requires least { 20000000 ≤ steps }
-    requires greatest { steps ≤ 2000000000 }
-    ensures value { result ≡ nearest_step steps }
+fn nearest_step(steps: u64, per: u64) -> u32
+    requires some { 0 < steps }
+    requires bound { per ≤ 2 ^ 40 }
+    requires least { 500 * steps ≤ per }
+    requires greatest { per ≤ 50000 * steps }
+    ensures value { result ≡ nearest_step steps per }
     ensures least { 500 ≤ result }
     ensures greatest { result ≤ 50000 }
 {
-    let doubled = 2 * u64::from(steps);
-    ((2_000_000_000_000 + u64::from(steps)) / doubled) as u32
+    ((2 * per + steps) / (2 * steps)) as u32
 }
 
 impl Scale {
-    /// Returns the step of motors with these steps per millimetre, to the nearest nanometre.
-    pub(crate) fn of(steps: StepsPerMillimetre) -> Result<Scale, FigureRefusal>
-        ensures value { result ≡ scale_of steps }
+    /// Returns the step of motors with this ratio, to the nearest nanometre.
+    pub(crate) fn of(ratio: Ratio) -> Result<Scale, FigureRefusal>
+        ensures value { result ≡ scale_of ratio }
         ensures range { IfOk result IsScale }
-        ensures same { IfOk result (λ scale. scale.steps ≡ steps.millionths) }
+        ensures same { IfOk result (λ scale. IsScaleOf ratio scale) }
     {
-        let steps = steps.millionths;
-        if steps < 20_000_000 || steps > 2_000_000_000 {
+        let steps = ratio.steps;
+        let per = ratio.per;
+        let least = 500 * u128::from(steps);
+        let greatest = 50_000 * u128::from(steps);
+        let length = u128::from(per);
+        if steps == 0 || per > GREATEST_LENGTH || length < least || length > greatest {
             return Err(FigureRefusal::Step);
         }
         Ok(Scale {
             steps,
-            step: nearest_step(steps),
+            per,
+            step: nearest_step(steps, per),
         })
     }
 
@@ -48,13 +58,13 @@ impl Scale {
     // with the file's.
     pub(crate) fn steps_in(&self, amount: u128, divisor: u128) -> u128
         requires scale { IsScale self.now }
-        requires amount { amount < 2 ^ 90 }
+        requires amount { amount < 2 ^ 84 }
         requires some { 0 < divisor }
         requires divisor { divisor ≤ 2000000000000 }
         ensures value { result ≡ steps_in self.now amount divisor }
         ensures safe { IsNoMore self.now result amount divisor }
     {
-        let by_motor = amount * u128::from(self.steps) / (divisor * 1_000_000_000_000);
+        let by_motor = amount * u128::from(self.steps) / (divisor * u128::from(self.per));
         by_motor.min(amount / (divisor * u128::from(self.step)))
     }
 }

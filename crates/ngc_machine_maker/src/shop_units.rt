@@ -12,8 +12,6 @@ use crate::figures::{Figures, PerAxis};
 use crate::numbers::MachineNumbers;
 use crate::rates::diagonal_turns;
 
-const MOTOR_STEPS: u64 = 1_000_000_000_000;
-
 // Returns the number of units in a number, to the nearest, halves upwards.
 fn rounded(number: u128, unit: u128) -> u128
     requires number { number < 2 ^ 120 }
@@ -85,19 +83,21 @@ pub(crate) fn arc_acceleration(numbers: &MachineNumbers) -> u128
 
 /// Returns the motor's step, in thousandths of a nanometre.
 pub(crate) fn motor_step(figures: &Figures) -> u128
-    requires { 0 < figures.now.steps.millionths }
+    requires { 0 < figures.now.scale.steps }
     ensures { result ≡ motor_step figures.now }
 {
-    rounded(1_000_000_000_000_000, u128::from(figures.steps.millionths))
+    let steps = figures.scale.steps;
+    let per = figures.scale.per;
+    rounded(1_000 * u128::from(per), u128::from(steps))
 }
 
 fn file_step(numbers: &MachineNumbers, figures: &Figures) -> u64
     requires { IsScale (scale_in numbers.now figures.now) }
     ensures value { result ≡ file_step numbers.now figures.now }
     ensures some { 0 < result }
-    ensures bound { result ≤ 100000000000000 }
+    ensures bound { result < 2 ^ 56 }
 {
-    u64::from(numbers.step) * u64::from(figures.steps.millionths)
+    u64::from(numbers.step) * figures.scale.steps
 }
 
 /// Returns whether the motor's step is a whole number of nanometres.
@@ -105,7 +105,7 @@ pub(crate) fn is_whole(numbers: &MachineNumbers, figures: &Figures) -> bool
     requires { IsScale (scale_in numbers.now figures.now) }
     ensures { result ≡ is_whole numbers.now figures.now }
 {
-    file_step(numbers, figures) == MOTOR_STEPS
+    file_step(numbers, figures) == figures.scale.per
 }
 
 /// Returns whether the file's step is longer than the motor's.
@@ -113,7 +113,7 @@ pub(crate) fn is_short(numbers: &MachineNumbers, figures: &Figures) -> bool
     requires { IsScale (scale_in numbers.now figures.now) }
     ensures { result ≡ is_short numbers.now figures.now }
 {
-    file_step(numbers, figures) > MOTOR_STEPS
+    file_step(numbers, figures) > figures.scale.per
 }
 
 fn error_over(numbers: &MachineNumbers, figures: &Figures, distance: u64) -> u128
@@ -122,7 +122,7 @@ fn error_over(numbers: &MachineNumbers, figures: &Figures, distance: u64) -> u12
     ensures { result ≡ error_over numbers.now figures.now distance }
 {
     let step = file_step(numbers, figures);
-    let difference = u128::from(step.abs_diff(MOTOR_STEPS));
+    let difference = u128::from(step.abs_diff(figures.scale.per));
     let step = u128::from(step);
     (u128::from(distance) * difference + step - 1) / step
 }

@@ -1,6 +1,7 @@
 -- The step of a motor: a ratio of nanometres and steps. Our own.
-use Rattle.std.specs.Prelude.{ℕ, ◌+◌, ◌*◌, ◌==◌, ◌||◌, ◌&&◌, ◌≤◌, nat_lt, List, length, codes, None, Result, Ok, Err}
-use Rattle.std.specs.Prelude.{if◌then◌else◌, unsigned_abs, Bool}
+use Rattle.std.specs.Prelude.{ℕ, ◌+◌, ◌*◌, ◌==◌, ◌≤◌, List, codes, None, Result, Ok, Err}
+use Rattle.std.specs.Prelude.{if◌then◌else◌, unsigned_abs, Bool, take, drop, nat_eq, ◌<◌}
+use Rattle.std.specs.List.{starts_with}
 use Rattle.std.specs.Str.{bytes_eq}
 use Rattle.ngc_quantities.specs.declared.fault.Cause.{Cause}
 use Rattle.ngc_quantities.specs.declared.fault.Cause.TheVariants as causes
@@ -12,14 +13,13 @@ use Rattle.ngc_quantities.specs.declared.unit.Ending.{Ending}
 use Rattle.ngc_quantities.specs.declared.unit.Ending.TheVariants as endings
 use Rattle.ngc_quantities.specs.declared.unit.Kind.{Kind}
 use Rattle.ngc_quantities.specs.declared.unit.Kind.TheVariants as kinds
-use Rattle.ngc_quantities.specs.declared.written.Wanted.{Wanted}
 use Rattle.ngc_quantities.specs.declared.written.Written.{Written}
 use Rattle.ngc_quantities.specs.declared.written.Whole.{Whole}
-use Rattle.ngc_quantities.specs.Numbers.{and_then, some_size_in}
-use Rattle.ngc_quantities.specs.Quantities.{short_length, not_negative}
-use Rattle.ngc_quantities.specs.Texts.{unblanked, first_word, after_word, has, before, after, after_index}
+use Rattle.ngc_quantities.specs.Numbers.{and_then}
+use Rattle.ngc_quantities.specs.Quantities.{short_length, not_negative, wanted_of}
+use Rattle.ngc_quantities.specs.Texts.{first_word, has, before, after, after_index, mark_index}
 use Rattle.ngc_quantities.specs.Units.{size_of}
-use Rattle.ngc_quantities.specs.Written.{fault, placed, written_in, whole_in, unit_text}
+use Rattle.ngc_quantities.specs.Written.{fault, placed, written_in, whole_in, unit_text, number_column}
 
 -- ---- 80 steps/mm: a step is the unit's length over the number
 
@@ -34,7 +34,7 @@ step_by w =
 
 abbrev pub plain_step : List ℕ → Result Step Fault
 plain_step text =
-    and_then (written_in (record { kind = kinds.Steps; otherwise = None; ending = endings.Nothing }) 0 text) (λ w.
+    and_then (written_in (wanted_of kinds.Steps None endings.Nothing) 0 text) (λ w.
     placed w.column (step_by w))
 
 -- ---- a chain: the angle of a full step, microsteps, what moves per turn, and maybe a gear
@@ -46,42 +46,38 @@ not_zero w =
 -- a part of the chain that is more than zero
 abbrev pub some_of : Kind → Ending → ℕ → List ℕ → Result ℕ Fault
 some_of kind ending at text =
-    and_then (whole_in (record { kind = kind; otherwise = None; ending = ending }) at text) (λ w.
+    and_then (whole_in (wanted_of kind None ending) at text) (λ w.
     and_then (not_negative w) not_zero)
 
--- a gear of 60:24: the motor turns 60 times for 24 turns of the screw or pulley
-abbrev pub gear_number : List ℕ → Result ℕ Cause
-gear_number text =
-    and_then (some_size_in text) (λ n.
-    if (n == 0) || nat_lt 99999 n then Err causes.NoGear else Ok n)
+-- a gear as "24 teeth drive 60 teeth", from column at + 1 on. The word "drive" is at the first d
+abbrev pub drive_index : ℕ → List ℕ → Result ℕ Fault
+drive_index at text =
+    let index = mark_index 100 text in
+    if starts_with nat_eq (drop index text) (codes "drive") then Ok index
+    else fault (number_column at text) causes.NoGear
 
-abbrev pub gear_ratio : List ℕ → Result Gear Cause
-gear_ratio text =
-    and_then (gear_number (before 58 text)) (λ motor.
-    and_then (gear_number (after 58 text)) (λ driven.
-    Ok (record { motor = motor; driven = driven })))
+-- the teeth of the motor's wheel, and those of the wheel that it drives
+unfoldable pub gear_of : ℕ → List ℕ → Result Gear Fault
+gear_of at text =
+    and_then (drive_index at text) (λ index.
+    and_then (some_of kinds.Teeth endings.Nothing at (take index text)) (λ motor.
+    and_then (some_of kinds.Teeth endings.Nothing (at + (index + 5)) (drop (index + 5) text)) (λ driven.
+    Ok (record { motor = motor; driven = driven }))))
 
 pub record IsGear (gear : Gear) : Type 0 where
+  pub some_motor : 0 < gear.motor
   pub motor : gear.motor ≤ 99999
+  pub some_driven : 0 < gear.driven
   pub driven : gear.driven ≤ 99999
-
--- the word "gear", the ratio, blanks
-abbrev pub gear_by : List ℕ → List ℕ → Result Gear Cause
-gear_by word rest =
-    if bytes_eq word (codes "gear") && (length (unblanked (after_word rest)) == 0)
-    then gear_ratio (first_word rest) else Err causes.NoGear
-
-unfoldable pub gear_named : List ℕ → Result Gear Cause
-gear_named text =
-    gear_by (first_word (unblanked text)) (unblanked (after_word (unblanked text)))
 
 -- the gear after the first comma of a text, or none
 abbrev pub gear_in : ℕ → List ℕ → Result Gear Fault
 gear_in at text =
-    if has 44 text then placed (at + after_index text + 1) (gear_named (after 44 text))
+    if has 44 text then gear_of (at + after_index text) (after 44 text)
     else Ok (record { motor = 1; driven = 1 })
 
 pub record IsDrive (drive : Drive) : Type 0 where
+  pub some : 0 < drive.nanometres
   pub nanometres : drive.nanometres ≤ 99999000000000000
   pub gear : IsGear drive.gear
 
@@ -110,12 +106,13 @@ is_belt text = bytes_eq (first_word (unit_text (before 44 text))) (codes "teeth"
 unfoldable pub drive_in : ℕ → List ℕ → Result Drive Fault
 drive_in at text = if is_belt text then belt_in at text else pitch_in at text
 
--- a turn has 360 degrees of 10^9 billionths each
+-- a turn has 360 degrees of 10^9 billionths each. The motor turns 60 times while a wheel of 24 teeth
+-- drives one of 60 teeth 24 times
 abbrev pub chain_of : ℕ → ℕ → Drive → Step
 chain_of angle microsteps drive =
     record {
-      nanometres = drive.nanometres * angle * drive.gear.driven;
-      steps = 360000000000 * microsteps * drive.gear.motor;
+      nanometres = drive.nanometres * angle * drive.gear.motor;
+      steps = 360000000000 * microsteps * drive.gear.driven;
     }
 
 abbrev pub chain_by : ℕ → ℕ → List ℕ → Result Step Fault

@@ -20,16 +20,16 @@ and_then (Ok x) f = f x
 abbrev pub digits_value : List ℕ → ℕ
 digits_value digits = fold (λ n d. 10 * n + (d - 48)) 0 digits
 
--- digits write less than 10^12; no digits write 0
-unfoldable pub size_in : List ℕ → Result ℕ Cause
-size_in text =
+-- the number that a text of digits writes, which is less than 10^12; no digits write 0
+unfoldable pub digits_in : List ℕ → Result ℕ Cause
+digits_in text =
     if not (list_all is_ascii_digit text) then Err causes.NoNumber else (
     if nat_le 1000000000000 (digits_value text) then Err causes.ManyDigits
     else Ok (digits_value text))
 
--- at least one digit
-abbrev pub some_size_in : List ℕ → Result ℕ Cause
-some_size_in text = if length text == 0 then Err causes.NoNumber else size_in text
+-- the same, with at least one digit
+abbrev pub some_digits_in : List ℕ → Result ℕ Cause
+some_digits_in text = if length text == 0 then Err causes.NoNumber else digits_in text
 
 -- ---- decimals
 
@@ -52,8 +52,8 @@ is_decimal text =
 -- a number with n decimals is a ratio over 10^n: 12.34 is 1234 / 100. n is at most 12
 abbrev pub decimal_over : ℕ → List ℕ → Result Ratio Cause
 decimal_over power text =
-    and_then (size_in (whole_digits text)) (λ whole.
-    and_then (size_in (decimals text)) (λ part.
+    and_then (digits_in (whole_digits text)) (λ whole.
+    and_then (digits_in (decimals text)) (λ part.
     Ok (record { top = whole * power + part; bottom = power })))
 
 unfoldable pub decimal_in : List ℕ → Result Ratio Cause
@@ -71,14 +71,14 @@ over top bottom =
 -- 1/8: digits, a slash, digits
 unfoldable pub fraction_in : List ℕ → Result Ratio Cause
 fraction_in text =
-    and_then (some_size_in (before 47 text)) (λ top.
-    and_then (some_size_in (after 47 text)) (λ bottom.
+    and_then (some_digits_in (before 47 text)) (λ top.
+    and_then (some_digits_in (after 47 text)) (λ bottom.
     over top bottom))
 
 -- 1 1/2: the whole number, and the fraction that is added to it
 abbrev pub mixed_in : List ℕ → List ℕ → Result Ratio Cause
 mixed_in first second =
-    and_then (some_size_in first) (λ whole.
+    and_then (some_digits_in first) (λ whole.
     and_then (fraction_in second) (λ part.
     Ok (record { top = whole * part.bottom + part.top; bottom = part.bottom })))
 

@@ -1,6 +1,6 @@
 -- Texts of one quantity. Lengths are in nanometres, speeds in nanometres per minute, accelerations in
 -- nanometres per second squared, turning is in millionths of a turn per minute. Our own.
-use Rattle.std.specs.Prelude.{ℕ, ℤ, pos, unsigned_abs, ◌+◌, nat_lt, int_lt, List, length, Option, None, Result, Ok}
+use Rattle.std.specs.Prelude.{ℕ, ℤ, pos, unsigned_abs, nat_lt, int_lt, List, length, Option, None, Result, Ok}
 use Rattle.std.specs.Prelude.{if◌then◌else◌}
 use Rattle.ngc_quantities.specs.declared.fault.Cause.TheVariants as causes
 use Rattle.ngc_quantities.specs.declared.fault.Fault.{Fault}
@@ -19,36 +19,38 @@ abbrev pub short_length : List ℕ → Result ℕ Fault
 short_length text =
     if nat_lt 256 (length text) then fault 257 causes.LongText else Ok (length text)
 
-abbrev pub a : Kind → Option Unit → Ending → Wanted
-a kind otherwise ending = record { kind = kind; otherwise = otherwise; ending = ending }
-
--- the amount of a kind that a text says, whose first byte is in column at + 1. If it names no unit,
--- the other unit counts
-abbrev pub amount_in : Kind → Option Unit → ℕ → List ℕ → Result Whole Fault
-amount_in kind otherwise at text = whole_in (a kind otherwise endings.Nothing) at text
+-- a kind, the unit that counts if there is none, and what is to follow the unit
+abbrev pub wanted_of : Kind → Option Unit → Ending → Wanted
+wanted_of kind otherwise ending = record { kind = kind; otherwise = otherwise; ending = ending }
 
 abbrev pub not_negative : Whole → Result Whole Fault
 not_negative w = if int_lt w.amount (pos 0) then fault w.column causes.Negative else Ok w
 
--- a kind of which there is none below zero
-abbrev pub size_in : Kind → Option Unit → ℕ → List ℕ → Result Whole Fault
-size_in kind otherwise at text = and_then (amount_in kind otherwise at text) not_negative
+-- a length may be below zero, and no other kind
+abbrev pub signed_as : Kind → Whole → Result Whole Fault
+signed_as kinds.Length w = Ok w
+signed_as _ w = not_negative w
 
-abbrev pub the_size : Whole → Result ℕ Fault
-the_size w = Ok (unsigned_abs w.amount)
+-- the amount of a kind that a text says, whose first byte is in column at + 1. If it names no unit,
+-- the other unit counts
+abbrev pub amount_in : Kind → Option Unit → ℕ → List ℕ → Result Whole Fault
+amount_in kind otherwise at text =
+    and_then (whole_in (wanted_of kind otherwise endings.Nothing) at text) (λ w.
+    signed_as kind w)
 
-abbrev pub one_size : Kind → List ℕ → Result ℕ Fault
-one_size kind text =
+-- the amount of a kind that a whole text says
+abbrev pub amount_of : Kind → List ℕ → Result ℤ Fault
+amount_of kind text =
     and_then (short_length text) (λ _.
-    and_then (size_in kind None 0 text) the_size)
+    and_then (amount_in kind None 0 text) (λ w.
+    Ok w.amount))
 
-abbrev pub the_amount : Whole → Result ℤ Fault
-the_amount w = Ok w.amount
+-- that of a kind of which there is none below zero
+abbrev pub one_size : Kind → List ℕ → Result ℕ Fault
+one_size kind text = and_then (amount_of kind text) (λ amount. Ok (unsigned_abs amount))
 
 abbrev pub length_of : List ℕ → Result ℤ Fault
-length_of text =
-    and_then (short_length text) (λ _.
-    and_then (amount_in kinds.Length None 0 text) the_amount)
+length_of text = amount_of kinds.Length text
 
 abbrev pub speed_of : List ℕ → Result ℕ Fault
 speed_of text = one_size kinds.Speed text

@@ -1,6 +1,6 @@
 -- Two quantities with "to" between them, and three with commas. If an earlier one has no unit, the
 -- unit of the last one counts. Our own.
-use Rattle.std.specs.Prelude.{ℕ, nat_eq, int_lt, ◌+◌, List, length, take, drop, codes, Option, Some, None, Result, Ok}
+use Rattle.std.specs.Prelude.{ℕ, nat_eq, int_lt, ◌+◌, List, take, drop, codes, Some, None, Result, Ok}
 use Rattle.std.specs.Prelude.{if◌then◌else◌}
 use Rattle.std.specs.List.{starts_with}
 use Rattle.ngc_quantities.specs.declared.fault.Cause.TheVariants as causes
@@ -9,10 +9,9 @@ use Rattle.ngc_quantities.specs.declared.range.Place.{Place}
 use Rattle.ngc_quantities.specs.declared.range.Range.{Range}
 use Rattle.ngc_quantities.specs.declared.unit.Kind.{Kind}
 use Rattle.ngc_quantities.specs.declared.unit.Kind.TheVariants as kinds
-use Rattle.ngc_quantities.specs.declared.unit.Unit.{Unit}
 use Rattle.ngc_quantities.specs.declared.written.Whole.{Whole}
 use Rattle.ngc_quantities.specs.Numbers.{and_then}
-use Rattle.ngc_quantities.specs.Quantities.{short_length, amount_in, size_in}
+use Rattle.ngc_quantities.specs.Quantities.{short_length, amount_in}
 use Rattle.ngc_quantities.specs.Texts.{mark_index, after_index, before, after}
 use Rattle.ngc_quantities.specs.Written.{fault}
 
@@ -29,27 +28,23 @@ range_between low high =
     if int_lt high.amount low.amount then fault high.column causes.Reversed
     else Ok (record { low = low.amount; high = high.amount })
 
--- how a part is read: the unit that counts if it has none, the bytes before it, and the part. The
--- high end is read first, for its unit
-abbrev pub range_by : (Option Unit → ℕ → List ℕ → Result Whole Fault) → List ℕ → Result Range Fault
-range_by read text =
+-- the high end is read first, for its unit
+abbrev pub range_of : Kind → List ℕ → Result Range Fault
+range_of kind text =
     and_then (short_length text) (λ _.
     and_then (to_index text) (λ index.
-    and_then (read None (index + 2) (drop (index + 2) text)) (λ high.
-    and_then (read (Some high.unit) 0 (take index text)) (λ low.
+    and_then (amount_in kind None (index + 2) (drop (index + 2) text)) (λ high.
+    and_then (amount_in kind (Some high.unit) 0 (take index text)) (λ low.
     range_between low high))))
 
 abbrev pub length_range_of : List ℕ → Result Range Fault
-length_range_of text = range_by (amount_in kinds.Length) text
-
-abbrev pub size_range : Kind → List ℕ → Result Range Fault
-size_range kind text = range_by (size_in kind) text
+length_range_of text = range_of kinds.Length text
 
 abbrev pub speed_range_of : List ℕ → Result Range Fault
-speed_range_of text = size_range kinds.Speed text
+speed_range_of text = range_of kinds.Speed text
 
 abbrev pub turning_range_of : List ℕ → Result Range Fault
-turning_range_of text = size_range kinds.Turning text
+turning_range_of text = range_of kinds.Turning text
 
 -- ---- places: X, Y and Z
 

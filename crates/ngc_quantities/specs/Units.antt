@@ -1,7 +1,7 @@
 -- The units. A length has the base unit nanometre, a speed nanometre per minute, an acceleration
 -- nanometre per second squared, turning a millionth of a turn per minute, an angle a billionth of a
 -- degree. An inch is 25.4 mm. Our own.
-use Rattle.std.specs.Prelude.{ℕ, List, codes, Bool, find, Option, Some, None, if◌then◌else◌}
+use Rattle.std.specs.Prelude.{ℕ, List, codes, Bool, find, Option}
 use Rattle.std.specs.Prelude.{◌||◌, true, false}
 use Rattle.std.specs.Str.{bytes_eq, str_eq_ignore_ascii_case}
 use Rattle.ngc_quantities.specs.declared.unit.Ending.{Ending}
@@ -101,7 +101,7 @@ third_name_of units.Millimetre = codes "millimeter"
 third_name_of units.Inch = codes "inches"
 third_name_of units.Micrometre = codes "microns"
 third_name_of units.Nanometre = codes "nanometer"
-third_name_of units.MillimetrePerMinute = codes "mm/minute"
+third_name_of units.MillimetrePerMinute = codes "mm/m"
 third_name_of units.MillimetrePerSecond = codes "mm/second"
 third_name_of units.InchPerMinute = codes "inch/min"
 third_name_of units.MillimetrePerSecondSquared = codes "mm/sec2"
@@ -123,8 +123,9 @@ is_meant word unit =
 abbrev pub named : List ℕ → List Unit → Option Unit
 named word units = find (is_named word) units
 
-abbrev pub meant : List ℕ → List Unit → Option Unit
-meant word units = find (is_meant word) units
+-- the unit with this word as a name, in capitals or not
+abbrev pub known : List ℕ → List Unit → Option Unit
+known word units = find (is_meant word) units
 
 -- the word after the unit of a length in a motor's chain
 abbrev pub ending_text : Ending → List ℕ

@@ -8,8 +8,6 @@ use Rattle.std.specs.Str.{bytes_eq}
 use Rattle.ngc_quantities.specs.declared.fault.Cause.{Cause}
 use Rattle.ngc_quantities.specs.declared.fault.Cause.TheVariants as causes
 use Rattle.ngc_quantities.specs.declared.fault.Fault.{Fault}
-use Rattle.ngc_quantities.specs.declared.number.Number.{Number}
-use Rattle.ngc_quantities.specs.declared.number.Ratio.{Ratio}
 use Rattle.ngc_quantities.specs.declared.unit.Ending.{Ending}
 use Rattle.ngc_quantities.specs.declared.unit.Kind.{Kind}
 use Rattle.ngc_quantities.specs.declared.unit.Unit.{Unit}
@@ -19,7 +17,8 @@ use Rattle.ngc_quantities.specs.declared.written.Written.{Written}
 use Rattle.ngc_quantities.specs.declared.written.Whole.{Whole}
 use Rattle.ngc_quantities.specs.Numbers.{and_then, number_in}
 use Rattle.ngc_quantities.specs.Texts.{is_blank, unblanked, first_word, after_word, begins, has}
-use Rattle.ngc_quantities.specs.Units.{units_of, size_of, most_of, is_inch, named, meant, ending_text}
+use Rattle.ngc_quantities.specs.Near.{meant}
+use Rattle.ngc_quantities.specs.Units.{units_of, size_of, most_of, is_inch, named, ending_text}
 
 abbrev pub fault : {T : Type 0} → ℕ → Cause → Result T Fault
 fault column cause = Err (record { column = column; cause = cause })

@@ -29,9 +29,9 @@ fn limited_value(digits: &[u8]) -> u64
 }
 
 /// Returns the number that digits write, which is less than 10^12. No digits write 0.
-#[tactic(auto, unfolding(crate::specs::Numbers::size_in))]
-pub(crate) fn size_in(text: &[u8]) -> Result<u64, Cause>
-    ensures value { result ≡ spec.size_in text.now }
+#[tactic(auto, unfolding(crate::specs::Numbers::digits_in))]
+pub(crate) fn digits_in(text: &[u8]) -> Result<u64, Cause>
+    ensures value { result ≡ spec.digits_in text.now }
     ensures bound { IfOk result (λ n. n < 1000000000000) }
 {
     if !are_digits(text) {
@@ -45,14 +45,14 @@ pub(crate) fn size_in(text: &[u8]) -> Result<u64, Cause>
 }
 
 /// Returns the number that digits write, of which there must be one at least.
-pub(crate) fn some_size_in(text: &[u8]) -> Result<u64, Cause>
-    ensures value { result ≡ spec.some_size_in text.now }
+pub(crate) fn some_digits_in(text: &[u8]) -> Result<u64, Cause>
+    ensures value { result ≡ spec.some_digits_in text.now }
     ensures bound { IfOk result (λ n. n < 1000000000000) }
 {
     if text.is_empty() {
         return Err(Cause::NoNumber);
     }
-    size_in(text)
+    digits_in(text)
 }
 
 /// Returns 10 to a power of at most 12.

@@ -18,7 +18,8 @@ pub enum Cause {
     NoUnit(Kind),
     /// A comma is in place of a point, or there are more parts than wanted.
     Comma,
-    /// The unit isn't known. A unit of the kind is wanted, maybe the one in `meant`.
+    /// The unit isn't known. A unit of the kind is wanted. `meant` is the one that the word means by
+    /// another name, or nearly is.
     UnknownUnit { kind: Kind, meant: Option<Unit> },
     /// The unit is known, but it isn't of this kind.
     OtherKind { kind: Kind, unit: Unit },
@@ -38,7 +39,7 @@ pub enum Cause {
     NoTo,
     /// The high end of a range is below its low end.
     Reversed,
-    /// The last part of a chain is no gear as `gear 60:24`, with numbers from 1 to 99,999.
+    /// The last part of a chain is no gear as `24 teeth drive 60 teeth`.
     NoGear,
 }
 

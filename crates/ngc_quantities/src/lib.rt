@@ -4,6 +4,7 @@
 mod digits;
 mod fault;
 mod motor;
+mod near;
 mod number;
 mod quantity;
 mod range;

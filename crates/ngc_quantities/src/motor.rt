@@ -1,13 +1,12 @@
 //! The step of a motor.
-ghost use Rattle.std.specs.Prelude.{◌≡◌, ◌≤◌, ◌<◌, IfOk, length};
+ghost use Rattle.std.specs.Prelude.{◌≡◌, ◌≤◌, ◌<◌, ◌+◌, IfOk, length};
 ghost use Rattle.ngc_quantities.specs.Motors as spec;
 ghost use Rattle.ngc_quantities.specs.Numbers.{IsRatio};
 ghost use Rattle.ngc_quantities.specs.Units.{most_of};
 
-use crate::digits::some_size_in;
 use crate::fault::{Cause, Fault};
 use crate::quantity::{not_negative, short_length};
-use crate::text::{after_index, has, split_mark, split_word, unblanked};
+use crate::text::{after_index, blank_count, has, mark_index, split_mark, split_word};
 use crate::unit::{Ending, Kind};
 use crate::written::{Wanted, Whole, Written, placed, split_number, whole_in, written_in};
 
@@ -19,7 +18,7 @@ pub struct Step {
     pub steps: u128,
 }
 
-/// A gear: the motor turns `motor` times for `driven` turns of the screw or pulley.
+/// A gear: a wheel of `motor` teeth on the motor drives one of `driven` teeth on the screw or pulley.
 #[derive(Clone, Copy)]
 pub struct Gear {
     pub motor: u64,
@@ -35,7 +34,8 @@ pub struct Drive {
 
 fn step_by(written: &Written) -> Result<Step, Cause>
     requires { IsRatio written.now.number.ratio }
-    ensures { result ≡ spec.step_by written.now }
+    ensures value { result ≡ spec.step_by written.now }
+    ensures above_zero { IfOk result (λ s. (0 < s.nanometres) × (0 < s.steps)) }
 {
     if written.number.negative {
         return Err(Cause::Negative);
@@ -53,7 +53,8 @@ fn step_by(written: &Written) -> Result<Step, Cause>
 // Returns the step of a number of steps per millimetre or inch.
 fn plain_step(text: &[u8]) -> Result<Step, Fault>
     requires { length text.now ≤ 256 }
-    ensures { result ≡ spec.plain_step text.now }
+    ensures value { result ≡ spec.plain_step text.now }
+    ensures above_zero { IfOk result (λ s. (0 < s.nanometres) × (0 < s.steps)) }
 {
     let wanted = Wanted {
         kind: Kind::Steps,
@@ -65,7 +66,8 @@ fn plain_step(text: &[u8]) -> Result<Step, Fault>
 }
 
 fn not_zero(whole: Whole) -> Result<u64, Fault>
-    ensures { result ≡ spec.not_zero whole }
+    ensures value { result ≡ spec.not_zero whole }
+    ensures some { IfOk result (λ n. 0 < n) }
 {
     let size = whole.amount.unsigned_abs();
     if size == 0 {
@@ -82,6 +84,7 @@ fn some_of(kind: Kind, ending: Ending, at: usize, text: &[u8]) -> Result<u64, Fa
     requires at { at ≤ 5000 }
     requires text { length text.now ≤ 256 }
     ensures value { result ≡ spec.some_of kind ending at text.now }
+    ensures some { IfOk result (λ n. 0 < n) }
     ensures bound { IfOk result (λ n. n ≤ most_of kind) }
 {
     let wanted = Wanted {
@@ -94,46 +97,38 @@ fn some_of(kind: Kind, ending: Ending, at: usize, text: &[u8]) -> Result<u64, Fa
     not_zero(whole)
 }
 
-fn gear_number(text: &[u8]) -> Result<u64, Cause>
-    ensures value { result ≡ spec.gear_number text.now }
-    ensures bound { IfOk result (λ n. n ≤ 99999) }
+// Returns the number of bytes before the word "drive".
+fn drive_index(at: usize, text: &[u8]) -> Result<usize, Fault>
+    requires at { at ≤ 5000 }
+    ensures value { result ≡ spec.drive_index at text.now }
+    ensures within { IfOk result (λ n. n + 5 ≤ length text.now) }
 {
-    let number = some_size_in(text)?;
-    if number == 0 || number > 99_999 {
-        return Err(Cause::NoGear);
+    let index = mark_index(b'd', text);
+    if !text[index..].starts_with(b"drive") {
+        return Err(Fault {
+            column: at + blank_count(text) + 1,
+            cause: Cause::NoGear,
+        });
     }
-    Ok(number)
+    Ok(index)
 }
 
-fn gear_ratio(text: &[u8]) -> Result<Gear, Cause>
-    ensures value { result ≡ spec.gear_ratio text.now }
+#[tactic(auto, unfolding(crate::specs::Motors::gear_of))]
+fn gear_of(at: usize, text: &[u8]) -> Result<Gear, Fault>
+    requires at { at ≤ 4500 }
+    requires text { length text.now ≤ 256 }
+    ensures value { result ≡ spec.gear_of at text.now }
     ensures bound { IfOk result spec.IsGear }
 {
-    let (motor, driven) = split_mark(b':', text);
-    let motor = gear_number(motor)?;
-    let driven = gear_number(driven)?;
+    let index = drive_index(at, text)?;
+    let motor = some_of(Kind::Teeth, Ending::Nothing, at, &text[..index])?;
+    let driven = some_of(
+        Kind::Teeth,
+        Ending::Nothing,
+        at + (index + 5),
+        &text[index + 5..],
+    )?;
     Ok(Gear { motor, driven })
-}
-
-fn gear_by(word: &[u8], rest: &[u8]) -> Result<Gear, Cause>
-    ensures value { result ≡ spec.gear_by word.now rest.now }
-    ensures bound { IfOk result spec.IsGear }
-{
-    let (ratio, more) = split_word(rest);
-    if word == b"gear".as_slice() && unblanked(more).is_empty() {
-        gear_ratio(ratio)
-    } else {
-        Err(Cause::NoGear)
-    }
-}
-
-#[tactic(auto, unfolding(crate::specs::Motors::gear_named))]
-fn gear_named(text: &[u8]) -> Result<Gear, Cause>
-    ensures value { result ≡ spec.gear_named text.now }
-    ensures bound { IfOk result spec.IsGear }
-{
-    let (word, rest) = split_word(unblanked(text));
-    gear_by(word, unblanked(rest))
 }
 
 // Returns the gear after the first comma, or none.
@@ -150,8 +145,7 @@ fn gear_in(at: usize, text: &[u8]) -> Result<Gear, Fault>
         });
     }
     let (_, rest) = split_mark(b',', text);
-    let column = at + after_index(text) + 1;
-    placed(column, gear_named(rest))
+    gear_of(at + after_index(text), rest)
 }
 
 fn pitch_in(at: usize, text: &[u8]) -> Result<Drive, Fault>
@@ -170,6 +164,7 @@ fn pitch_in(at: usize, text: &[u8]) -> Result<Drive, Fault>
 }
 
 fn belt_of(teeth: u64, at: usize, text: &[u8]) -> Result<Drive, Fault>
+    requires some { 0 < teeth }
     requires teeth { teeth ≤ 99999 }
     requires at { at ≤ 4000 }
     requires text { length text.now ≤ 256 }
@@ -220,22 +215,28 @@ fn drive_in(at: usize, text: &[u8]) -> Result<Drive, Fault>
 }
 
 fn chain_of(angle: u64, microsteps: u64, drive: &Drive) -> Step
+    requires some_angle { 0 < angle }
     requires angle { angle ≤ 360000000000 }
+    requires some_microsteps { 0 < microsteps }
     requires microsteps { microsteps ≤ 99999 }
     requires drive { spec.IsDrive drive.now }
-    ensures { result ≡ spec.chain_of angle microsteps drive.now }
+    ensures value { result ≡ spec.chain_of angle microsteps drive.now }
+    ensures some_length { 0 < result.nanometres }
+    ensures some_steps { 0 < result.steps }
 {
     Step {
-        nanometres: drive.nanometres * u128::from(angle) * u128::from(drive.gear.driven),
-        steps: 360_000_000_000 * u128::from(microsteps) * u128::from(drive.gear.motor),
+        nanometres: drive.nanometres * u128::from(angle) * u128::from(drive.gear.motor),
+        steps: 360_000_000_000 * u128::from(microsteps) * u128::from(drive.gear.driven),
     }
 }
 
 fn chain_by(angle: u64, at: usize, text: &[u8]) -> Result<Step, Fault>
+    requires some { 0 < angle }
     requires angle { angle ≤ 360000000000 }
     requires at { at ≤ 2000 }
     requires text { length text.now ≤ 256 }
-    ensures { result ≡ spec.chain_by angle at text.now }
+    ensures value { result ≡ spec.chain_by angle at text.now }
+    ensures above_zero { IfOk result (λ s. (0 < s.nanometres) × (0 < s.steps)) }
 {
     let (microsteps, rest) = split_mark(b',', text);
     let microsteps = some_of(Kind::Microsteps, Ending::Nothing, at, microsteps)?;
@@ -245,7 +246,8 @@ fn chain_by(angle: u64, at: usize, text: &[u8]) -> Result<Step, Fault>
 
 fn chain(text: &[u8]) -> Result<Step, Fault>
     requires { length text.now ≤ 256 }
-    ensures { result ≡ spec.chain text.now }
+    ensures value { result ≡ spec.chain text.now }
+    ensures above_zero { IfOk result (λ s. (0 < s.nanometres) × (0 < s.steps)) }
 {
     let (angle, rest) = split_mark(b',', text);
     let angle = some_of(Kind::Angle, Ending::Nothing, 0, angle)?;
@@ -253,9 +255,10 @@ fn chain(text: &[u8]) -> Result<Step, Fault>
 }
 
 /// Returns the step of a motor, as of `80 steps/mm`, `1.8 deg, 16 microsteps, 5 mm pitch` or
-/// `1.8 deg, 16 microsteps, 20 teeth, 2 mm belt, gear 60:24`.
+/// `1.8 deg, 16 microsteps, 20 teeth, 2 mm belt, 24 teeth drive 60 teeth`.
 pub fn motor_of(text: &[u8]) -> Result<Step, Fault>
-    ensures { result ≡ spec.motor_of text.now }
+    ensures value { result ≡ spec.motor_of text.now }
+    ensures above_zero { IfOk result (λ s. (0 < s.nanometres) × (0 < s.steps)) }
 {
     short_length(text)?;
     if has(b',', text) {

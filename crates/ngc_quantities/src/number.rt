@@ -4,7 +4,7 @@ ghost use Rattle.std.specs.List.{prefix_len};
 ghost use Rattle.std.specs.Char.{is_ascii_digit};
 ghost use Rattle.ngc_quantities.specs.Numbers as spec;
 
-use crate::digits::{power_of_ten, size_in, some_size_in};
+use crate::digits::{digits_in, power_of_ten, some_digits_in};
 use crate::fault::Cause;
 use crate::text::{begins, has, split_mark, split_word, unblanked, without_first};
 
@@ -53,8 +53,8 @@ fn decimal_over(power: u64, text: &[u8]) -> Result<Ratio, Cause>
     ensures ratio { IfOk result spec.IsRatio }
 {
     let (whole, rest) = split_whole(text);
-    let whole = size_in(whole)?;
-    let part = size_in(without_first(rest))?;
+    let whole = digits_in(whole)?;
+    let part = digits_in(without_first(rest))?;
     Ok(Ratio {
         top: u128::from(whole) * u128::from(power) + u128::from(part),
         bottom: power,
@@ -98,8 +98,8 @@ fn fraction_in(text: &[u8]) -> Result<Ratio, Cause>
     ensures ratio { IfOk result (λ r. spec.IsRatio r × (r.top < 1000000000000)) }
 {
     let (before, after) = split_mark(b'/', text);
-    let top = some_size_in(before)?;
-    let bottom = some_size_in(after)?;
+    let top = some_digits_in(before)?;
+    let bottom = some_digits_in(after)?;
     over(top, bottom)
 }
 
@@ -107,7 +107,7 @@ fn mixed_in(first: &[u8], second: &[u8]) -> Result<Ratio, Cause>
     ensures value { result ≡ spec.mixed_in first.now second.now }
     ensures ratio { IfOk result spec.IsRatio }
 {
-    let whole = some_size_in(first)?;
+    let whole = some_digits_in(first)?;
     let part = fraction_in(second)?;
     Ok(Ratio {
         top: u128::from(whole) * u128::from(part.bottom) + part.top,

@@ -23,25 +23,6 @@ pub(crate) fn short_length(text: &[u8]) -> Result<usize, Fault>
     Ok(text.len())
 }
 
-/// Returns the amount of a kind that a part of a text says.
-pub(crate) fn amount_in(
-    kind: Kind,
-    otherwise: Option<Unit>,
-    at: usize,
-    text: &[u8],
-) -> Result<Whole, Fault>
-    requires at { at ≤ 5000 }
-    requires text { length text.now ≤ 256 }
-    ensures value { result ≡ spec.amount_in kind otherwise at text.now }
-{
-    let wanted = Wanted {
-        kind,
-        otherwise,
-        ending: Ending::Nothing,
-    };
-    whole_in(&wanted, at, text)
-}
-
 /// Refuses an amount below zero.
 pub(crate) fn not_negative(whole: Whole) -> Result<Whole, Fault>
     ensures { result ≡ spec.not_negative whole }
@@ -55,8 +36,18 @@ pub(crate) fn not_negative(whole: Whole) -> Result<Whole, Fault>
     Ok(whole)
 }
 
-/// Returns the amount, not below zero, of a kind that a part of a text says.
-pub(crate) fn size_in(
+// Refuses an amount below zero unless it is a length.
+fn signed_as(kind: Kind, whole: Whole) -> Result<Whole, Fault>
+    ensures { result ≡ spec.signed_as kind whole }
+{
+    match kind {
+        Kind::Length => Ok(whole),
+        _ => not_negative(whole),
+    }
+}
+
+/// Returns the amount of a kind that a part of a text says.
+pub(crate) fn amount_in(
     kind: Kind,
     otherwise: Option<Unit>,
     at: usize,
@@ -64,27 +55,37 @@ pub(crate) fn size_in(
 ) -> Result<Whole, Fault>
     requires at { at ≤ 5000 }
     requires text { length text.now ≤ 256 }
-    ensures value { result ≡ spec.size_in kind otherwise at text.now }
+    ensures { result ≡ spec.amount_in kind otherwise at text.now }
 {
-    let whole = amount_in(kind, otherwise, at, text)?;
-    not_negative(whole)
+    let wanted = Wanted {
+        kind,
+        otherwise,
+        ending: Ending::Nothing,
+    };
+    let whole = whole_in(&wanted, at, text)?;
+    signed_as(kind, whole)
+}
+
+fn amount_of(kind: Kind, text: &[u8]) -> Result<i64, Fault>
+    ensures { result ≡ spec.amount_of kind text.now }
+{
+    short_length(text)?;
+    let whole = amount_in(kind, None, 0, text)?;
+    Ok(whole.amount)
 }
 
 fn one_size(kind: Kind, text: &[u8]) -> Result<u64, Fault>
     ensures { result ≡ spec.one_size kind text.now }
 {
-    short_length(text)?;
-    let whole = size_in(kind, None, 0, text)?;
-    Ok(whole.amount.unsigned_abs())
+    let amount = amount_of(kind, text)?;
+    Ok(amount.unsigned_abs())
 }
 
 /// Returns a length in nanometres, at most 10^12 in size, as of `12.5 mm`, `-1 1/8 in`, `0.1 um`.
 pub fn length_of(text: &[u8]) -> Result<i64, Fault>
     ensures { result ≡ spec.length_of text.now }
 {
-    short_length(text)?;
-    let whole = amount_in(Kind::Length, None, 0, text)?;
-    Ok(whole.amount)
+    amount_of(Kind::Length, text)
 }
 
 /// Returns a speed in nanometres per minute, at most 10^12, as of `8000 mm/min`.

@@ -3,7 +3,7 @@ ghost use Rattle.std.specs.Prelude.{◌≡◌, ◌+◌, ◌≤◌, length, IfOk}
 ghost use Rattle.ngc_quantities.specs.Ranges as spec;
 
 use crate::fault::{Cause, Fault};
-use crate::quantity::{amount_in, short_length, size_in};
+use crate::quantity::{amount_in, short_length};
 use crate::text::{after_index, mark_index, split_mark};
 use crate::unit::Kind;
 use crate::written::Whole;
@@ -53,39 +53,35 @@ fn range_between(low: &Whole, high: &Whole) -> Result<Range, Fault>
     })
 }
 
+fn range_of(kind: Kind, text: &[u8]) -> Result<Range, Fault>
+    ensures { result ≡ spec.range_of kind text.now }
+{
+    short_length(text)?;
+    let index = to_index(text)?;
+    let high = amount_in(kind, None, index + 2, &text[index + 2..])?;
+    let low = amount_in(kind, Some(high.unit), 0, &text[..index])?;
+    range_between(&low, &high)
+}
+
 /// Returns a range of lengths in nanometres, as of `-5 mm to 300 mm` or `0 to 12 in`.
 pub fn length_range_of(text: &[u8]) -> Result<Range, Fault>
     ensures { result ≡ spec.length_range_of text.now }
 {
-    short_length(text)?;
-    let index = to_index(text)?;
-    let high = amount_in(Kind::Length, None, index + 2, &text[index + 2..])?;
-    let low = amount_in(Kind::Length, Some(high.unit), 0, &text[..index])?;
-    range_between(&low, &high)
-}
-
-fn size_range(kind: Kind, text: &[u8]) -> Result<Range, Fault>
-    ensures { result ≡ spec.size_range kind text.now }
-{
-    short_length(text)?;
-    let index = to_index(text)?;
-    let high = size_in(kind, None, index + 2, &text[index + 2..])?;
-    let low = size_in(kind, Some(high.unit), 0, &text[..index])?;
-    range_between(&low, &high)
+    range_of(Kind::Length, text)
 }
 
 /// Returns a range of speeds in nanometres per minute, as of `100 to 1500 mm/min`.
 pub fn speed_range_of(text: &[u8]) -> Result<Range, Fault>
     ensures { result ≡ spec.speed_range_of text.now }
 {
-    size_range(Kind::Speed, text)
+    range_of(Kind::Speed, text)
 }
 
 /// Returns a range of spindle speeds in millionths of a turn per minute, as of `8000 to 24000 rpm`.
 pub fn turning_range_of(text: &[u8]) -> Result<Range, Fault>
     ensures { result ≡ spec.turning_range_of text.now }
 {
-    size_range(Kind::Turning, text)
+    range_of(Kind::Turning, text)
 }
 
 /// Returns a place in nanometres, X, Y and Z, as of `60, 40, -140 mm`.

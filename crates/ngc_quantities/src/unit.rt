@@ -173,7 +173,7 @@ impl Unit {
             Unit::Inch => b"inches",
             Unit::Micrometre => b"microns",
             Unit::Nanometre => b"nanometer",
-            Unit::MillimetrePerMinute => b"mm/minute",
+            Unit::MillimetrePerMinute => b"mm/m",
             Unit::MillimetrePerSecond => b"mm/second",
             Unit::InchPerMinute => b"inch/min",
             Unit::MillimetrePerSecondSquared => b"mm/sec2",
@@ -241,9 +241,9 @@ pub(crate) fn named(word: &[u8], units: &[Unit]) -> Option<Unit>
     units.iter().copied().find(|unit| is_named(word, *unit))
 }
 
-/// Returns the unit of a table that a word with other capitals, or another name, means.
-pub(crate) fn meant(word: &[u8], units: &[Unit]) -> Option<Unit>
-    ensures { result ≡ spec.meant word.now units.now }
+/// Returns the unit of a table with this word as a name, in capitals or not.
+pub(crate) fn known(word: &[u8], units: &[Unit]) -> Option<Unit>
+    ensures { result ≡ spec.known word.now units.now }
 {
     units.iter().copied().find(|unit| is_meant(word, *unit))
 }

@@ -5,9 +5,10 @@ ghost use Rattle.ngc_quantities.specs.Units.{most_of};
 ghost use Rattle.ngc_quantities.specs.Written as spec;
 
 use crate::fault::{Cause, Fault};
+use crate::near::meant;
 use crate::number::{Number, number_in};
 use crate::text::{begins, blank_count, has, split_word, unblanked};
-use crate::unit::{ALL, Ending, Kind, Unit, meant, named};
+use crate::unit::{ALL, Ending, Kind, Unit, named};
 
 /// What a text is to be.
 #[derive(Clone, Copy)]

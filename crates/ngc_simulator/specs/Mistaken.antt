@@ -9,7 +9,8 @@ use Rattle.ngc_machine_files.specs.declared.fault.FileFault.TheVariants.{Memory}
 use Rattle.ngc_report.specs.Forms.{opening}
 use Rattle.ngc_report.specs.declared.form.Form.{Form}
 use Rattle.ngc_report.specs.declared.form.Form.TheVariants.{Words, Json}
-use Rattle.ngc_setup_sheet.specs.Mistakes.{machine_mistake_text, tools_mistake_text}
+use Rattle.ngc_machine_mistakes.specs.Mistakes.{mistake_text}
+use Rattle.ngc_setup_sheet.specs.Mistakes.{tools_mistake_text}
 use Rattle.ngc_inputs.specs.declared.fault.AnswerFault.{AnswerFault}
 use Rattle.ngc_inputs.specs.declared.fault.AnswerFault.TheVariants as answers
 use Rattle.ngc_inputs.specs.declared.setup.Shop.{Shop}
@@ -36,7 +37,7 @@ OfText form text e known P = (e ≢ Memory) × IfSome known (λ bytes. P (report
 abbrev pub OfMistake : Form → FileBytes → Option (List ℕ) → Option (List ℕ) → AnswerFault →
     (List ℕ → Type 0) → Type 0
 OfMistake form bytes machine tools (answers.Machine e) P =
-    IsSomeAnd machine (λ name. OfText form machine_mistake_text e (bytes (Some name)) P)
+    IsSomeAnd machine (λ name. OfText form (mistake_text name) e (bytes (Some name)) P)
 OfMistake form bytes machine tools (answers.Tools e) P =
     IsSomeAnd tools (λ name. OfText form tools_mistake_text e (bytes (Some name)) P)
 OfMistake form bytes machine tools fault P = ⊥

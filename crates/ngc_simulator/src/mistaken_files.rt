@@ -7,7 +7,8 @@ ghost use Rattle.ngc_text.specs.Written.{AppendsPrefix};
 ghost use Rattle.ngc_machine_files.specs.Faults.{number_of as file_number};
 ghost use Rattle.ngc_machine_files.specs.declared.fault.FileFault.TheVariants.{Memory};
 ghost use Rattle.ngc_report.specs.declared.form.Form.TheVariants.{Words};
-ghost use Rattle.ngc_setup_sheet.specs.Mistakes.{machine_mistake_text, tools_mistake_text};
+ghost use Rattle.ngc_machine_mistakes.specs.Mistakes.{mistake_text};
+ghost use Rattle.ngc_setup_sheet.specs.Mistakes.{tools_mistake_text};
 ghost use Rattle.ngc_inputs.specs.Faults.{FailsByOutput};
 ghost use Rattle.ngc_simulator.specs.Mistaken.{PlacedReportResultIs, ReportResultIs, OfText, ReportsMistake};
 ghost use Rattle.ngc_simulator.specs.Mistaken.{fault_document};
@@ -17,10 +18,11 @@ ghost use Rattle.ngc_inputs.specs.Unread.{setup_input, shop_inputs, unread_by};
 
 use ngc_inputs::{AnswerFault, Files, Shop, bytes_of, read_shop};
 use ngc_machine_files::FileFault;
+use ngc_machine_mistakes::write_mistake;
 use ngc_margins::Changes;
 use ngc_program_report::{opening, write_ending};
 use ngc_report::Form;
-use ngc_setup_sheet::{write_machine_mistake, write_tools_mistake};
+use ngc_setup_sheet::write_tools_mistake;
 use ngc_text::{InputFault, Sink, WriteFault, write_all};
 use std::alloc::Global;
 
@@ -59,7 +61,7 @@ fn report_machine_words<F: Files, W: Sink>(
     output: &mut W,
 ) -> Result<(), AnswerFault>
     ensures tells { ReportsMistake
-        (OfText Words machine_mistake_text fault (F.bytes files.old (Some name.now)))
+        (OfText Words (mistake_text name.now) fault (F.bytes files.old (Some name.now)))
         (W.written output.old) (W.written output.new) result }
     ensures keeps { KeepsFiles (F.bytes files.old) (F.bytes files.new) }
     ensures unread { FailsByInput (SourceFails F.R.remaining F.R.failures) (F.bytes files.old)
@@ -75,7 +77,7 @@ fn report_machine_words<F: Files, W: Sink>(
         Err(InputFault::Device) => return Err(AnswerFault::Input(InputFault::Device)),
         Err(InputFault::Memory | InputFault::TooLong) => return Ok(()),
     };
-    write_machine_mistake(alloc, bytes.as_slice(), fault, output)?;
+    write_mistake(alloc, name, bytes.as_slice(), fault, output)?;
     Ok(())
 }
 
@@ -115,7 +117,7 @@ fn report_machine_mistake<F: Files, W: Sink>(
     output: &mut W,
 ) -> Result<(), AnswerFault>
     ensures tells { ReportsMistake
-        (OfText form machine_mistake_text fault (F.bytes files.old (Some name.now)))
+        (OfText form (mistake_text name.now) fault (F.bytes files.old (Some name.now)))
         (W.written output.old) (W.written output.new) result }
     ensures keeps { KeepsFiles (F.bytes files.old) (F.bytes files.new) }
     ensures unread { FailsByInput (SourceFails F.R.remaining F.R.failures) (F.bytes files.old)

@@ -11,8 +11,8 @@ returns-clause-safe c =
       feed = c.in_ok-axis_rate.ensures.safe;
       corner = c.in_ok-corner.ensures.safe;
       jump = c.jump_of.ensures.safe;
-      x_follows = larger c.args.scale.now change _ (a.x.micrometres_a_second_squared * 1000000000) (ticks * ticks) (omega arith) c.in_ok-change.ensures.safe;
-      y_follows = larger c.args.scale.now change _ (a.y.micrometres_a_second_squared * 1000000000) (ticks * ticks) (omega arith) c.in_ok-change.ensures.safe;
-      z_follows = larger c.args.scale.now change _ (a.z.micrometres_a_second_squared * 1000000000) (ticks * ticks) (omega arith) c.in_ok-change.ensures.safe;
+      x_follows = larger c.args.scale.now change _ (a.x.nanometres_a_second_squared * 1000000) (ticks * ticks) (omega arith) c.in_ok-change.ensures.safe;
+      y_follows = larger c.args.scale.now change _ (a.y.nanometres_a_second_squared * 1000000) (ticks * ticks) (omega arith) c.in_ok-change.ensures.safe;
+      z_follows = larger c.args.scale.now change _ (a.z.nanometres_a_second_squared * 1000000) (ticks * ticks) (omega arith) c.in_ok-change.ensures.safe;
       arcs = rw c.arcs_of.ensures at c.in_ok-turn.ensures.safe;
     }

@@ -1,0 +1,10 @@
+pub mod Words
+pub mod Keys
+pub mod Near
+pub mod Found
+pub mod Reading
+pub mod Kinds
+pub mod Sheets
+pub mod Boxes
+pub mod Fixtures
+pub mod Files

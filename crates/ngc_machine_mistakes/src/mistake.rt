@@ -1,0 +1,148 @@
+//! The mistake of a machine file.
+ghost use Rattle.std.specs.Prelude.{◌≡◌, ◌⊎◌, OnOk, OnErr, option_map};
+ghost use Rattle.std.specs.Io.KnownBytes.{Appends, Keeps};
+ghost use Rattle.toml.specs.View.{view};
+ghost use Rattle.ngc_text.specs.Failures.{CountsFailure};
+ghost use Rattle.ngc_text.specs.Written.{AppendsPrefix};
+ghost use Rattle.ngc_sentences.specs.Saying.{Says};
+ghost use Rattle.ngc_machine_mistakes.specs.Mistakes as spec;
+ghost use Rattle.ngc_written_machines.specs.Machines.{written_machine as machine_of};
+
+use crate::sentence::say_figures;
+use ngc_machine_files::{FileFault, read_tree};
+use ngc_refused_files::write_refusal;
+use ngc_sentences::{Page, Part, say};
+use ngc_setup_sheet::write_machine_mistake;
+use ngc_text::{Sink, WriteFault};
+use ngc_written_machines::{WrittenFault, WrittenRefusal, is_written, written_machine};
+use std::alloc::Global;
+use toml::Value;
+
+fn say_line<W: Sink>(name: &[u8], refusal: WrittenRefusal, page: &mut Page, output: &mut W)
+    ensures { Says (W.written output.old) (W.written output.new)
+        (W.failures output.old) (W.failures output.new) page.old page.new
+        (spec.line_text name.now refusal) }
+{
+    say!(page, output; Part::Text(name), b": ");
+    say_figures(refusal, page, output);
+    say!(page, output; b"\n");
+}
+
+fn write_line<W: Sink>(name: &[u8], refusal: WrittenRefusal, sink: &mut W) -> Result<(), WriteFault>
+    ensures ok { OnOk result
+        (Appends (W.written sink.old) (W.written sink.new) (spec.line_text name.now refusal)) }
+    ensures fault { OnErr result
+        (AppendsPrefix (W.written sink.old) (W.written sink.new) (spec.line_text name.now refusal)) }
+    ensures counts { CountsFailure (W.failures sink.old) (W.failures sink.new) result }
+{
+    let mut page = Page::new();
+    say_line(name, refusal, &mut page, sink);
+    page.finish(sink)
+}
+
+fn write_written<W: Sink>(
+    name: &[u8],
+    bytes: &[u8],
+    refusal: WrittenRefusal,
+    sink: &mut W,
+) -> Result<(), WriteFault>
+    ensures ok { OnOk result (Appends (W.written sink.old) (W.written sink.new)
+        (spec.refusal_text name.now bytes.now refusal)) }
+    ensures fault { OnErr result (AppendsPrefix (W.written sink.old) (W.written sink.new)
+        (spec.refusal_text name.now bytes.now refusal)) }
+    ensures counts { CountsFailure (W.failures sink.old) (W.failures sink.new) result }
+{
+    match refusal {
+        WrittenRefusal::Sheet(refusal) => write_refusal(name, bytes, &refusal, sink),
+        refusal => write_line(name, refusal, sink),
+    }
+}
+
+// Writes the mistake of a file of version 3. If memory is refused, nothing is written.
+fn write_third<W: Sink>(
+    alloc: Global,
+    name: &[u8],
+    bytes: &[u8],
+    tree: &Value,
+    sink: &mut W,
+) -> Result<(), WriteFault>
+    ensures ok { OnOk result (Appends (W.written sink.old) (W.written sink.new)
+        (spec.third_text name.now bytes.now (machine_of (view tree.now)))
+        ⊎ Keeps (W.written sink.old) (W.written sink.new)) }
+    ensures fault { OnErr result (AppendsPrefix (W.written sink.old) (W.written sink.new)
+        (spec.third_text name.now bytes.now (machine_of (view tree.now)))) }
+    ensures counts { CountsFailure (W.failures sink.old) (W.failures sink.new) result }
+{
+    match written_machine(alloc, tree) {
+        Err(WrittenFault::Refused(refusal)) => write_written(name, bytes, refusal, sink),
+        _ => Ok(()),
+    }
+}
+
+// Writes the mistake of a file that is a document.
+fn write_in_tree<W: Sink>(
+    alloc: Global,
+    name: &[u8],
+    bytes: &[u8],
+    tree: &Value,
+    fault: FileFault,
+    sink: &mut W,
+) -> Result<(), WriteFault>
+    ensures ok { OnOk result (Appends (W.written sink.old) (W.written sink.new)
+        (spec.tree_text name.now bytes.now fault (view tree.now))
+        ⊎ Keeps (W.written sink.old) (W.written sink.new)) }
+    ensures fault { OnErr result (AppendsPrefix (W.written sink.old) (W.written sink.new)
+        (spec.tree_text name.now bytes.now fault (view tree.now))) }
+    ensures counts { CountsFailure (W.failures sink.old) (W.failures sink.new) result }
+{
+    if is_written(tree) {
+        write_third(alloc, name, bytes, tree, sink)
+    } else {
+        write_machine_mistake(alloc, bytes, fault, sink)
+    }
+}
+
+fn write_by_tree<W: Sink>(
+    alloc: Global,
+    name: &[u8],
+    bytes: &[u8],
+    tree: &Option<Value>,
+    fault: FileFault,
+    sink: &mut W,
+) -> Result<(), WriteFault>
+    ensures ok { OnOk result (Appends (W.written sink.old) (W.written sink.new)
+        (spec.text_in name.now bytes.now fault (option_map view tree.now))
+        ⊎ Keeps (W.written sink.old) (W.written sink.new)) }
+    ensures fault { OnErr result (AppendsPrefix (W.written sink.old) (W.written sink.new)
+        (spec.text_in name.now bytes.now fault (option_map view tree.now))) }
+    ensures counts { CountsFailure (W.failures sink.old) (W.failures sink.new) result }
+{
+    match tree {
+        Some(tree) => write_in_tree(alloc, name, bytes, tree, fault, sink),
+        None => write_machine_mistake(alloc, bytes, fault, sink),
+    }
+}
+
+/// Writes the first mistake of a machine file that is refused with this fault. In a file of version 3
+/// it begins with the file's name and the line.
+///
+/// If memory is refused, nothing is written. After a fault (902) a prefix of the text is written,
+/// and the sink has counted the failure.
+pub fn write_mistake<W: Sink>(
+    alloc: Global,
+    name: &str,
+    bytes: &[u8],
+    fault: FileFault,
+    sink: &mut W,
+) -> Result<(), WriteFault>
+    ensures ok { OnOk result (Appends (W.written sink.old) (W.written sink.new)
+        (spec.mistake_text name.now bytes.now fault) ⊎ Keeps (W.written sink.old) (W.written sink.new)) }
+    ensures fault { OnErr result (AppendsPrefix (W.written sink.old) (W.written sink.new)
+        (spec.mistake_text name.now bytes.now fault)) }
+    ensures counts { CountsFailure (W.failures sink.old) (W.failures sink.new) result }
+{
+    match read_tree(alloc, bytes) {
+        Ok(tree) => write_by_tree(alloc, name.as_bytes(), bytes, &tree, fault, sink),
+        Err(_) => Ok(()),
+    }
+}

@@ -1,0 +1,2 @@
+-- Lines that are too long to be shown.
+pub mod Unshown

@@ -1,0 +1,4 @@
+pub mod Places
+pub mod Examples
+pub mod Sentences
+pub mod Refusals

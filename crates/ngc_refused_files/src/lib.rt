@@ -1,0 +1,16 @@
+//! Why a machine file of version 3 is refused, in words, with its line.
+//!
+//! ```text
+//! mill.toml:9: axis.x.speed: "8000" has no unit: write it as "8000 mm/min"
+//!   speed = "8000"
+//!                ^
+//! ```
+#![tactic(auto)]
+
+mod example;
+mod lines;
+mod place;
+mod refusal;
+mod sentence;
+
+pub use refusal::write_refusal;

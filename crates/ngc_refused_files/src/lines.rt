@@ -1,0 +1,105 @@
+//! The line of a refusal, and the value on it.
+ghost use Rattle.std.specs.Prelude.{◌≡◌, ◌≤◌, IfSome, length, option_map};
+ghost use Rattle.std.specs.List.{list_all};
+ghost use Rattle.ngc_file_lines.specs.Search.{numbered};
+ghost use Rattle.ngc_file_lines.specs.Values.{placed};
+ghost use Rattle.ngc_refused_files.specs.Refusals as spec;
+
+use crate::place::{Section, table_of, table_with};
+use ngc_file_lines::{FileLine, Value, key_line, token, value_in};
+use ngc_machine_figures::{Key, Wrong};
+
+fn line_in<'a>(bytes: &'a [u8], section: Section, key: &[u8]) -> Option<FileLine<'a>>
+    ensures { option_map numbered result ≡ spec.line_in bytes.now section key.now }
+{
+    key_line(bytes, section.header(), section.headers(), key)
+}
+
+/// Returns the line of a mistake: that of the key, or else that of its table's header.
+pub(crate) fn line_by<'a>(bytes: &'a [u8], key: Key, wrong: &Wrong) -> Option<FileLine<'a>>
+    ensures { option_map numbered result ≡ spec.line_by bytes.now key wrong.now }
+{
+    match wrong {
+        Wrong::Unknown { word, meant: _ } => line_in(bytes, table_of(key), word.as_bytes()),
+        Wrong::NoEnd => line_in(bytes, table_of(key), b""),
+        _ => line_in(bytes, table_with(key), key.name().as_bytes()),
+    }
+}
+
+/// Returns the value of a key on its line.
+pub(crate) fn value_on<'a>(key: Key, line: Option<FileLine<'a>>) -> Option<Value<'a>>
+    ensures { option_map placed result ≡ spec.value_on key (option_map numbered line.entry) }
+{
+    match line {
+        Some(line) => value_in(key.name().as_bytes(), line.text),
+        None => None,
+    }
+}
+
+fn is_plain(byte: u8) -> bool
+    ensures { result ≡ spec.is_plain byte }
+{
+    byte > 31 && byte < 127 && byte != b'\\'
+}
+
+fn are_plain(text: &[u8]) -> bool
+    ensures { result ≡ list_all spec.is_plain text.now }
+{
+    text.iter().all(|byte| is_plain(*byte))
+}
+
+// Returns whether a text has at least one character, and plain ones alone.
+fn is_plain_text(text: &[u8]) -> bool
+    ensures { result ≡ spec.is_plain_text text.now }
+{
+    !text.is_empty() && are_plain(text)
+}
+
+/// Returns the value as it is written, or `the value` if it is long.
+pub(crate) fn subject_of<'a>(value: Option<Value<'a>>) -> &'a [u8]
+    ensures { result.now ≡ spec.subject_of (option_map placed value.entry) }
+{
+    match value {
+        Some(value) => shown_value(token(value.text)),
+        None => b"the value",
+    }
+}
+
+fn shown_value(value: &[u8]) -> &[u8]
+    ensures { result.now ≡ spec.shown_value value.now }
+{
+    if is_plain_text(value) && value.len() <= 20 {
+        value
+    } else {
+        b"the value"
+    }
+}
+
+fn in_text(column: usize, value: &[u8], at: usize) -> Option<usize>
+    ensures { result ≡ spec.in_text column value.now at }
+{
+    if is_plain_text(value) && at <= 257 && column <= 95 {
+        Some(column + at)
+    } else {
+        None
+    }
+}
+
+fn mark_by(value: Value, wrong: &Wrong) -> Option<usize>
+    ensures { result ≡ spec.mark_by value.entry.column value.entry.text.now wrong.now }
+{
+    match wrong {
+        Wrong::Text(fault) => in_text(value.column, token(value.text), fault.column),
+        _ => Some(value.column),
+    }
+}
+
+/// Returns the column of the part at fault, or of the value.
+pub(crate) fn mark_of(value: Option<Value>, wrong: &Wrong) -> Option<usize>
+    ensures { result ≡ spec.mark_of (option_map placed value.entry) wrong.now }
+{
+    match value {
+        Some(value) => mark_by(value, wrong),
+        None => None,
+    }
+}

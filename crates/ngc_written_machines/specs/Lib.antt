@@ -1,0 +1,6 @@
+pub mod Corners
+pub mod Contents
+pub mod Figures
+pub mod Refusals
+pub mod Machines
+pub mod Reading

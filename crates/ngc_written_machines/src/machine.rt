@@ -1,0 +1,121 @@
+//! The machine of a file of version 3.
+ghost use Rattle.std.specs.Prelude.{◌≡◌, IfOk};
+ghost use Rattle.toml.specs.View.{view};
+ghost use Rattle.ngc_machine_files.specs.Machine.{file_of};
+ghost use Rattle.ngc_machine_figures.specs.Files.{values_of as sheet_values};
+ghost use Rattle.ngc_machine_maker.specs.InFile.{AreInFile};
+ghost use Rattle.ngc_motor_scale.specs.Scales.{IsMotorScale};
+ghost use Rattle.ngc_written_machines.specs.Machines as spec;
+
+use crate::contents::contents_of;
+use crate::figures::{figures_of, travel_length};
+use crate::refusal::{WrittenFault, WrittenRefusal};
+use ngc_machine_figures::{
+    AxesSheet, AxisName, AxisSheet, HeadSheet, Sheet, SheetFault, read_sheet,
+};
+use ngc_machine_files::{FileFault, Machine};
+use ngc_machine_maker::{MachineNumbers, numbers_of};
+use ngc_motor_scale::{MotorScale, scale_of};
+use std::alloc::Global;
+use toml::Value;
+
+fn motor_of(name: AxisName, axis: &AxisSheet) -> Result<MotorScale, WrittenRefusal>
+    ensures value { result ≡ spec.motor_of name axis.now }
+    ensures range { IfOk result IsMotorScale }
+{
+    match scale_of(&axis.motor) {
+        Ok(scale) => Ok(scale),
+        Err(refusal) => Err(WrittenRefusal::Motor(name, refusal)),
+    }
+}
+
+fn is_same(a: &MotorScale, b: &MotorScale) -> bool
+    ensures { result ≡ spec.is_same a.now b.now }
+{
+    a.steps == b.steps && a.per == b.per
+}
+
+// Refuses an axis whose motor's step isn't that of X, or differs over the travel from whole
+// nanometres by more than a step.
+fn check_axis(scale: &MotorScale, name: AxisName, axis: &AxisSheet) -> Result<(), WrittenRefusal>
+    requires { IsMotorScale scale.now }
+    ensures { result ≡ spec.checked_axis scale.now name axis.now }
+{
+    let own = motor_of(name, axis)?;
+    if !is_same(scale, &own) {
+        return Err(WrittenRefusal::UnequalMotors(name));
+    }
+    let nanometres = scale.travel_error(u64::from(travel_length(axis.travel)));
+    if nanometres > u64::from(scale.step) {
+        return Err(WrittenRefusal::TravelError {
+            axis: name,
+            nanometres,
+        });
+    }
+    Ok(())
+}
+
+// Returns the motors' scale, which is that of X.
+fn motors_of(axes: &AxesSheet) -> Result<MotorScale, WrittenRefusal>
+    ensures { result ≡ spec.motors_of axes.now }
+{
+    let scale = motor_of(AxisName::X, &axes.x)?;
+    check_axis(&scale, AxisName::X, &axes.x)?;
+    check_axis(&scale, AxisName::Y, &axes.y)?;
+    check_axis(&scale, AxisName::Z, &axes.z)?;
+    Ok(scale)
+}
+
+// Returns the step and the rates of what is written.
+#[tactic(auto, unfolding(crate::specs::Machines::rates_of))]
+fn rates_of(head: &HeadSheet) -> Result<MachineNumbers, WrittenRefusal>
+    ensures value { result ≡ spec.rates_of head.now }
+    ensures range { IfOk result AreInFile }
+{
+    let scale = motors_of(&head.axes)?;
+    match numbers_of(&figures_of(head, &scale)) {
+        Ok(rates) => Ok(rates),
+        Err(refusal) => Err(WrittenRefusal::Figure(refusal)),
+    }
+}
+
+fn fault_by(fault: FileFault) -> WrittenFault
+    ensures { result ≡ spec.fault_by fault }
+{
+    match fault {
+        FileFault::Memory => WrittenFault::Memory,
+        fault => WrittenFault::Refused(WrittenRefusal::Range(fault)),
+    }
+}
+
+fn machine_by(alloc: Global, sheet: &Sheet) -> Result<Machine<Global>, WrittenFault>
+    ensures { spec.WrittenResultIs file_of result (spec.machine_by (sheet_values sheet.now)) }
+{
+    let rates = match rates_of(&sheet.head) {
+        Ok(rates) => rates,
+        Err(refusal) => return Err(WrittenFault::Refused(refusal)),
+    };
+    let contents = match contents_of(alloc, sheet, &rates) {
+        Ok(contents) => contents,
+        Err(_) => return Err(WrittenFault::Memory),
+    };
+    match contents.checked_machine(alloc) {
+        Ok(machine) => Ok(machine),
+        Err(fault) => Err(fault_by(fault)),
+    }
+}
+
+/// Returns the machine that a file of version 3 describes, by the file's tree, or the first mistake
+/// of the file.
+#[tactic(auto, unfolding(crate::specs::Machines::written_machine))]
+pub fn written_machine(alloc: Global, tree: &Value) -> Result<Machine<Global>, WrittenFault>
+    ensures { spec.WrittenResultIs file_of result (spec.written_machine (view tree.now)) }
+{
+    match read_sheet(alloc, tree) {
+        Ok(sheet) => machine_by(alloc, &sheet),
+        Err(SheetFault::Refused(refusal)) => {
+            Err(WrittenFault::Refused(WrittenRefusal::Sheet(refusal)))
+        }
+        Err(SheetFault::Memory) => Err(WrittenFault::Memory),
+    }
+}

@@ -1,0 +1,58 @@
+//! Machine files of every version.
+ghost use Rattle.std.specs.Prelude.{◌≡◌};
+ghost use Rattle.toml.specs.View.{view};
+ghost use Rattle.ngc_machine_files.specs.Machine.{file_of};
+ghost use Rattle.ngc_machine_files.specs.Refusals.{FileResultIs};
+ghost use Rattle.ngc_written_machines.specs.Reading as spec;
+
+use crate::machine::written_machine;
+use crate::refusal::WrittenFault;
+use ngc_machine_files::{FileFault, Machine, read_tree, whole_at};
+use std::alloc::Global;
+use toml::Value;
+
+/// Returns whether a machine file's tree is one of version 3.
+pub fn is_written(tree: &Value) -> bool
+    ensures { result ≡ spec.is_written (view tree.now) }
+{
+    match whole_at(tree, "version") {
+        Some(version) => version == 3,
+        None => false,
+    }
+}
+
+fn file_fault(fault: WrittenFault) -> FileFault
+    ensures { result ≡ spec.file_fault fault }
+{
+    match fault {
+        WrittenFault::Memory => FileFault::Memory,
+        WrittenFault::Refused(refusal) => refusal.fault(),
+    }
+}
+
+fn written_file(alloc: Global, tree: &Value) -> Result<Machine<Global>, FileFault>
+    ensures { FileResultIs file_of result (spec.written_file (view tree.now)) }
+{
+    match written_machine(alloc, tree) {
+        Ok(machine) => Ok(machine),
+        Err(fault) => Err(file_fault(fault)),
+    }
+}
+
+/// Reads a machine file of version 1, 2 or 3.
+///
+/// Returns 269 if the bytes are no document, or a key is unknown, missing, or can't be read.
+/// Otherwise it returns the first of the faults 261 to 267 that holds, or 900 if memory is refused.
+#[tactic(auto, unfolding(crate::specs::Reading::any_machine))]
+pub fn read_machine(alloc: Global, bytes: &[u8]) -> Result<Machine<Global>, FileFault>
+    ensures { FileResultIs file_of result (spec.any_machine bytes.now) }
+{
+    let tree = match read_tree(alloc, bytes) {
+        Ok(tree) => tree,
+        Err(_) => return Err(FileFault::Memory),
+    };
+    match &tree {
+        Some(tree) if is_written(tree) => written_file(alloc, tree),
+        _ => Machine::read(alloc, bytes),
+    }
+}
