@@ -1,6 +1,6 @@
 -- No move of a cycle is dangerous, and a line ends over its last hole.
-use Rattle.std.proofs.Common.{◌≡◌, ℕ, zero, suc, ◌+◌, ◌-◌, ℤ, pos, ◌+ℤ◌, ◌-ℤ◌, ◌≤ℤ◌, Bool, true, false, List, [], ◌∷◌, ◌++◌, inl, inr, refl, ap, sym, ◌∙◌, subst, arith}
-use Rattle.std.specs.Prelude.{unsigned_abs, ◌&&◌, not, if◌then◌else◌}
+use Rattle.std.proofs.Common.{◌≡◌, ℕ, zero, suc, ◌+◌, ◌-◌, ℤ, pos, ◌+ℤ◌, ◌-ℤ◌, ◌≤ℤ◌, ◌<ℤ◌, Bool, true, false, List, [], ◌∷◌, ◌++◌, inl, inr, refl, ap, sym, ◌∙◌, subst, arith}
+use Rattle.std.specs.Prelude.{unsigned_abs, ◌&&◌, not, int_lt, if◌then◌else◌}
 use Rattle.std.specs.List.{flat_map, AllByRecursion}
 use Rattle.std.proofs.lemmas.Bool.{eqb-true}
 use Rattle.std.proofs.lemmas.Int.{ints}
@@ -26,7 +26,7 @@ use Rattle.ngc_dialect_cycles.specs.Levels.{retract_of, bottom_of, clear_of, lev
 use Rattle.ngc_dialect_cycles.specs.Holes.{peck_count, peck_moves, pecks, ending, hole_moves}
 use Rattle.ngc_dialect_cycles.specs.Moves.{rises, arrival, hole, end_of, differ, acts, acting, all_moves}
 use Rattle.ngc_dialect_cycles.specs.Refusals.{bad_peck}
-use Rattle.ngc_dialect_cycles.specs.Laws.{EachFrom, ends_at, IsUpright, IsOver, IsSafe, MovesAreSafe, EndsAtClear}
+use Rattle.ngc_dialect_cycles.specs.Laws.{EachFrom, ends_at, IsUpright, IsOver, IsLevel, IsSafe, MovesAreSafe, EndsAtClear}
 use Rattle.ngc_dialect_cycles.proofs.Sound.{IsSound, sound, pecks as pecks_of}
 
 -- points over a plane
@@ -200,17 +200,20 @@ clears : (mode : RetractMode) (level r : ℤ) → r ≤ℤ clear_at mode level r
 clears retracts.Series level r = grind (arith, ints)
 clears retracts.Retract level r = omega (arith, ints)
 
-greater_left : (x y : ℤ) → x ≤ℤ greater x y
-greater_left x y = grind (arith, ints)
-
-greater_right : (x y : ℤ) → y ≤ℤ greater x y
-greater_right x y = grind (arith, ints)
-
 level_with : (x : ℤ) → x ≤ℤ x
 level_with x = omega (arith, ints)
 
 pub within : (a b c : ℤ) → a ≤ℤ b → b ≤ℤ c → a ≤ℤ c
 within a b c h k = omega (arith, ints)
+
+lower : (a b c : ℤ) → a ≤ℤ b → b <ℤ c → a ≤ℤ c
+lower a b c h k = omega (arith, ints)
+
+less : (a b : ℤ) → int_lt a b ≡ true → a <ℤ b
+less a b h = omega (arith, ints)
+
+not_less : (a b : ℤ) → int_lt a b ≡ false → b ≤ℤ a
+not_less a b h = omega (arith, ints)
 
 -- where hole k may begin
 abbrev Begins : Series → CycleLine → ℕ → Point3 → Type 0
@@ -238,10 +241,32 @@ module _ (s : Series) (l : CycleLine) (h : IsSound s l) where
       let e : height l.plane (at_height l.plane uv w) ≡ w = height_at l.plane uv w in
       let bottom : bottom_of s l ≤ℤ w = within _ _ _ (ordered k).clear over in
       let first : IsOver l.plane (clear_of s l) p (at_height l.plane uv w) = record { high = rw e over; up = rw e up } in (
-        (rw e bottom, inr first),
+        (rw e bottom, inr (inl first)),
         safe_on (site_of s l k) (levels s l) refl (at_height l.plane uv w) (traverse_to (site_of s l k) (retract_of s l) ∷ hole_moves s.kind (site_of s l k)) (place_at l.plane uv w)
             (at_retract (site_of s l k) (ordered k), on_hole (site_of s l k) (ordered k) s.kind h.peck),
       )
+
+  -- from above R, the tool goes level to the first hole
+  go_level : (p : Point3) → retract_of s l <ℤ height l.plane p →
+      EachFrom Safe p (traverse_to (site_of s l 0) (height l.plane p) ∷ traverse_to (site_of s l 0) (retract_of s l) ∷ hole_moves s.kind (site_of s l 0))
+  go_level p above =
+      let uv = hole_place l 0 in
+      let w = height l.plane p in
+      let e : height l.plane (at_height l.plane uv w) ≡ w = height_at l.plane uv w in
+      let bottom : bottom_of s l ≤ℤ w = lower _ _ _ h.order above in
+      let first : IsLevel l.plane (retract_of s l) p (at_height l.plane uv w) = record { high = rw e above; level = sym e } in (
+        (rw e bottom, inr (inr first)),
+        safe_on (site_of s l 0) (levels s l) refl (at_height l.plane uv w) (traverse_to (site_of s l 0) (retract_of s l) ∷ hole_moves s.kind (site_of s l 0)) (place_at l.plane uv w)
+            (at_retract (site_of s l 0) (ordered 0), on_hole (site_of s l 0) (ordered 0) s.kind h.peck),
+      )
+
+  over_clear : retract_of s l ≤ℤ clear_of s l
+  over_clear = clears l.clear s.level (retract_of s l)
+
+  first_go : (b : Bool) → int_lt (retract_of s l) (height l.plane l.place) ≡ b →
+      EachFrom Safe l.place (traverse_to (site_of s l 0) (if b then height l.plane l.place else clear_of s l) ∷ traverse_to (site_of s l 0) (retract_of s l) ∷ hole_moves s.kind (site_of s l 0))
+  first_go true e = go_level l.place (less _ _ e)
+  first_go false e = go_over 0 l.place (clear_of s l) (within _ _ _ (not_less _ _ e) over_clear) (level_with (clear_of s l))
 
   first_hole : (b : Bool) → rises s l ≡ b → EachFrom Safe l.place (hole s l 0)
   first_hole true e =
@@ -249,9 +274,9 @@ module _ (s : Series) (l : CycleLine) (h : IsSound s l) where
       let r = retract_of s l in
       let at : height l.plane (at_height l.plane uv r) ≡ r = height_at l.plane uv r in
       let bottom : bottom_of s l ≤ℤ height l.plane (at_height l.plane uv r) = rw at h.order in
-      let up : height l.plane (at_height l.plane uv r) ≤ℤ greater r (clear_of s l) = rw at (greater_left r (clear_of s l)) in
-      rw e ((bottom, inl (sym (place_at l.plane uv r))), go_over 0 (at_height l.plane uv r) (greater r (clear_of s l)) up (greater_right r (clear_of s l)))
-  first_hole false e = rw e (go_over 0 l.place (greater (height l.plane l.place) (clear_of s l)) (greater_left _ _) (greater_right _ _))
+      let up : height l.plane (at_height l.plane uv r) ≤ℤ clear_of s l = rw at over_clear in
+      rw e ((bottom, inl (sym (place_at l.plane uv r))), go_over 0 (at_height l.plane uv r) (clear_of s l) up (level_with (clear_of s l)))
+  first_hole false e = rw e (first_go (int_lt (retract_of s l) (height l.plane l.place)) refl)
 
   one_hole : (k : ℕ) (p : Point3) → Begins s l k p → EachFrom Safe p (hole s l k)
   one_hole zero p begins = subst (λ q. EachFrom Safe q (hole s l 0)) (sym begins) (first_hole (rises s l) refl)

@@ -1,5 +1,5 @@
 -- What holds of the moves of a line's cycle. Our own.
-use Rattle.std.specs.Prelude.{◌≡◌, ◌-◌, ◌<◌, ℤ, ◌≤ℤ◌, ◌⊎◌, Bool, true, false, List, [], ◌∷◌, Ok}
+use Rattle.std.specs.Prelude.{◌≡◌, ◌-◌, ◌<◌, ℤ, ◌≤ℤ◌, ◌<ℤ◌, ◌⊎◌, Bool, true, false, List, [], ◌∷◌, Ok}
 use Rattle.ngc_fixed_length.specs.Places.{in_plane, height, at_height}
 use Rattle.ngc_fixed_length.specs.declared.modes.Plane.{Plane}
 use Rattle.ngc_fixed_length.specs.declared.points.Point3.{Point3}
@@ -36,10 +36,16 @@ pub record IsOver (plane : Plane) (clear : ℤ) (p q : Point3) : Type 0 where
   pub high : clear ≤ℤ height plane q
   pub up : height plane p ≤ℤ height plane q
 
--- no motion ends below the bottom; a feed is upright; a traverse is upright or goes over the holes
+-- level, above R
+pub record IsLevel (plane : Plane) (retract : ℤ) (p q : Point3) : Type 0 where
+  pub high : retract <ℤ height plane q
+  pub level : height plane p ≡ height plane q
+
+-- no motion ends below the bottom; a feed is upright; a traverse is upright, goes over the holes, or
+-- is level above R
 abbrev pub IsSafe : Plane → Levels → Point3 → CycleMove → Type 0
 IsSafe plane v p (Traverse q) =
-    (v.bottom ≤ℤ height plane q) × (IsUpright plane p q ⊎ IsOver plane v.clear p q)
+    (v.bottom ≤ℤ height plane q) × (IsUpright plane p q ⊎ (IsOver plane v.clear p q ⊎ IsLevel plane v.retract p q))
 IsSafe plane v p (Feed q) = (v.bottom ≤ℤ height plane q) × IsUpright plane p q
 IsSafe plane v p (Dwell t) = Unit {0}
 IsSafe plane v p StopSpindle = Unit {0}

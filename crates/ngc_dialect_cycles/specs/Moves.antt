@@ -3,7 +3,7 @@ use Rattle.std.specs.Prelude.{ℕ, zero, suc, ℤ, int_lt, Bool, true, not, ◌&
 use Rattle.std.specs.Prelude.{Option, Some, None, ◌≡◌, if◌then◌else◌}
 use Rattle.std.specs.List.{flat_map}
 use Rattle.ngc_fixed_length.specs.Places.{in_plane, height, at_height}
-use Rattle.ngc_fixed_length.specs.Signed.{greater, same}
+use Rattle.ngc_fixed_length.specs.Signed.{same}
 use Rattle.ngc_fixed_length.specs.declared.points.Point3.{Point3}
 use Rattle.ngc_canned_cycles.specs.declared.cycle.CycleMove.{CycleMove}
 use Rattle.ngc_canned_cycles.specs.declared.cycle.CycleMove.TheVariants.{Traverse, Feed, Dwell}
@@ -25,13 +25,13 @@ rise s l zero =
     else []
 rise s l (suc k) = []
 
--- the height in front of the first hole
-abbrev pub height_before : Series → CycleLine → ℤ
-height_before s l = if rises s l then retract_of s l else height l.plane l.place
+-- the tool stands above R, and doesn't go to R first
+abbrev pub stays : Series → CycleLine → Bool
+stays s l = not (rises s l) && int_lt (retract_of s l) (height l.plane l.place)
 
--- the height at which the tool goes to hole k
+-- the height at which the tool goes to hole k: to the first one its own, if it stays there
 abbrev pub arrival_height : Series → CycleLine → ℕ → ℤ
-arrival_height s l zero = greater (height_before s l) (clear_of s l)
+arrival_height s l zero = if stays s l then height l.plane l.place else clear_of s l
 arrival_height s l (suc k) = clear_of s l
 
 abbrev pub arrival : Series → CycleLine → ℕ → List CycleMove

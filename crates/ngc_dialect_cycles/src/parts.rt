@@ -4,7 +4,7 @@ ghost use Rattle.ngc_fixed_length.specs.Places.{in_plane, at_height};
 ghost use Rattle.ngc_canned_cycles.specs.Holes.{traverse_to, feed_to, peck_depth as depth_of};
 ghost use Rattle.ngc_dialect_cycles.specs.Levels.{retract_of, site_of};
 ghost use Rattle.ngc_dialect_cycles.specs.Holes.{peck_moves, ending as ending_moves};
-ghost use Rattle.ngc_dialect_cycles.specs.Moves.{rises, arrival_height, arrival as arrival_moves};
+ghost use Rattle.ngc_dialect_cycles.specs.Moves.{rises, stays, arrival_height, arrival as arrival_moves};
 ghost use Rattle.ngc_dialect_cycles.specs.Walk.{IsPlan};
 
 use crate::heights::{higher, is_below, length, sum, times};
@@ -125,17 +125,23 @@ impl Plan {
         CycleMove::Traverse(place.at_height(plane, self.levels.retract))
     }
 
+    // Returns whether the tool stands above R, and doesn't go to R first.
+    fn stays(&self) -> bool
+        requires { IsPlan self.now }
+        ensures { result ≡ stays self.now.series self.now.line }
+    {
+        !self.rises() && is_below(self.levels.retract, self.line.place.height(self.line.plane))
+    }
+
     // Returns the height at which the tool goes to a hole.
     fn arrival_height(&self, hole: u32) -> Nm
         requires { IsPlan self.now }
         ensures { result ≡ arrival_height self.now.series self.now.line hole }
     {
-        if hole > 0 {
-            self.levels.clear
-        } else if self.rises() {
-            higher(self.levels.retract, self.levels.clear)
+        if hole == 0 && self.stays() {
+            self.line.place.height(self.line.plane)
         } else {
-            higher(self.line.place.height(self.line.plane), self.levels.clear)
+            self.levels.clear
         }
     }
 

@@ -65,13 +65,13 @@ abbrev pub or_no_system : Option System → Result System Fault
 or_no_system (Some system) = Ok system
 or_no_system None = Err (about_letter causes.NoSuchSystem bytes.P)
 
--- P of G10: 0 is the system in force, as is no P in LinuxCNC's and Grbl's language
+-- P of G10: 0 or no P is the system in force in LinuxCNC's and Grbl's language
 abbrev pub system_named : Known → List Code → Option ℤ → Result System Fault
 system_named k line None =
     if counts_turns k.dialect then Ok (system_after k line)
     else Err (about_code causes.WordMissing (G 100))
 system_named k line (Some p) =
-    if is_zero p then Ok (system_after k line)
+    if is_zero p && counts_turns k.dialect then Ok (system_after k line)
     else or_no_system (system_numbered (unsigned_abs p / MILLION))
 
 -- ---- lengths from the current place

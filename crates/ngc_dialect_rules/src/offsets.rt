@@ -82,7 +82,7 @@ fn system_named(known: &Known, line: &[Code], p: Option<Value>) -> Result<System
             }
         }
         Some(p) => {
-            if p.millionths() == 0 {
+            if p.millionths() == 0 && counts_turns(known.dialect) {
                 return Ok(system_after(known, line));
             }
             match system_numbered(p.millionths().unsigned_abs() / 1_000_000) {
