@@ -22,14 +22,14 @@ pub(crate) fn hostile(rt: &HostRuntime) -> io::Result<()> {
         digits.push(b'7')?;
     }
     let digits = digits.as_slice();
-    tell(rt, b"5\0mm", "2: unknown unit of length, meant nothing")?;
+    tell(rt, b"5\0mm", "2: unknown unit of length, meant mm")?;
     tell(rt, b"\xff mm", "1: no number")?;
     tell(
         rt,
         b"5 m\xc2\xb5",
         "3: unknown unit of length, meant nothing",
     )?;
-    tell(rt, b"5\nmm", "2: unknown unit of length, meant nothing")?;
+    tell(rt, b"5\nmm", "2: unknown unit of length, meant mm")?;
     tell(rt, b"", "1: no number")?;
     tell(rt, digits, "257: long text")?;
     tell(rt, prefix(digits, 256), "1: many digits")?;
