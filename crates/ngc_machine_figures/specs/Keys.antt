@@ -4,6 +4,7 @@ use Rattle.ngc_machine_figures.specs.declared.key.AxisName.{AxisName}
 use Rattle.ngc_machine_figures.specs.declared.key.AxisName.TheVariants.{X, Y, Z}
 use Rattle.ngc_machine_figures.specs.declared.key.Key.{Key}
 use Rattle.ngc_machine_figures.specs.declared.key.Key.TheVariants as keys
+use Rattle.ngc_machine_figures.specs.ToolKeys as tools
 
 abbrev pub axis_name : AxisName → List ℕ
 axis_name X = codes "x"
@@ -27,6 +28,8 @@ system_name n =
 abbrev pub name_of : Key → List ℕ
 name_of keys.File = codes ""
 name_of keys.Version = codes "version"
+name_of keys.Machine = codes "machine"
+name_of keys.Tools = codes "tools"
 name_of keys.Dialect = codes "dialect"
 name_of keys.Changer = codes "changer"
 name_of keys.Ticks = codes "ticks"
@@ -61,6 +64,7 @@ name_of keys.StockIn = codes "in"
 name_of keys.StockFrom = codes "from"
 name_of keys.StockTo = codes "to"
 name_of keys.StockSize = codes "size"
+name_of (keys.Tool key) = tools.name_of key
 
 -- ---- the keys of tables whose place in the file counts
 

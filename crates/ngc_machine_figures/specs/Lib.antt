@@ -1,4 +1,5 @@
 pub mod Words
+pub mod ToolKeys
 pub mod Keys
 pub mod Near
 pub mod Found

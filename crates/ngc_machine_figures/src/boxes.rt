@@ -15,7 +15,7 @@ const MOST: i64 = 4_000_000_000;
 
 /// The keys of a box, and the table that has them.
 #[derive(Clone, Copy)]
-pub(crate) struct BoxKeys {
+pub struct BoxKeys {
     pub table: Key,
     pub from: Key,
     pub to: Key,
@@ -96,7 +96,7 @@ fn end_of(
 
 /// Reads the corners of a box.
 #[tactic(auto, unfolding(crate::specs::Boxes::corners_of))]
-pub(crate) fn corners_of(keys: &BoxKeys, table: &Value) -> Result<BoxSheet, FileRefusal>
+pub fn corners_of(keys: &BoxKeys, table: &Value) -> Result<BoxSheet, FileRefusal>
     ensures value { result ≡ spec.corners_of keys.now (view table.now) }
     ensures near { IfOk result spec.AreNear }
 {

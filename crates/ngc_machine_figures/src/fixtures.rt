@@ -17,7 +17,8 @@ use ngc_quantities::Place;
 use std::alloc::{AllocError, Global};
 use toml::Value;
 
-fn fixture_box(number: u16) -> BoxKeys
+/// Returns the keys of a fixture's box.
+pub fn fixture_box(number: u16) -> BoxKeys
     ensures { result ≡ spec.fixture_box number }
 {
     BoxKeys {

@@ -48,7 +48,7 @@ fn known_in(key: Key, keys: &[Key], table: &Table) -> Result<(), FileRefusal>
 
 /// Refuses a value that isn't a table, or that has an unknown key.
 #[tactic(auto, unfolding(crate::specs::Found::only_known))]
-pub(crate) fn only_known(key: Key, keys: &[Key], value: &Value) -> Result<(), FileRefusal>
+pub fn only_known(key: Key, keys: &[Key], value: &Value) -> Result<(), FileRefusal>
     ensures { result ≡ spec.only_known key keys.now (view value.now) }
 {
     match value.as_table() {

@@ -12,7 +12,8 @@ use crate::sheet::{ControlSheet, HeadSheet, PlaceSheet};
 use crate::written::optional;
 use toml::Value;
 
-fn third(value: &Value) -> Result<(), FileRefusal>
+/// Refuses a version that isn't 3.
+pub fn third(value: &Value) -> Result<(), FileRefusal>
     ensures { result ≡ spec.third (view value.now) }
 {
     match value.as_integer() {

@@ -1,6 +1,8 @@
-//! The keys of a machine file.
+//! The keys of machine files and of tool tables.
 ghost use Rattle.std.specs.Prelude.{◌≡◌};
 ghost use Rattle.ngc_machine_figures.specs.Keys as spec;
+
+use crate::tool_key::ToolKey;
 
 /// An axis of the machine.
 #[derive(Clone, Copy)]
@@ -10,12 +12,16 @@ pub enum AxisName {
     Z,
 }
 
-/// A key of a machine file, or one of its tables. Fixtures are counted from 0.
+/// A key of a machine file or of a tool table, or one of their tables. Fixtures are counted from 0.
 #[derive(Clone, Copy)]
 pub enum Key {
     /// The file itself.
     File,
     Version,
+    /// The path of a machine file, in a job file.
+    Machine,
+    /// The path of a tool table, in a job file.
+    Tools,
     Dialect,
     Changer,
     Ticks,
@@ -57,10 +63,12 @@ pub enum Key {
     StockFrom,
     StockTo,
     StockSize,
+    /// A key of a tool table.
+    Tool(ToolKey),
 }
 
 /// Returns the name of a coordinate system, which is empty for a number other than 1 to 9.
-pub(crate) fn system_name(system: u8) -> &'static str
+pub fn system_name(system: u8) -> &'static str
     ensures { result.now ≡ spec.system_name system }
 {
     match system {
@@ -98,6 +106,8 @@ impl Key {
         match self {
             Key::File => "",
             Key::Version => "version",
+            Key::Machine => "machine",
+            Key::Tools => "tools",
             Key::Dialect => "dialect",
             Key::Changer => "changer",
             Key::Ticks => "ticks",
@@ -127,6 +137,7 @@ impl Key {
             Key::FixtureTo(_) | Key::StockTo => "to",
             Key::FixtureSize(_) | Key::StockSize => "size",
             Key::Stock => "stock",
+            Key::Tool(key) => key.name(),
         }
     }
 }
@@ -191,7 +202,7 @@ pub(crate) fn axis_keys(axis: AxisName) -> [Key; 4]
 }
 
 /// Returns the keys of a fixture's table.
-pub(crate) fn fixture_keys(number: u16) -> [Key; 5]
+pub fn fixture_keys(number: u16) -> [Key; 5]
     ensures { result ≡ spec.fixture_keys number }
 {
     [

@@ -47,7 +47,7 @@ fn origins_of(table: &Value) -> Result<[Option<Place>; 9], FileRefusal>
 
 /// Reads the origins of a file.
 #[tactic(auto, unfolding(crate::specs::Sheets::origins_at))]
-pub(crate) fn origins_at(tree: &Value) -> Result<[Option<Place>; 9], FileRefusal>
+pub fn origins_at(tree: &Value) -> Result<[Option<Place>; 9], FileRefusal>
     ensures { result ≡ spec.origins_at (view tree.now) }
 {
     match tree.get("origin") {

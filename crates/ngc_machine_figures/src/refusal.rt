@@ -1,7 +1,8 @@
-//! Why a machine file is refused.
+//! Why a machine file or a tool table is refused.
 
 use crate::key::Key;
 use crate::key_word::KeyWord;
+use crate::tool_key::ToolWrong;
 use ngc_quantities::Fault;
 
 /// What a text with a unit says.
@@ -47,6 +48,8 @@ pub enum Wrong {
     NoWhole { low: u32, high: u32 },
     /// The value isn't `straight` or `free`.
     NoRapids,
+    /// The value isn't a text of at least one character, without control characters.
+    NoPath,
     /// The value isn't a text of 1 to 40 printable ASCII characters.
     NoName,
     /// The value isn't the name of a coordinate system, `G54` to `G59.3`.
@@ -57,13 +60,17 @@ pub enum Wrong {
     NoArray,
     /// There are more than 256 fixtures.
     ManyFixtures,
+    /// A job file has more than 16 fixtures.
+    ManyClamps,
     /// A box has neither `to` nor `size`. The refusal's key is that of its table.
     NoEnd,
     /// A box has `to` and `size`. The refusal's key is that of `size`.
     TwoEnds,
+    /// What only a tool table may have wrong.
+    Tool(ToolWrong),
 }
 
-/// The first mistake of a machine file, and the key that it is about.
+/// The first mistake of a file, and the key that it is about.
 #[derive(Clone, Copy)]
 pub struct FileRefusal {
     pub key: Key,

@@ -29,7 +29,7 @@ fn stock_of(table: &Value) -> Result<StockSheet, FileRefusal>
 
 /// Reads the block of material of a file, if it has one.
 #[tactic(auto, unfolding(crate::specs::Boxes::stock_at))]
-pub(crate) fn stock_at(tree: &Value) -> Result<Option<StockSheet>, FileRefusal>
+pub fn stock_at(tree: &Value) -> Result<Option<StockSheet>, FileRefusal>
     ensures { result ≡ spec.stock_at (view tree.now) }
 {
     match tree.get("stock") {

@@ -10,7 +10,7 @@ use ngc_quantities::Fault;
 use toml::Value;
 
 /// What the value of a key may say.
-pub(crate) trait Written: Copy {
+pub trait Written: Copy {
     ghost use Rattle.ngc_machine_figures.specs.declared.key.Key.{Key};
     ghost use Rattle.ngc_machine_figures.specs.declared.refusal.FileRefusal.{FileRefusal};
 
@@ -23,7 +23,7 @@ pub(crate) trait Written: Copy {
 
 /// Reads a key that must be there.
 #[tactic(auto, unfolding(crate::specs::Reading::required))]
-pub(crate) fn required<T: Written>(key: Key, table: &Value) -> Result<T, FileRefusal>
+pub fn required<T: Written>(key: Key, table: &Value) -> Result<T, FileRefusal>
     ensures { result ≡ spec.required T.reading key (view table.now) }
 {
     match table.get(key.name()) {
@@ -37,7 +37,7 @@ pub(crate) fn required<T: Written>(key: Key, table: &Value) -> Result<T, FileRef
 
 /// Reads a key that may be missing.
 #[tactic(auto, unfolding(crate::specs::Reading::optional))]
-pub(crate) fn optional<T: Written>(key: Key, table: &Value) -> Result<Option<T>, FileRefusal>
+pub fn optional<T: Written>(key: Key, table: &Value) -> Result<Option<T>, FileRefusal>
     ensures { result ≡ spec.optional T.reading key (view table.now) }
 {
     match table.get(key.name()) {

@@ -27,6 +27,7 @@ pub use machine_contents::{
 pub use name::Name;
 pub use part_length::PartLength;
 pub use parts::{Part, Parts};
+pub use tool_contents::{PartEntry, ToolContents, ToolEntry};
 pub use tools::{Tool, Tools};
 pub use tree::{
     coordinates, coordinates_at, dialect_at, has_only, is_one_of, name_at, rapids_at, read_tree,

@@ -1,6 +1,6 @@
-ghost use Rattle.std.specs.Prelude.{◌≡◌, IfOk, IsOk, option_map};
+ghost use Rattle.std.specs.Prelude.{◌≡◌, IfOk, IsOk, Some, option_map};
 ghost use Rattle.ngc_machine_files.specs.Tools.{tools_of};
-ghost use Rattle.ngc_machine_files.specs.ToolText.{tool_table, values_in, values_of};
+ghost use Rattle.ngc_machine_files.specs.ToolText.{checked_table, tool_table, values_in, values_of};
 ghost use Rattle.toml.specs.Errors.{IsBlank};
 ghost use Rattle.ngc_machine_files.specs.Refusals.{FileResultIs};
 
@@ -17,6 +17,20 @@ fn read_contents(alloc: Global, bytes: &[u8]) -> Result<Option<ToolContents>, Al
     match read_tree(alloc, bytes)? {
         Some(tree) => ToolContents::read(alloc, &tree),
         None => Ok(None),
+    }
+}
+
+impl ToolContents {
+    /// Makes the tools of these values.
+    ///
+    /// Returns 261 for a version other than 1 and 2. Otherwise it returns 268 for a number or a name
+    /// out of range, a tool's number that occurs twice or more than 1,000 tools, and 900 if memory is
+    /// refused.
+    pub fn checked_tools(&self, alloc: Global) -> Result<Tools<Global>, FileFault>
+        ensures { FileResultIs tools_of result (checked_table (Some (values_of self.now))) }
+    {
+        self.check()?;
+        self.tools(alloc).map_err(|_| FileFault::Memory)
     }
 }
 
@@ -37,7 +51,6 @@ impl Tools<Global> {
             Ok(None) => return Err(FileFault::Document),
             Err(_) => return Err(FileFault::Memory),
         };
-        contents.check()?;
-        contents.tools(alloc).map_err(|_| FileFault::Memory)
+        contents.checked_tools(alloc)
     }
 }

@@ -2,6 +2,8 @@
 use Rattle.std.specs.Prelude.{ℕ, List, codes}
 use Rattle.ngc_machine_figures.specs.declared.key.Key.{Key}
 use Rattle.ngc_machine_figures.specs.declared.key.Key.TheVariants as keys
+use Rattle.ngc_machine_figures.specs.declared.tool_key.ToolKey.{ToolKey}
+use Rattle.ngc_machine_figures.specs.declared.tool_key.ToolKey.TheVariants as tools
 use Rattle.ngc_quantities.specs.declared.fault.Cause.{Cause}
 use Rattle.ngc_quantities.specs.declared.fault.Cause.TheVariants as causes
 use Rattle.ngc_quantities.specs.declared.unit.Ending.{Ending}
@@ -10,6 +12,17 @@ use Rattle.ngc_quantities.specs.declared.unit.Kind.{Kind}
 use Rattle.ngc_quantities.specs.declared.unit.Kind.TheVariants as kinds
 use Rattle.ngc_refused_files.specs.declared.example.Sample.{Sample}
 use Rattle.ngc_refused_files.specs.declared.example.Sample.TheVariants as samples
+
+abbrev pub tool_sample : ToolKey → Sample
+tool_sample (tools.Diameter n) = samples.Diameter
+tool_sample (tools.Shank n) = samples.Diameter
+tool_sample (tools.Length n) = samples.Reach
+tool_sample (tools.Stickout n) = samples.Reach
+tool_sample (tools.Offset n) = samples.Reach
+tool_sample (tools.Flute n) = samples.Flute
+tool_sample (tools.PartDiameter n part) = samples.HolderDiameter
+tool_sample (tools.PartLength n part) = samples.HolderLength
+tool_sample _ = samples.Other
 
 -- what the text of a key says
 abbrev pub sample_of : Key → Sample
@@ -32,6 +45,7 @@ sample_of (keys.FixtureSize n) = samples.Place
 sample_of keys.StockFrom = samples.Place
 sample_of keys.StockTo = samples.Place
 sample_of keys.StockSize = samples.Place
+sample_of (keys.Tool key) = tool_sample key
 sample_of _ = samples.Other
 
 abbrev pub sample_text : Sample → List ℕ
@@ -42,6 +56,11 @@ sample_text samples.Motor = codes "\"80 steps/mm\""
 sample_text samples.Chain = codes "\"1.8 deg, 8 microsteps, 5 mm pitch\""
 sample_text samples.Range = codes "\"0 mm to 300 mm\""
 sample_text samples.Place = codes "\"60, 40, -140 mm\""
+sample_text samples.Diameter = codes "\"6 mm\""
+sample_text samples.Reach = codes "\"45 mm\""
+sample_text samples.Flute = codes "\"18 mm\""
+sample_text samples.HolderDiameter = codes "\"25 mm\""
+sample_text samples.HolderLength = codes "\"30 mm\""
 sample_text samples.Other = codes "a text with a unit"
 
 -- of the text of a motor only a chain has parts of another kind than steps

@@ -1,4 +1,4 @@
--- What is printed of a refused machine file: where, what is wrong, what to write, and the line. Our own.
+-- What is printed of a refused machine file or tool table: where, what is wrong, what to write, and the line. Our own.
 use Rattle.std.specs.Prelude.{ℕ, ◌+◌, nat_lt, nat_le, ◌==◌, ◌&&◌, Bool, not, List, [], ◌++◌, length, take, replicate}
 use Rattle.std.specs.Prelude.{codes, decimal, Option, Some, None, if◌then◌else◌}
 use Rattle.std.specs.List.{list_all}
@@ -8,22 +8,32 @@ use Rattle.ngc_file_lines.specs.Values.{value_in, token}
 use Rattle.ngc_machine_figures.specs.Keys.{name_of}
 use Rattle.ngc_machine_figures.specs.Words.{bytes_of}
 use Rattle.ngc_machine_figures.specs.declared.key.Key.{Key}
+use Rattle.ngc_machine_figures.specs.declared.key_word.KeyWord.{KeyWord}
 use Rattle.ngc_machine_figures.specs.declared.refusal.FileRefusal.{FileRefusal}
 use Rattle.ngc_machine_figures.specs.declared.refusal.Wrong.{Wrong}
 use Rattle.ngc_machine_figures.specs.declared.refusal.Wrong.TheVariants as wrongs
-use Rattle.ngc_refused_files.specs.Places.{table_with, table_of, header_text, headers, place_text}
+use Rattle.ngc_refused_files.specs.Places.{table_with, table_of, header_text, headers, place_text, line_word}
 use Rattle.ngc_refused_files.specs.Sentences.{wrong_text}
 use Rattle.ngc_refused_files.specs.declared.place.Section.{Section}
+use Rattle.ngc_refused_files.specs.declared.place.Section.TheVariants as sections
 
 -- ---- the line: that of the key, or else that of its table's header
 
 abbrev pub line_in : List ℕ → Section → List ℕ → Option (ℕ × List ℕ)
 line_in bytes section key = key_line (header_text section) (headers section) key bytes
 
+-- the line of an unknown key of a table
+abbrev pub unknown_in : List ℕ → Key → KeyWord → Section → Option (ℕ × List ℕ)
+unknown_in bytes table word (sections.Part n part) = line_in bytes (sections.Part n part) (line_word table)
+unknown_in bytes table word section = line_in bytes section (bytes_of word)
+
+abbrev pub unknown_line : List ℕ → Key → KeyWord → Option (ℕ × List ℕ)
+unknown_line bytes table word = unknown_in bytes table word (table_of table)
+
 abbrev pub line_by : List ℕ → Key → Wrong → Option (ℕ × List ℕ)
-line_by bytes key (wrongs.Unknown word meant) = line_in bytes (table_of key) (bytes_of word)
+line_by bytes key (wrongs.Unknown word meant) = unknown_line bytes key word
 line_by bytes key wrongs.NoEnd = line_in bytes (table_of key) []
-line_by bytes key wrong = line_in bytes (table_with key) (name_of key)
+line_by bytes key wrong = line_in bytes (table_with key) (line_word key)
 
 -- ---- the value on it
 

@@ -1,4 +1,4 @@
--- What is wrong in a machine file, and what to write. Our own.
+-- What is wrong in a machine file or a tool table, and what to write. Our own.
 use Rattle.std.specs.Prelude.{ℕ, ℤ, List, [], ◌++◌, codes, decimal, Option, Some, None}
 use Rattle.std.specs.Fmt.{signed_decimal}
 use Rattle.ngc_text.specs.Shown.{shown_text}
@@ -15,6 +15,9 @@ use Rattle.ngc_machine_figures.specs.declared.key.Key.{Key}
 use Rattle.ngc_machine_figures.specs.declared.key.Key.TheVariants as keys
 use Rattle.ngc_machine_figures.specs.declared.refusal.Wrong.{Wrong}
 use Rattle.ngc_machine_figures.specs.declared.refusal.Wrong.TheVariants as wrongs
+use Rattle.ngc_machine_figures.specs.declared.tool_key.ToolKey.TheVariants as tool_keys
+use Rattle.ngc_machine_figures.specs.declared.tool_key.ToolWrong.{ToolWrong}
+use Rattle.ngc_machine_figures.specs.declared.tool_key.ToolWrong.TheVariants as tools
 use Rattle.ngc_refused_files.specs.Examples.{sample_of, sample_text, example, remedy}
 use Rattle.ngc_refused_files.specs.Places.{table_of, header_text}
 use Rattle.ngc_refused_files.specs.declared.example.Sample.{Sample}
@@ -67,6 +70,11 @@ base_unit samples.Speed = codes " nm/min"
 base_unit samples.Acceleration = codes " nm/s2"
 base_unit samples.Range = codes " nm"
 base_unit samples.Place = codes " nm"
+base_unit samples.Diameter = codes " nm"
+base_unit samples.Reach = codes " nm"
+base_unit samples.Flute = codes " nm"
+base_unit samples.HolderDiameter = codes " nm"
+base_unit samples.HolderLength = codes " nm"
 base_unit _ = codes ""
 
 unfoldable pub no_unit : List ℕ → List ℕ → List ℕ
@@ -119,14 +127,36 @@ other_text wrongs.NoRapids = codes " isn't a kind of traverse: write \"straight\
 other_text wrongs.NoSystem = codes " isn't a coordinate system: write one of \"G54\" to \"G59.3\""
 other_text _ = codes ""
 
+-- the whole sentence on what only a tool table may have wrong
+abbrev pub tool_text : ToolWrong → List ℕ
+tool_text tools.NoTools = codes "it isn't a list: write [[tool]] above the keys of each tool"
+tool_text tools.NoHolder = codes "it isn't a list: write [{ diameter = \"25 mm\", length = \"30 mm\" }]"
+tool_text tools.NoPart = codes "it isn't a table: write { diameter = \"25 mm\", length = \"30 mm\" }"
+tool_text tools.NoLength = codes "length and stickout are missing: write length = \"45 mm\""
+tool_text tools.LoneShank = codes "it needs flute, above which it begins: write flute = \"18 mm\""
+tool_text tools.ManyTools = codes "there are more than 1000 tools: remove some"
+tool_text tools.Number = codes "a tool's number is from 1 to 9999: write one of them"
+tool_text tools.NumberTwice = codes "a later tool has this number too: give each tool a number of its own"
+tool_text tools.Size = codes "it isn't above 0 mm and at most 1000 mm: change it"
+tool_text tools.Offset = codes "the offset is over 1000 mm: write at most 1000 mm either way"
+tool_text tools.ShortTool = codes "the holder is as long or longer: write the length from spindle nose to tip"
+tool_text tools.LongTool = codes "stickout and holder are over 1000 mm together: write shorter ones"
+tool_text tools.UnequalHolder = codes "with the holder it isn't the length: change it, or remove it"
+tool_text tools.UnequalLength = codes "it isn't the length: describe the rest of it with the key holder"
+tool_text tools.LongFlute = codes "it is longer than what sticks out of the holder: write a shorter one"
+tool_text tools.ManyParts = codes "cutter, shank and holder have over four parts: join parts of the holder"
+
 -- the whole sentence where it has no subject and no example
 abbrev pub whole_text : Wrong → List ℕ
 whole_text wrongs.Far = codes "a length is over 4000 mm: write at most 4000 mm either way"
 whole_text wrongs.NoName = codes "it isn't a name: write 1 to 40 printable ASCII characters in quotation marks"
 whole_text wrongs.NoArray = codes "it isn't a list: write [[fixture]] above the keys of each fixture"
 whole_text wrongs.ManyFixtures = codes "there are more than 256 fixtures: remove some"
+whole_text wrongs.ManyClamps = codes "there are more than 16 fixtures: move some to the machine file"
+whole_text wrongs.NoPath = codes "it isn't a path: write it in quotation marks, as \"../mill.toml\""
 whole_text wrongs.NoEnd = codes "the box has no end: write to or size, as size = \"60, 40, 20 mm\""
 whole_text wrongs.TwoEnds = codes "the box has to and size: remove one of them"
+whole_text (wrongs.Tool wrong) = tool_text wrong
 whole_text _ = codes ""
 
 unfoldable pub range_text : List ℕ → ℕ → ℕ → List ℕ
@@ -146,6 +176,7 @@ lacking key = codes "the key is missing: write "
 abbrev pub table_example : Key → List ℕ
 table_example keys.Axes = codes "[axis.x], [axis.y] and [axis.z]"
 table_example keys.Version = codes "version = 3"
+table_example (keys.Tool (tool_keys.Number n)) = codes "number = 2"
 table_example (keys.Axis axis) = header_text (table_of (keys.Axis axis))
 table_example key = name_of key
 

@@ -2,7 +2,7 @@
 ghost use Rattle.std.specs.Prelude.{◌≡◌};
 ghost use Rattle.ngc_refused_files.specs.Examples as spec;
 
-use ngc_machine_figures::Key;
+use ngc_machine_figures::{Key, ToolKey};
 use ngc_quantities::{Cause, Ending, Kind};
 
 /// What the text of a key says.
@@ -16,8 +16,31 @@ pub(crate) enum Sample {
     Chain,
     Range,
     Place,
+    /// The diameter of a tool.
+    Diameter,
+    /// The length of a tool.
+    Reach,
+    /// The length of a tool that cuts.
+    Flute,
+    /// The diameter of a holder.
+    HolderDiameter,
+    /// The length of a part of a holder.
+    HolderLength,
     /// No length, speed or the like.
     Other,
+}
+
+fn tool_sample(key: ToolKey) -> Sample
+    ensures { result ≡ spec.tool_sample key }
+{
+    match key {
+        ToolKey::Diameter(_) | ToolKey::Shank(_) => Sample::Diameter,
+        ToolKey::Length(_) | ToolKey::Stickout(_) | ToolKey::Offset(_) => Sample::Reach,
+        ToolKey::Flute(_) => Sample::Flute,
+        ToolKey::PartDiameter { .. } => Sample::HolderDiameter,
+        ToolKey::PartLength { .. } => Sample::HolderLength,
+        _ => Sample::Other,
+    }
 }
 
 /// Returns what the text of a key says.
@@ -33,6 +56,7 @@ pub(crate) fn sample_of(key: Key) -> Sample
         Key::Start | Key::Home28 | Key::Home30 | Key::Origin(_) => Sample::Place,
         Key::FixtureFrom(_) | Key::FixtureTo(_) | Key::FixtureSize(_) => Sample::Place,
         Key::StockFrom | Key::StockTo | Key::StockSize => Sample::Place,
+        Key::Tool(key) => tool_sample(key),
         _ => Sample::Other,
     }
 }
@@ -50,6 +74,11 @@ impl Sample {
             Sample::Chain => b"\"1.8 deg, 8 microsteps, 5 mm pitch\"",
             Sample::Range => b"\"0 mm to 300 mm\"",
             Sample::Place => b"\"60, 40, -140 mm\"",
+            Sample::Diameter => b"\"6 mm\"",
+            Sample::Reach => b"\"45 mm\"",
+            Sample::Flute => b"\"18 mm\"",
+            Sample::HolderDiameter => b"\"25 mm\"",
+            Sample::HolderLength => b"\"30 mm\"",
             Sample::Other => b"a text with a unit",
         }
     }

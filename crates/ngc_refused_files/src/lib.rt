@@ -1,4 +1,4 @@
-//! Why a machine file of version 3 is refused, in words, with its line.
+//! Why a machine file or a tool table of version 3 is refused, in words, with its line.
 //!
 //! ```text
 //! mill.toml:9: axis.x.speed: "8000" has no unit: write it as "8000 mm/min"

@@ -5,9 +5,9 @@ ghost use Rattle.ngc_file_lines.specs.Search.{numbered};
 ghost use Rattle.ngc_file_lines.specs.Values.{placed};
 ghost use Rattle.ngc_refused_files.specs.Refusals as spec;
 
-use crate::place::{Section, table_of, table_with};
+use crate::place::{Section, line_word, table_of, table_with};
 use ngc_file_lines::{FileLine, Value, key_line, token, value_in};
-use ngc_machine_figures::{Key, Wrong};
+use ngc_machine_figures::{Key, KeyWord, Wrong};
 
 fn line_in<'a>(bytes: &'a [u8], section: Section, key: &[u8]) -> Option<FileLine<'a>>
     ensures { option_map numbered result ≡ spec.line_in bytes.now section key.now }
@@ -15,14 +15,26 @@ fn line_in<'a>(bytes: &'a [u8], section: Section, key: &[u8]) -> Option<FileLine
     key_line(bytes, section.header(), section.headers(), key)
 }
 
+// Returns the line of an unknown key of a table.
+fn unknown_line<'a>(bytes: &'a [u8], table: Key, word: &KeyWord) -> Option<FileLine<'a>>
+    ensures { option_map numbered result ≡ spec.unknown_line bytes.now table word.now }
+{
+    match table_of(table) {
+        Section::Part { tool, part } => {
+            line_in(bytes, Section::Part { tool, part }, line_word(table))
+        }
+        section => line_in(bytes, section, word.as_bytes()),
+    }
+}
+
 /// Returns the line of a mistake: that of the key, or else that of its table's header.
 pub(crate) fn line_by<'a>(bytes: &'a [u8], key: Key, wrong: &Wrong) -> Option<FileLine<'a>>
     ensures { option_map numbered result ≡ spec.line_by bytes.now key wrong.now }
 {
     match wrong {
-        Wrong::Unknown { word, meant: _ } => line_in(bytes, table_of(key), word.as_bytes()),
+        Wrong::Unknown { word, meant: _ } => unknown_line(bytes, key, word),
         Wrong::NoEnd => line_in(bytes, table_of(key), b""),
-        _ => line_in(bytes, table_with(key), key.name().as_bytes()),
+        _ => line_in(bytes, table_with(key), line_word(key)),
     }
 }
 

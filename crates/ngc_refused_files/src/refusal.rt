@@ -97,7 +97,7 @@ fn say_all<W: Sink>(
     say_line(line, mark_of(value, &refusal.wrong), page, output);
 }
 
-/// Writes why a machine file is refused: the file's name, the number of the line, the key, what is
+/// Writes why a file is refused: the file's name, the number of the line, the key, what is
 /// wrong and what to write. Below it are the line, if it has at most 94 bytes, and a mark at the part
 /// at fault.
 ///

@@ -7,7 +7,7 @@ ghost use Rattle.ngc_refused_files.specs.Sentences as spec;
 
 use crate::example::{Sample, example, remedy, sample_of};
 use crate::place::table_of;
-use ngc_machine_figures::{Key, Wrong};
+use ngc_machine_figures::{Key, ToolKey, ToolWrong, Wrong};
 use ngc_quantities::{Cause, Ending, Kind, Unit};
 use ngc_sentences::{Page, Part, say};
 use ngc_text::{Sink, shown_bytes};
@@ -70,6 +70,8 @@ fn base_unit(sample: Sample) -> &'static [u8]
 {
     match sample {
         Sample::Length | Sample::Range | Sample::Place => b" nm",
+        Sample::Diameter | Sample::Reach | Sample::Flute => b" nm",
+        Sample::HolderDiameter | Sample::HolderLength => b" nm",
         Sample::Speed => b" nm/min",
         Sample::Acceleration => b" nm/s2",
         _ => b"",
@@ -213,6 +215,36 @@ fn other_text(wrong: &Wrong) -> &'static [u8]
     }
 }
 
+fn tool_text(wrong: ToolWrong) -> &'static [u8]
+    ensures { result.now ≡ spec.tool_text wrong }
+{
+    match wrong {
+        ToolWrong::NoTools => b"it isn't a list: write [[tool]] above the keys of each tool",
+        ToolWrong::NoHolder =>
+            b"it isn't a list: write [{ diameter = \"25 mm\", length = \"30 mm\" }]",
+        ToolWrong::NoPart =>
+            b"it isn't a table: write { diameter = \"25 mm\", length = \"30 mm\" }",
+        ToolWrong::NoLength => b"length and stickout are missing: write length = \"45 mm\"",
+        ToolWrong::LoneShank => b"it needs flute, above which it begins: write flute = \"18 mm\"",
+        ToolWrong::ManyTools => b"there are more than 1000 tools: remove some",
+        ToolWrong::Number => b"a tool's number is from 1 to 9999: write one of them",
+        ToolWrong::NumberTwice =>
+            b"a later tool has this number too: give each tool a number of its own",
+        ToolWrong::Size => b"it isn't above 0 mm and at most 1000 mm: change it",
+        ToolWrong::Offset => b"the offset is over 1000 mm: write at most 1000 mm either way",
+        ToolWrong::ShortTool =>
+            b"the holder is as long or longer: write the length from spindle nose to tip",
+        ToolWrong::LongTool => b"stickout and holder are over 1000 mm together: write shorter ones",
+        ToolWrong::UnequalHolder => b"with the holder it isn't the length: change it, or remove it",
+        ToolWrong::UnequalLength =>
+            b"it isn't the length: describe the rest of it with the key holder",
+        ToolWrong::LongFlute =>
+            b"it is longer than what sticks out of the holder: write a shorter one",
+        ToolWrong::ManyParts =>
+            b"cutter, shank and holder have over four parts: join parts of the holder",
+    }
+}
+
 fn whole_text(wrong: &Wrong) -> &'static [u8]
     ensures { result.now ≡ spec.whole_text wrong.now }
 {
@@ -222,8 +254,11 @@ fn whole_text(wrong: &Wrong) -> &'static [u8]
             b"it isn't a name: write 1 to 40 printable ASCII characters in quotation marks",
         Wrong::NoArray => b"it isn't a list: write [[fixture]] above the keys of each fixture",
         Wrong::ManyFixtures => b"there are more than 256 fixtures: remove some",
+        Wrong::ManyClamps => b"there are more than 16 fixtures: move some to the machine file",
+        Wrong::NoPath => b"it isn't a path: write it in quotation marks, as \"../mill.toml\"",
         Wrong::NoEnd => b"the box has no end: write to or size, as size = \"60, 40, 20 mm\"",
         Wrong::TwoEnds => b"the box has to and size: remove one of them",
+        Wrong::Tool(wrong) => tool_text(*wrong),
         _ => b"",
     }
 }
@@ -252,6 +287,7 @@ fn table_example(key: Key) -> &'static [u8]
     match key {
         Key::Axes => b"[axis.x], [axis.y] and [axis.z]",
         Key::Version => b"version = 3",
+        Key::Tool(ToolKey::Number(_)) => b"number = 2",
         Key::Axis(_) => table_of(key).header(),
         _ => key.name().as_bytes(),
     }

@@ -1,0 +1,20 @@
+-- The names of the keys of a tool table. Our own.
+use Rattle.std.specs.Prelude.{ℕ, List, codes}
+use Rattle.ngc_machine_figures.specs.declared.tool_key.ToolKey.{ToolKey}
+use Rattle.ngc_machine_figures.specs.declared.tool_key.ToolKey.TheVariants as keys
+
+abbrev pub name_of : ToolKey → List ℕ
+name_of keys.Tools = codes "tool"
+name_of (keys.Tool n) = codes "tool"
+name_of (keys.Number n) = codes "number"
+name_of (keys.Name n) = codes "name"
+name_of (keys.Diameter n) = codes "diameter"
+name_of (keys.Length n) = codes "length"
+name_of (keys.Stickout n) = codes "stickout"
+name_of (keys.Flute n) = codes "flute"
+name_of (keys.Shank n) = codes "shank"
+name_of (keys.Offset n) = codes "offset"
+name_of (keys.Holder n) = codes "holder"
+name_of (keys.Part n part) = codes "holder"
+name_of (keys.PartDiameter n part) = codes "diameter"
+name_of (keys.PartLength n part) = codes "length"

@@ -1,0 +1,38 @@
+-- The mistake of a tool table of any version, in words. Our own.
+use Rattle.std.specs.Prelude.{ℕ, List, [], ◌++◌, codes, Option, Some, None, Result, Ok, Err}
+use Rattle.std.specs.Prelude.{if◌then◌else◌}
+use Rattle.toml.specs.Data.{Data}
+use Rattle.ngc_machine_files.specs.Tree.{tree_of}
+use Rattle.ngc_machine_files.specs.declared.fault.FileFault.{FileFault}
+use Rattle.ngc_machine_files.specs.declared.tools.Tool.{Tool}
+use Rattle.ngc_refused_files.specs.Refusals as keys
+use Rattle.ngc_setup_sheet.specs.Mistakes.{tools_mistake_text}
+use Rattle.ngc_written_tools.specs.Reading.{written_tools, is_written}
+use Rattle.ngc_written_tools.specs.declared.refusal.ToolsRefusal.{ToolsRefusal}
+use Rattle.ngc_written_tools.specs.declared.refusal.ToolsRefusal.TheVariants as refusals
+
+unfoldable pub range_text : List ℕ → List ℕ
+range_text name = name ++ codes ": a number is out of its range\n"
+
+-- a key that is unknown or missing, can't be read or doesn't fit another one, with its line, or else a
+-- number that is out of its range
+abbrev pub refusal_text : List ℕ → List ℕ → ToolsRefusal → List ℕ
+refusal_text name bytes (refusals.Key refusal) = keys.refusal_text name bytes refusal
+refusal_text name bytes (refusals.Range fault) = range_text name
+
+abbrev pub third_text : List ℕ → List ℕ → Result (List Tool) ToolsRefusal → List ℕ
+third_text name bytes (Ok tools) = []
+third_text name bytes (Err refusal) = refusal_text name bytes refusal
+
+abbrev pub tree_text : List ℕ → List ℕ → FileFault → Data → List ℕ
+tree_text name bytes fault tree =
+    if is_written tree then third_text name bytes (written_tools tree)
+    else tools_mistake_text bytes fault
+
+abbrev pub text_in : List ℕ → List ℕ → FileFault → Option Data → List ℕ
+text_in name bytes fault None = tools_mistake_text bytes fault
+text_in name bytes fault (Some tree) = tree_text name bytes fault tree
+
+-- the first mistake of a table with this name that is refused with this fault
+abbrev pub mistake_text : List ℕ → List ℕ → FileFault → List ℕ
+mistake_text name bytes fault = text_in name bytes fault (tree_of bytes)

@@ -1,0 +1,111 @@
+//! The mistake of a tool table.
+ghost use Rattle.std.specs.Prelude.{◌≡◌, ◌⊎◌, OnOk, OnErr, option_map};
+ghost use Rattle.std.specs.Io.KnownBytes.{Appends, Keeps};
+ghost use Rattle.toml.specs.Errors.{IsBlank};
+ghost use Rattle.toml.specs.View.{view};
+ghost use Rattle.ngc_text.specs.Failures.{CountsFailure};
+ghost use Rattle.ngc_text.specs.Written.{AppendsPrefix};
+ghost use Rattle.ngc_sentences.specs.Saying.{Says};
+ghost use Rattle.ngc_tool_mistakes.specs.Mistakes as spec;
+ghost use Rattle.ngc_written_tools.specs.Reading.{written_tools as tools_of};
+
+use ngc_machine_files::{FileFault, read_tree};
+use ngc_refused_files::write_refusal;
+use ngc_sentences::{Page, Part, say};
+use ngc_setup_sheet::write_tools_mistake;
+use ngc_text::{Sink, WriteFault};
+use ngc_written_tools::{ToolsFault, ToolsRefusal, is_written, written_tools};
+use std::alloc::Global;
+use toml::Value;
+
+#[tactic(auto, unfolding(crate::specs::Mistakes::range_text))]
+fn say_range<W: Sink>(name: &[u8], page: &mut Page, output: &mut W)
+    ensures { Says (W.written output.old) (W.written output.new)
+        (W.failures output.old) (W.failures output.new) page.old page.new
+        (spec.range_text name.now) }
+{
+    say!(page, output; Part::Text(name), b": a number is out of its range\n");
+}
+
+fn write_range<W: Sink>(name: &[u8], sink: &mut W) -> Result<(), WriteFault>
+    ensures ok { OnOk result
+        (Appends (W.written sink.old) (W.written sink.new) (spec.range_text name.now)) }
+    ensures fault { OnErr result
+        (AppendsPrefix (W.written sink.old) (W.written sink.new) (spec.range_text name.now)) }
+    ensures counts { CountsFailure (W.failures sink.old) (W.failures sink.new) result }
+{
+    let mut page = Page::new();
+    say_range(name, &mut page, sink);
+    page.finish(sink)
+}
+
+fn write_written<W: Sink>(
+    name: &[u8],
+    bytes: &[u8],
+    refusal: ToolsRefusal,
+    sink: &mut W,
+) -> Result<(), WriteFault>
+    ensures ok { OnOk result (Appends (W.written sink.old) (W.written sink.new)
+        (spec.refusal_text name.now bytes.now refusal)) }
+    ensures fault { OnErr result (AppendsPrefix (W.written sink.old) (W.written sink.new)
+        (spec.refusal_text name.now bytes.now refusal)) }
+    ensures counts { CountsFailure (W.failures sink.old) (W.failures sink.new) result }
+{
+    match refusal {
+        ToolsRefusal::Key(refusal) => write_refusal(name, bytes, &refusal, sink),
+        ToolsRefusal::Range(_) => write_range(name, sink),
+    }
+}
+
+// Writes the mistake of a table of version 3. If memory is refused, nothing is written.
+fn write_third<W: Sink>(
+    alloc: Global,
+    name: &[u8],
+    bytes: &[u8],
+    tree: &Value,
+    sink: &mut W,
+) -> Result<(), WriteFault>
+    ensures ok { OnOk result (Appends (W.written sink.old) (W.written sink.new)
+        (spec.third_text name.now bytes.now (tools_of (view tree.now)))
+        ⊎ Keeps (W.written sink.old) (W.written sink.new)) }
+    ensures fault { OnErr result (AppendsPrefix (W.written sink.old) (W.written sink.new)
+        (spec.third_text name.now bytes.now (tools_of (view tree.now)))) }
+    ensures counts { CountsFailure (W.failures sink.old) (W.failures sink.new) result }
+{
+    match written_tools(alloc, tree) {
+        Err(ToolsFault::Refused(refusal)) => write_written(name, bytes, refusal, sink),
+        _ => Ok(()),
+    }
+}
+
+/// Writes the first mistake of a tool table that is refused with this fault. In a table of version 3
+/// it begins with the file's name and the line.
+///
+/// If memory is refused, nothing is written. After a fault (902) a prefix of the text is written,
+/// and the sink has counted the failure.
+pub fn write_mistake<W: Sink>(
+    alloc: Global,
+    name: &str,
+    bytes: &[u8],
+    fault: FileFault,
+    sink: &mut W,
+) -> Result<(), WriteFault>
+    ensures ok { OnOk result (Appends (W.written sink.old) (W.written sink.new)
+        (spec.mistake_text name.now bytes.now fault) ⊎ Keeps (W.written sink.old) (W.written sink.new)) }
+    ensures fault { OnErr result (AppendsPrefix (W.written sink.old) (W.written sink.new)
+        (spec.mistake_text name.now bytes.now fault)) }
+    // A file with only white space and comments takes no memory.
+    ensures blank { IsBlank bytes.now →
+        OnOk result (Appends (W.written sink.old) (W.written sink.new)
+        (spec.mistake_text name.now bytes.now fault)) }
+    ensures counts { CountsFailure (W.failures sink.old) (W.failures sink.new) result }
+{
+    let tree = match read_tree(alloc, bytes) {
+        Ok(tree) => tree,
+        Err(_) => return Ok(()),
+    };
+    match &tree {
+        Some(tree) if is_written(tree) => write_third(alloc, name.as_bytes(), bytes, tree, sink),
+        _ => write_tools_mistake(alloc, bytes, fault, sink),
+    }
+}

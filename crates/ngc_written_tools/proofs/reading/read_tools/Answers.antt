@@ -1,0 +1,8 @@
+use Rattle.std.proofs.Common.{sym, ◌∙◌}
+use Rattle.ngc_written_tools.proofs.Blank.{unwritten}
+use Rattle.ngc_written_tools.proofs.reading.read_tools.Goals as goal
+
+pub returns-in-Some-clause-blank : goal.returns-in-Some-clause-blank
+returns-in-Some-clause-blank c =
+    let same = rw c.in-Some.is at c.in-Ok.ensures.tree in
+    λ blank. unwritten _ _ same (sym c.is_written.ensures ∙ c.if-is_written.true) blank

@@ -1,0 +1,81 @@
+-- A tool table of version 1, 2 or 3. Our own.
+use Rattle.std.specs.Prelude.{ℕ, ℤ, pos, ◌≡◌, List, codes, Bool, false, Option, Some, None, Result, Ok, Err}
+use Rattle.std.specs.Prelude.{if◌then◌else◌}
+use Rattle.std.specs.Ordering.{int_eq}
+use Rattle.toml.specs.Data.{Data}
+use Rattle.ngc_machine_figures.specs.declared.refusal.FileRefusal.{FileRefusal}
+use Rattle.ngc_machine_files.specs.ToolText.{checked_table, tool_table}
+use Rattle.ngc_machine_files.specs.Tree.{tree_of, whole_at}
+use Rattle.ngc_machine_files.specs.declared.fault.FileFault.{FileFault}
+use Rattle.ngc_machine_files.specs.declared.fault.FileFault.TheVariants as faults
+use Rattle.ngc_machine_files.specs.declared.tools.Tool.{Tool}
+use Rattle.ngc_written_tools.specs.Entries.{contents_of}
+use Rattle.ngc_written_tools.specs.Refusals.{fault_of}
+use Rattle.ngc_written_tools.specs.Tables.{sheets_of}
+use Rattle.ngc_written_tools.specs.declared.refusal.ToolsFault.{ToolsFault}
+use Rattle.ngc_written_tools.specs.declared.refusal.ToolsFault.TheVariants.{Memory, Refused}
+use Rattle.ngc_written_tools.specs.declared.refusal.ToolsRefusal.{ToolsRefusal}
+use Rattle.ngc_written_tools.specs.declared.refusal.ToolsRefusal.TheVariants as refusals
+use Rattle.ngc_written_tools.specs.declared.sheet.MeasuredTool.{MeasuredTool}
+
+-- the result, with its refusal as another one
+abbrev pub refused_as : {T E : Type 0} → (E → ToolsRefusal) → Result T E → Result T ToolsRefusal
+refused_as f (Ok x) = Ok x
+refused_as f (Err e) = Err (f e)
+
+infixl 10 ◌>>=◌
+abbrev pub ◌>>=◌ : {A B : Type 0} → Result A ToolsRefusal → (A → Result B ToolsRefusal) →
+    Result B ToolsRefusal
+(Ok x) >>= f = f x
+(Err e) >>= f = Err e
+
+-- the tools, by the ranges of version 2
+abbrev pub tools_by : List MeasuredTool → Result (List Tool) ToolsRefusal
+tools_by tools = refused_as refusals.Range (checked_table (Some (contents_of tools)))
+
+-- the tools that a table of version 3 describes, or its first mistake
+unfoldable pub written_tools : Data → Result (List Tool) ToolsRefusal
+written_tools tree = refused_as refusals.Key (sheets_of tree) >>= tools_by
+
+-- ---- the result of a call
+
+-- lack of memory isn't the table's mistake
+abbrev pub fault_by : FileFault → ToolsFault
+fault_by faults.Memory = Memory
+fault_by e = Refused (refusals.Range e)
+
+-- the result, seen through a view, equals the definition's, unless memory was refused
+abbrev pub ToolsResultIs : {X Y : Type 0} → (X → Y) → Result X ToolsFault → Result Y ToolsRefusal → Type 0
+ToolsResultIs view (Ok x) says = says ≡ Ok (view x)
+ToolsResultIs view (Err (Refused refusal)) says = says ≡ Err refusal
+ToolsResultIs view (Err Memory) says = Unit {0}
+
+-- ---- every version
+
+abbrev pub is_third : Option ℤ → Bool
+is_third None = false
+is_third (Some version) = int_eq version (pos 3)
+
+-- a tree of version 3
+abbrev pub is_written : Data → Bool
+is_written tree = is_third (whole_at (codes "version") tree)
+
+-- the fault of a call
+abbrev pub file_fault : ToolsFault → FileFault
+file_fault Memory = faults.Memory
+file_fault (Refused refusal) = fault_of refusal
+
+abbrev pub as_fault : Result (List Tool) ToolsRefusal → Result (List Tool) FileFault
+as_fault (Ok tools) = Ok tools
+as_fault (Err refusal) = Err (fault_of refusal)
+
+abbrev pub written_table : Data → Result (List Tool) FileFault
+written_table tree = as_fault (written_tools tree)
+
+abbrev pub tools_in : List ℕ → Option Data → Result (List Tool) FileFault
+tools_in bytes None = tool_table bytes
+tools_in bytes (Some tree) = if is_written tree then written_table tree else tool_table bytes
+
+-- the tools that a table of any version describes, or why it is refused
+unfoldable pub any_tools : List ℕ → Result (List Tool) FileFault
+any_tools bytes = tools_in bytes (tree_of bytes)

@@ -1,0 +1,25 @@
+//! Tools of tables of version 3, in which people write lengths and diameters with their units.
+//!
+//! ```toml
+//! version = 3
+//!
+//! [[tool]]
+//! number = 2
+//! diameter = "6 mm"
+//! length = "45 mm"
+//! ```
+#![tactic(auto)]
+
+mod each;
+mod entries;
+mod holder;
+mod kinds;
+mod numbers;
+mod reading;
+mod refusal;
+mod shape;
+mod sheet;
+mod table;
+
+pub use reading::{is_written, read_tools, written_tools};
+pub use refusal::{ToolsFault, ToolsRefusal};
