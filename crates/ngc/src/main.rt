@@ -9,10 +9,11 @@ mod outputs;
 use crate::host::HostFiles;
 use crate::output::Output;
 use crate::outputs::HostOutputs;
+use ngc_job_calls::{CallFault, JobCall, with_job};
 use ngc_output_answers::answer_to;
-use ngc_output_words::{WordsFault, call_words};
+use ngc_output_words::{CallWords, WordsFault, call_words};
 use ngc_saved_files::{SavedFiles, note_wide};
-use ngc_simulator::{UsageFault, read_options};
+use ngc_simulator::{Options, UsageFault, read_options};
 use ngc_text::{Device, write_all};
 use std::cell::Cell;
 use std::process::ExitCode;
@@ -43,20 +44,24 @@ fn usage_fault(rt: &HostRuntime, fault: WordsFault) -> UsageFault {
     }
 }
 
-// Executes the command in the words, and returns the status.
-fn answer_words(rt: &HostRuntime) -> Result<u8, UsageFault> {
-    let words = words_of(rt)?;
-    let mut names = Vec::new(rt.alloc());
-    for word in words.iter() {
-        names.push(word.as_str()).map_err(|_| UsageFault::Memory)?;
-    }
-    let call = match call_words(rt.alloc(), names.as_slice()) {
-        Ok(call) => call,
-        Err(fault) => return Err(usage_fault(rt, fault)),
-    };
-    let options = read_options(rt.alloc(), call.words.as_slice())?;
+fn tell(rt: &HostRuntime, text: &[u8]) {
+    let _ = write_all(&mut Device::new(rt.stderr()), text);
+}
+
+// Prints why a call isn't begun, and returns the status.
+fn refuse(rt: &HostRuntime, fault: &CallFault) -> u8 {
+    tell(rt, fault.text());
+    fault.status()
+}
+
+// Executes the command with these options, and returns the status.
+fn answer_options(
+    rt: &HostRuntime,
+    options: &Options<'_>,
+    out: Option<&str>,
+) -> Result<u8, UsageFault> {
     let is_wide = Cell::new(false);
-    let mut files = SavedFiles::new(HostFiles::new(rt), &options, &is_wide);
+    let mut files = SavedFiles::new(HostFiles::new(rt), options, &is_wide);
     let mut outputs = HostOutputs::new(rt);
     let mut output = Output::new(rt.stdout());
     // Printed only if somebody still reads the output. The space for a fault's line exists from the
@@ -65,8 +70,8 @@ fn answer_words(rt: &HostRuntime) -> Result<u8, UsageFault> {
     let mut told = Device::new(room);
     let status = answer_to(
         rt.alloc(),
-        &options,
-        call.out,
+        options,
+        out,
         &mut files,
         &mut outputs,
         &mut output,
@@ -74,9 +79,37 @@ fn answer_words(rt: &HostRuntime) -> Result<u8, UsageFault> {
     );
     note_wide(is_wide.get(), status, &mut told);
     if !output.is_closed() {
-        let _ = write_all(&mut Device::new(rt.stderr()), told.into_inner().as_slice());
+        tell(rt, told.into_inner().as_slice());
     }
     Ok(status)
+}
+
+// Executes the command in the words, with those of its job file.
+fn answer_job(rt: &HostRuntime, job: &JobCall<'_>, out: Option<&str>) -> Result<u8, UsageFault> {
+    let words = job.all_words(rt.alloc()).map_err(|_| UsageFault::Memory)?;
+    tell(rt, job.note.as_slice());
+    let options = read_options(rt.alloc(), words.as_slice())?;
+    answer_options(rt, &options, out)
+}
+
+fn answer_call(rt: &HostRuntime, call: &CallWords<'_>) -> Result<u8, UsageFault> {
+    match with_job(rt.alloc(), call.words.as_slice(), &mut HostFiles::new(rt)) {
+        Ok(job) => answer_job(rt, &job, call.out),
+        Err(fault) => Ok(refuse(rt, &fault)),
+    }
+}
+
+// Executes the command in the words, and returns the status.
+fn answer_words(rt: &HostRuntime) -> Result<u8, UsageFault> {
+    let words = words_of(rt)?;
+    let mut names = Vec::new(rt.alloc());
+    for word in words.iter() {
+        names.push(word.as_str()).map_err(|_| UsageFault::Memory)?;
+    }
+    match call_words(rt.alloc(), names.as_slice()) {
+        Ok(call) => answer_call(rt, &call),
+        Err(fault) => Err(usage_fault(rt, fault)),
+    }
 }
 
 fn main(rt: HostRuntime) -> ExitCode {

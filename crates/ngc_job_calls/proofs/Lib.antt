@@ -1,0 +1,2 @@
+-- The line of a job file that added something.
+pub mod Noted

@@ -1,0 +1,4 @@
+pub mod Refused
+pub mod Said
+pub mod Notes
+pub mod Calls

@@ -1,0 +1,6 @@
+-- The folder of a name, byte by byte from its end.
+pub mod Ends
+-- Tests of a list's elements by what they hold.
+pub mod Anys
+-- What is after a prefix.
+pub mod Prefixes
