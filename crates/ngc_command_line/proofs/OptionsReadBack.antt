@@ -1164,27 +1164,27 @@ FindsMachine source corner ticks frame (Some found) = (found.0 ≡ codes "machin
     × (first_of (codes "corner") found.1 ≡ corner) × (first_of (codes "ticks") found.1 ≡ ticks) × (first_of (codes "frame") found.1 ≡ frame)
     × (first_of (codes "jump") found.1 ≡ None) × (first_of (codes "turn") found.1 ≡ None) × (first_of (codes "start") found.1 ≡ None) × (first_of (codes "home28") found.1 ≡ None) × (first_of (codes "home30") found.1 ≡ None)
     × (first_of (codes "ring") found.1 ≡ None) × (is_set (codes "arc-feed") found.1 ≡ false)
-    × (change_texts found.1 ≡ no_texts)
+    × (is_set (codes "rates") found.1 ≡ false) × (change_texts found.1 ≡ no_texts)
 
 machine_spells : (source : MachineSource) (corner ticks frame : Option Text) →
     Spells (machine_words source corner ticks frame) (FindsMachine source corner ticks frame)
 unfolding clap_on_literals
-machine_spells (FromGrbl file) None None None = (refl, (refl, refl, refl, refl, refl, refl, refl, refl, refl, refl, refl, refl, refl, refl, refl, refl, refl))
-machine_spells (FromGrbl file) None None (Some frame) = (refl, (refl, refl, refl, refl, refl, refl, refl, refl, refl, refl, refl, refl, refl, refl, refl, refl, refl))
-machine_spells (FromGrbl file) None (Some ticks) None = (refl, (refl, refl, refl, refl, refl, refl, refl, refl, refl, refl, refl, refl, refl, refl, refl, refl, refl))
-machine_spells (FromGrbl file) None (Some ticks) (Some frame) = (refl, (refl, refl, refl, refl, refl, refl, refl, refl, refl, refl, refl, refl, refl, refl, refl, refl, refl))
-machine_spells (FromGrbl file) (Some corner) None None = (refl, (refl, refl, refl, refl, refl, refl, refl, refl, refl, refl, refl, refl, refl, refl, refl, refl, refl))
-machine_spells (FromGrbl file) (Some corner) None (Some frame) = (refl, (refl, refl, refl, refl, refl, refl, refl, refl, refl, refl, refl, refl, refl, refl, refl, refl, refl))
-machine_spells (FromGrbl file) (Some corner) (Some ticks) None = (refl, (refl, refl, refl, refl, refl, refl, refl, refl, refl, refl, refl, refl, refl, refl, refl, refl, refl))
-machine_spells (FromGrbl file) (Some corner) (Some ticks) (Some frame) = (refl, (refl, refl, refl, refl, refl, refl, refl, refl, refl, refl, refl, refl, refl, refl, refl, refl, refl))
-machine_spells (FromFigures steps travel feed acceleration) None None None = (refl, (refl, refl, refl, refl, refl, refl, refl, refl, refl, refl, refl, refl, refl, refl, refl, refl, refl))
-machine_spells (FromFigures steps travel feed acceleration) None None (Some frame) = (refl, (refl, refl, refl, refl, refl, refl, refl, refl, refl, refl, refl, refl, refl, refl, refl, refl, refl))
-machine_spells (FromFigures steps travel feed acceleration) None (Some ticks) None = (refl, (refl, refl, refl, refl, refl, refl, refl, refl, refl, refl, refl, refl, refl, refl, refl, refl, refl))
-machine_spells (FromFigures steps travel feed acceleration) None (Some ticks) (Some frame) = (refl, (refl, refl, refl, refl, refl, refl, refl, refl, refl, refl, refl, refl, refl, refl, refl, refl, refl))
-machine_spells (FromFigures steps travel feed acceleration) (Some corner) None None = (refl, (refl, refl, refl, refl, refl, refl, refl, refl, refl, refl, refl, refl, refl, refl, refl, refl, refl))
-machine_spells (FromFigures steps travel feed acceleration) (Some corner) None (Some frame) = (refl, (refl, refl, refl, refl, refl, refl, refl, refl, refl, refl, refl, refl, refl, refl, refl, refl, refl))
-machine_spells (FromFigures steps travel feed acceleration) (Some corner) (Some ticks) None = (refl, (refl, refl, refl, refl, refl, refl, refl, refl, refl, refl, refl, refl, refl, refl, refl, refl, refl))
-machine_spells (FromFigures steps travel feed acceleration) (Some corner) (Some ticks) (Some frame) = (refl, (refl, refl, refl, refl, refl, refl, refl, refl, refl, refl, refl, refl, refl, refl, refl, refl, refl))
+machine_spells (FromGrbl file) None None None = (refl, (refl, refl, refl, refl, refl, refl, refl, refl, refl, refl, refl, refl, refl, refl, refl, refl, refl, refl))
+machine_spells (FromGrbl file) None None (Some frame) = (refl, (refl, refl, refl, refl, refl, refl, refl, refl, refl, refl, refl, refl, refl, refl, refl, refl, refl, refl))
+machine_spells (FromGrbl file) None (Some ticks) None = (refl, (refl, refl, refl, refl, refl, refl, refl, refl, refl, refl, refl, refl, refl, refl, refl, refl, refl, refl))
+machine_spells (FromGrbl file) None (Some ticks) (Some frame) = (refl, (refl, refl, refl, refl, refl, refl, refl, refl, refl, refl, refl, refl, refl, refl, refl, refl, refl, refl))
+machine_spells (FromGrbl file) (Some corner) None None = (refl, (refl, refl, refl, refl, refl, refl, refl, refl, refl, refl, refl, refl, refl, refl, refl, refl, refl, refl))
+machine_spells (FromGrbl file) (Some corner) None (Some frame) = (refl, (refl, refl, refl, refl, refl, refl, refl, refl, refl, refl, refl, refl, refl, refl, refl, refl, refl, refl))
+machine_spells (FromGrbl file) (Some corner) (Some ticks) None = (refl, (refl, refl, refl, refl, refl, refl, refl, refl, refl, refl, refl, refl, refl, refl, refl, refl, refl, refl))
+machine_spells (FromGrbl file) (Some corner) (Some ticks) (Some frame) = (refl, (refl, refl, refl, refl, refl, refl, refl, refl, refl, refl, refl, refl, refl, refl, refl, refl, refl, refl))
+machine_spells (FromFigures steps travel feed acceleration) None None None = (refl, (refl, refl, refl, refl, refl, refl, refl, refl, refl, refl, refl, refl, refl, refl, refl, refl, refl, refl))
+machine_spells (FromFigures steps travel feed acceleration) None None (Some frame) = (refl, (refl, refl, refl, refl, refl, refl, refl, refl, refl, refl, refl, refl, refl, refl, refl, refl, refl, refl))
+machine_spells (FromFigures steps travel feed acceleration) None (Some ticks) None = (refl, (refl, refl, refl, refl, refl, refl, refl, refl, refl, refl, refl, refl, refl, refl, refl, refl, refl, refl))
+machine_spells (FromFigures steps travel feed acceleration) None (Some ticks) (Some frame) = (refl, (refl, refl, refl, refl, refl, refl, refl, refl, refl, refl, refl, refl, refl, refl, refl, refl, refl, refl))
+machine_spells (FromFigures steps travel feed acceleration) (Some corner) None None = (refl, (refl, refl, refl, refl, refl, refl, refl, refl, refl, refl, refl, refl, refl, refl, refl, refl, refl, refl))
+machine_spells (FromFigures steps travel feed acceleration) (Some corner) None (Some frame) = (refl, (refl, refl, refl, refl, refl, refl, refl, refl, refl, refl, refl, refl, refl, refl, refl, refl, refl, refl))
+machine_spells (FromFigures steps travel feed acceleration) (Some corner) (Some ticks) None = (refl, (refl, refl, refl, refl, refl, refl, refl, refl, refl, refl, refl, refl, refl, refl, refl, refl, refl, refl))
+machine_spells (FromFigures steps travel feed acceleration) (Some corner) (Some ticks) (Some frame) = (refl, (refl, refl, refl, refl, refl, refl, refl, refl, refl, refl, refl, refl, refl, refl, refl, refl, refl, refl))
 
 requested_machine : (source : MachineSource) (corner ticks frame : Option Text) (found : Option (Text × List Row)) (options : Options)
     → FindsMachine source corner ticks frame found → AreOptions found options → IsMachineRequest source corner ticks frame options
@@ -1205,6 +1205,7 @@ requested_machine source corner ticks frame (Some found) (ToMachine machine) fin
   are.1.home30 ∙ finds.13,
   are.1.ring ∙ finds.14,
   are.1.arc_feed ∙ finds.15,
+  are.1.rates ∙ finds.16,
 )
 requested_machine source corner ticks frame (Some found) (ToList list) finds are =
     other_letter (codes "machine") (codes "list") (sym finds.0 ∙ are.0) (λ letters. omega (arith, letters))
@@ -1241,7 +1242,7 @@ machine_taken words source corner ticks frame spelled = subst IsTaken (sym spell
 
 machine_have : (found : Option (Text × List Row)) (source : MachineSource) (corner : Option Text) (ticks : Option Text) (frame : Option Text) → FindsMachine source corner ticks frame found → HaveChanges found
 machine_have None source corner ticks frame finds = absurd finds
-machine_have (Some found) source corner ticks frame finds = none_wrong found finds.16
+machine_have (Some found) source corner ticks frame finds = none_wrong found finds.17
 
 pub machine_changes : (words : List Text) (source : MachineSource) (corner ticks frame : Option Text) → words ≡ machine_words source corner ticks frame → HaveChanges (subcommand_of ngc_app words)
 machine_changes words source corner ticks frame spelled =

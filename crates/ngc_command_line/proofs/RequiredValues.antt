@@ -97,11 +97,13 @@ certify_sound =
     let cuts = set_is_sound FitsCuts _ refl refl refl (λ v none same. cuts_fit v none) in
     let format = set_is_sound FitsCuts _ refl refl refl (λ v none. no_cuts (codes "format") v refl) in
     let origin = append_is_sound FitsCuts _ refl refl refl (λ v. no_cuts (codes "origin") v refl) in
+    let fixture = append_is_sound FitsCuts _ refl refl refl (λ v. no_cuts (codes "fixture") v refl) in
+    let stock = set_is_sound FitsCuts _ refl refl refl (λ v none. no_cuts (codes "stock") v refl) in
     let margin = set_is_sound FitsCuts _ refl refl refl (λ v none. no_cuts (codes "margin") v refl) in
     let from_travel = set_is_sound FitsCuts _ refl refl refl (λ v none. no_cuts (codes "travel-margin") v refl) in
     let rapids = set_is_sound FitsCuts _ refl refl refl (λ v none. no_cuts (codes "rapids") v refl) in
     let dialect = set_is_sound FitsCuts _ refl refl refl (λ v none. no_cuts (codes "dialect") v refl) in
-    (machine, (tools, (program, (cuts, (format, (origin, (margin, (from_travel, (rapids, (dialect, (help_is_sound FitsCuts _ refl refl, tt)))))))))))
+    (machine, (tools, (program, (cuts, (format, (origin, (fixture, (stock, (margin, (from_travel, (rapids, (dialect, (help_is_sound FitsCuts _ refl refl, tt)))))))))))))
 
 no_format : (id text : Text) → bytes_eq id (codes "format") ≡ false → FitsFormat id text
 no_format = other_fits (codes "format") (IsUnsignedIn 1 2)
@@ -114,11 +116,13 @@ certify_format_sound =
     let cuts = set_is_sound FitsFormat _ refl refl refl (λ v none. no_format (codes "cuts") v refl) in
     let format = set_is_sound FitsFormat _ refl refl refl (λ v none same. format_fits v none) in
     let origin = append_is_sound FitsFormat _ refl refl refl (λ v. no_format (codes "origin") v refl) in
+    let fixture = append_is_sound FitsFormat _ refl refl refl (λ v. no_format (codes "fixture") v refl) in
+    let stock = set_is_sound FitsFormat _ refl refl refl (λ v none. no_format (codes "stock") v refl) in
     let margin = set_is_sound FitsFormat _ refl refl refl (λ v none. no_format (codes "margin") v refl) in
     let from_travel = set_is_sound FitsFormat _ refl refl refl (λ v none. no_format (codes "travel-margin") v refl) in
     let rapids = set_is_sound FitsFormat _ refl refl refl (λ v none. no_format (codes "rapids") v refl) in
     let dialect = set_is_sound FitsFormat _ refl refl refl (λ v none. no_format (codes "dialect") v refl) in
-    (machine, (tools, (program, (cuts, (format, (origin, (margin, (from_travel, (rapids, (dialect, (help_is_sound FitsFormat _ refl refl, tt)))))))))))
+    (machine, (tools, (program, (cuts, (format, (origin, (fixture, (stock, (margin, (from_travel, (rapids, (dialect, (help_is_sound FitsFormat _ refl refl, tt)))))))))))))
 
 no_mask : (id text : Text) → bytes_eq id (codes "inverted") ≡ false → FitsMask id text
 no_mask = other_fits (codes "inverted") (IsUnsignedIn 0 255)
@@ -130,11 +134,13 @@ check_sound =
     let certificate = set_is_sound FitsCuts _ refl refl refl (λ v none. no_cuts (codes "certificate") v refl) in
     let program = set_is_sound FitsCuts _ refl refl refl (λ v none. no_cuts (codes "program") v refl) in
     let origin = append_is_sound FitsCuts _ refl refl refl (λ v. no_cuts (codes "origin") v refl) in
+    let fixture = append_is_sound FitsCuts _ refl refl refl (λ v. no_cuts (codes "fixture") v refl) in
+    let stock = set_is_sound FitsCuts _ refl refl refl (λ v none. no_cuts (codes "stock") v refl) in
     let margin = set_is_sound FitsCuts _ refl refl refl (λ v none. no_cuts (codes "margin") v refl) in
     let from_travel = set_is_sound FitsCuts _ refl refl refl (λ v none. no_cuts (codes "travel-margin") v refl) in
     let rapids = set_is_sound FitsCuts _ refl refl refl (λ v none. no_cuts (codes "rapids") v refl) in
     let dialect = set_is_sound FitsCuts _ refl refl refl (λ v none. no_cuts (codes "dialect") v refl) in
-    (machine, (tools, (certificate, (program, (origin, (margin, (from_travel, (rapids, (dialect, (help_is_sound FitsCuts _ refl refl, tt))))))))))
+    (machine, (tools, (certificate, (program, (origin, (fixture, (stock, (margin, (from_travel, (rapids, (dialect, (help_is_sound FitsCuts _ refl refl, tt))))))))))))
 
 run_sound : AreSound FitsMask run_shape.rules
 run_sound =
@@ -147,11 +153,13 @@ run_sound =
     let output = set_is_sound FitsMask _ refl refl refl (λ v none. no_mask (codes "output") v refl) in
     let inverted = set_is_sound FitsMask _ refl refl refl (λ v none same. mask_fits v none) in
     let origin = append_is_sound FitsMask _ refl refl refl (λ v. no_mask (codes "origin") v refl) in
+    let fixture = append_is_sound FitsMask _ refl refl refl (λ v. no_mask (codes "fixture") v refl) in
+    let stock = set_is_sound FitsMask _ refl refl refl (λ v none. no_mask (codes "stock") v refl) in
     let margin = set_is_sound FitsMask _ refl refl refl (λ v none. no_mask (codes "margin") v refl) in
     let from_travel = set_is_sound FitsMask _ refl refl refl (λ v none. no_mask (codes "travel-margin") v refl) in
     let rapids = set_is_sound FitsMask _ refl refl refl (λ v none. no_mask (codes "rapids") v refl) in
     let dialect = set_is_sound FitsMask _ refl refl refl (λ v none. no_mask (codes "dialect") v refl) in
-    (machine, (tools, (certificate, (events, (program, (delete, (output, (inverted, (origin, (margin, (from_travel, (rapids, (dialect, (help_is_sound FitsMask _ refl refl, tt))))))))))))))
+    (machine, (tools, (certificate, (events, (program, (delete, (output, (inverted, (origin, (fixture, (stock, (margin, (from_travel, (rapids, (dialect, (help_is_sound FitsMask _ refl refl, tt))))))))))))))))
 
 certify_values : (words : List Text) → level_fault certify_shape [] nothing_held words false [] ≡ [] →
     HasCertifyValues (rows_after certify_shape.rules [] words)
@@ -216,11 +224,13 @@ live_sound =
     let feeds = flag_is_sound FitsMask _ (codes "true") (codes "false") refl refl refl (λ v. no_mask (codes "feed-ring") v refl) in
     let aborts = flag_is_sound FitsMask _ (codes "true") (codes "false") refl refl refl (λ v. no_mask (codes "abort") v refl) in
     let origin = append_is_sound FitsMask _ refl refl refl (λ v. no_mask (codes "origin") v refl) in
+    let fixture = append_is_sound FitsMask _ refl refl refl (λ v. no_mask (codes "fixture") v refl) in
+    let stock = set_is_sound FitsMask _ refl refl refl (λ v none. no_mask (codes "stock") v refl) in
     let margin = set_is_sound FitsMask _ refl refl refl (λ v none. no_mask (codes "margin") v refl) in
     let from_travel = set_is_sound FitsMask _ refl refl refl (λ v none. no_mask (codes "travel-margin") v refl) in
     let rapids = set_is_sound FitsMask _ refl refl refl (λ v none. no_mask (codes "rapids") v refl) in
     let dialect = set_is_sound FitsMask _ refl refl refl (λ v none. no_mask (codes "dialect") v refl) in
-    (machine, (tools, (certificate, (program, (delete, (output, (inverted, (feeds, (aborts, (origin, (margin, (from_travel, (rapids, (dialect, (help_is_sound FitsMask _ refl refl, tt)))))))))))))))
+    (machine, (tools, (certificate, (program, (delete, (output, (inverted, (feeds, (aborts, (origin, (fixture, (stock, (margin, (from_travel, (rapids, (dialect, (help_is_sound FitsMask _ refl refl, tt)))))))))))))))))
 
 live_values : (words : List Text) → level_fault live_shape [] nothing_held words false [] ≡ [] → HasLiveValues (rows_after live_shape.rules [] words)
 live_values words none =
@@ -248,11 +258,13 @@ draw_sound =
     let bodies = flag_is_sound FitsCuts _ (codes "true") (codes "false") refl refl refl (λ v. no_cuts (codes "bodies") v refl) in
     let whole = flag_is_sound FitsCuts _ (codes "true") (codes "false") refl refl refl (λ v. no_cuts (codes "whole") v refl) in
     let origin = append_is_sound FitsCuts _ refl refl refl (λ v. no_cuts (codes "origin") v refl) in
+    let fixture = append_is_sound FitsCuts _ refl refl refl (λ v. no_cuts (codes "fixture") v refl) in
+    let stock = set_is_sound FitsCuts _ refl refl refl (λ v none. no_cuts (codes "stock") v refl) in
     let margin = set_is_sound FitsCuts _ refl refl refl (λ v none. no_cuts (codes "margin") v refl) in
     let from_travel = set_is_sound FitsCuts _ refl refl refl (λ v none. no_cuts (codes "travel-margin") v refl) in
     let rapids = set_is_sound FitsCuts _ refl refl refl (λ v none. no_cuts (codes "rapids") v refl) in
     let dialect = set_is_sound FitsCuts _ refl refl refl (λ v none. no_cuts (codes "dialect") v refl) in
-    (machine, (tools, (certificate, (program, (view, (delete, (bodies, (whole, (origin, (margin, (from_travel, (rapids, (dialect, (help_is_sound FitsCuts _ refl refl, tt))))))))))))))
+    (machine, (tools, (certificate, (program, (view, (delete, (bodies, (whole, (origin, (fixture, (stock, (margin, (from_travel, (rapids, (dialect, (help_is_sound FitsCuts _ refl refl, tt))))))))))))))))
 
 draw_values : (words : List Text) → level_fault draw_shape [] nothing_held words false [] ≡ [] → HasDrawValues (rows_after draw_shape.rules [] words)
 draw_values words none =
@@ -287,11 +299,13 @@ report_sound =
     let all = flag_is_sound FitsCuts _ (codes "true") (codes "false") refl refl refl (λ v. no_cuts (codes "all") v refl) in
     let json = flag_is_sound FitsCuts _ (codes "true") (codes "false") refl refl refl (λ v. no_cuts (codes "json") v refl) in
     let origin = append_is_sound FitsCuts _ refl refl refl (λ v. no_cuts (codes "origin") v refl) in
+    let fixture = append_is_sound FitsCuts _ refl refl refl (λ v. no_cuts (codes "fixture") v refl) in
+    let stock = set_is_sound FitsCuts _ refl refl refl (λ v none. no_cuts (codes "stock") v refl) in
     let margin = set_is_sound FitsCuts _ refl refl refl (λ v none. no_cuts (codes "margin") v refl) in
     let from_travel = set_is_sound FitsCuts _ refl refl refl (λ v none. no_cuts (codes "travel-margin") v refl) in
     let rapids = set_is_sound FitsCuts _ refl refl refl (λ v none. no_cuts (codes "rapids") v refl) in
     let dialect = set_is_sound FitsCuts _ refl refl refl (λ v none. no_cuts (codes "dialect") v refl) in
-    (machine, (tools, (program, (cuts, (all, (json, (origin, (margin, (from_travel, (rapids, (dialect, (help_is_sound FitsCuts _ refl refl, tt))))))))))))
+    (machine, (tools, (program, (cuts, (all, (json, (origin, (fixture, (stock, (margin, (from_travel, (rapids, (dialect, (help_is_sound FitsCuts _ refl refl, tt))))))))))))))
 
 report_values : (words : List Text) → level_fault report_shape [] nothing_held words false [] ≡ [] → HasReportValues (rows_after report_shape.rules [] words)
 report_values words none =
@@ -313,11 +327,13 @@ place_sound =
     let cuts = set_is_sound FitsCuts _ refl refl refl (λ v none same. cuts_fit v none) in
     let json = flag_is_sound FitsCuts _ (codes "true") (codes "false") refl refl refl (λ v. no_cuts (codes "json") v refl) in
     let origin = append_is_sound FitsCuts _ refl refl refl (λ v. no_cuts (codes "origin") v refl) in
+    let fixture = append_is_sound FitsCuts _ refl refl refl (λ v. no_cuts (codes "fixture") v refl) in
+    let stock = set_is_sound FitsCuts _ refl refl refl (λ v none. no_cuts (codes "stock") v refl) in
     let margin = set_is_sound FitsCuts _ refl refl refl (λ v none. no_cuts (codes "margin") v refl) in
     let from_travel = set_is_sound FitsCuts _ refl refl refl (λ v none. no_cuts (codes "travel-margin") v refl) in
     let rapids = set_is_sound FitsCuts _ refl refl refl (λ v none. no_cuts (codes "rapids") v refl) in
     let dialect = set_is_sound FitsCuts _ refl refl refl (λ v none. no_cuts (codes "dialect") v refl) in
-    (machine, (tools, (program, (system, (cuts, (json, (origin, (margin, (from_travel, (rapids, (dialect, (help_is_sound FitsCuts _ refl refl, tt))))))))))))
+    (machine, (tools, (program, (system, (cuts, (json, (origin, (fixture, (stock, (margin, (from_travel, (rapids, (dialect, (help_is_sound FitsCuts _ refl refl, tt))))))))))))))
 
 place_values : (words : List Text) → level_fault place_shape [] nothing_held words false [] ≡ [] → HasPlaceValues (rows_after place_shape.rules [] words)
 place_values words none =

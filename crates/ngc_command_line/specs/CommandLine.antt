@@ -34,6 +34,13 @@ inverted_option = record (file_option (codes "inverted")) { parser = Some (Unsig
 abbrev pub origin_option : Rule
 origin_option = record (file_option (codes "origin")) { action = Some Append }
 
+-- `--fixture BOX`, which may be written several times, and `--stock BOX`
+abbrev pub fixture_option : Rule
+fixture_option = record (file_option (codes "fixture")) { action = Some Append }
+
+abbrev pub stock_option : Rule
+stock_option = file_option (codes "stock")
+
 -- `--margin MM`, `--travel-margin MM` and `--rapids WAY`
 abbrev pub margin_option : Rule
 margin_option = file_option (codes "margin")
@@ -59,24 +66,24 @@ list_app = fold with_rule (new_app (codes "list"))
     (file_option (codes "program") ∷ file_option (codes "machine") ∷ file_option (codes "tools")
     ∷ flag (codes "delete") ∷ origin_option ∷ dialect_option ∷ [])
 
--- In the commands below, the last two points stand for `[--margin MM] [--travel-margin MM]` and
--- `[--rapids WAY]`.
+-- In the commands below, the last two points stand for `[--fixture BOX].. [--stock BOX]` and
+-- `[--margin MM] [--travel-margin MM] [--rapids WAY]`.
 
 -- `certify --machine FILE --tools FILE [--program FILE] [--cuts N] [--format VERSION]
 -- [--origin SYSTEM=X,Y,Z].. .. [--dialect NAME]`
 abbrev pub certify_app : App
 certify_app = fold with_rule (new_app (codes "certify"))
     (required_file (codes "machine") ∷ required_file (codes "tools")
-    ∷ file_option (codes "program") ∷ cuts_option ∷ format_option ∷ origin_option ∷ margin_option
-    ∷ travel_margin_option ∷ rapids_option ∷ dialect_option ∷ [])
+    ∷ file_option (codes "program") ∷ cuts_option ∷ format_option ∷ origin_option ∷ fixture_option
+    ∷ stock_option ∷ margin_option ∷ travel_margin_option ∷ rapids_option ∷ dialect_option ∷ [])
 
 -- `check --machine FILE --tools FILE --certificate FILE [--program FILE]
 -- [--origin SYSTEM=X,Y,Z].. .. [--dialect NAME]`
 abbrev pub check_app : App
 check_app = fold with_rule (new_app (codes "check"))
     (required_file (codes "machine") ∷ required_file (codes "tools")
-    ∷ required_file (codes "certificate") ∷ file_option (codes "program") ∷ origin_option ∷ margin_option
-    ∷ travel_margin_option ∷ rapids_option ∷ dialect_option ∷ [])
+    ∷ required_file (codes "certificate") ∷ file_option (codes "program") ∷ origin_option ∷ fixture_option
+    ∷ stock_option ∷ margin_option ∷ travel_margin_option ∷ rapids_option ∷ dialect_option ∷ [])
 
 -- `--machine FILE --tools FILE --certificate FILE [--events FILE] [--program FILE] [--delete]`
 -- and `[--output FORM] [--inverted MASK] [--origin SYSTEM=X,Y,Z].. .. [--dialect NAME]`
@@ -85,8 +92,8 @@ with_run_rules app = fold with_rule app
     (required_file (codes "machine") ∷ required_file (codes "tools")
     ∷ required_file (codes "certificate") ∷ file_option (codes "events")
     ∷ file_option (codes "program") ∷ flag (codes "delete") ∷ file_option (codes "output")
-    ∷ inverted_option ∷ origin_option ∷ margin_option
-    ∷ travel_margin_option ∷ rapids_option ∷ dialect_option ∷ [])
+    ∷ inverted_option ∷ origin_option ∷ fixture_option
+    ∷ stock_option ∷ margin_option ∷ travel_margin_option ∷ rapids_option ∷ dialect_option ∷ [])
 
 -- the name of a run's command, by its output
 abbrev pub run_name : Recording → Text
@@ -108,8 +115,8 @@ live_app = fold with_rule (new_app (codes "live"))
     (required_file (codes "machine") ∷ required_file (codes "tools")
     ∷ required_file (codes "certificate") ∷ required_file (codes "program")
     ∷ flag (codes "delete") ∷ file_option (codes "output") ∷ inverted_option
-    ∷ flag (codes "feed-ring") ∷ flag (codes "abort") ∷ origin_option ∷ margin_option
-    ∷ travel_margin_option ∷ rapids_option ∷ dialect_option ∷ [])
+    ∷ flag (codes "feed-ring") ∷ flag (codes "abort") ∷ origin_option ∷ fixture_option
+    ∷ stock_option ∷ margin_option ∷ travel_margin_option ∷ rapids_option ∷ dialect_option ∷ [])
 
 -- `draw --machine FILE --tools FILE [--certificate FILE] [--program FILE] [--view VIEW] [--delete]
 -- [--bodies] [--whole] [--origin SYSTEM=X,Y,Z].. .. [--dialect NAME]`
@@ -118,8 +125,8 @@ draw_app = fold with_rule (new_app (codes "draw"))
     (required_file (codes "machine") ∷ required_file (codes "tools")
     ∷ file_option (codes "certificate") ∷ file_option (codes "program")
     ∷ file_option (codes "view") ∷ flag (codes "delete") ∷ flag (codes "bodies")
-    ∷ flag (codes "whole") ∷ origin_option ∷ margin_option
-    ∷ travel_margin_option ∷ rapids_option ∷ dialect_option ∷ [])
+    ∷ flag (codes "whole") ∷ origin_option ∷ fixture_option
+    ∷ stock_option ∷ margin_option ∷ travel_margin_option ∷ rapids_option ∷ dialect_option ∷ [])
 
 -- `show --machine FILE [--tools FILE] [--warnings]`
 abbrev pub show_app : App
@@ -132,8 +139,8 @@ abbrev pub report_app : App
 report_app = fold with_rule (new_app (codes "report"))
     (required_file (codes "machine") ∷ required_file (codes "tools")
     ∷ file_option (codes "program") ∷ cuts_option ∷ flag (codes "all") ∷ flag (codes "json")
-    ∷ origin_option ∷ margin_option
-    ∷ travel_margin_option ∷ rapids_option ∷ dialect_option ∷ [])
+    ∷ origin_option ∷ fixture_option
+    ∷ stock_option ∷ margin_option ∷ travel_margin_option ∷ rapids_option ∷ dialect_option ∷ [])
 
 -- `place --machine FILE --tools FILE [--program FILE] [--system SYSTEM] [--cuts N] [--json]
 -- [--origin SYSTEM=X,Y,Z].. .. [--dialect NAME]`
@@ -141,8 +148,8 @@ abbrev pub place_app : App
 place_app = fold with_rule (new_app (codes "place"))
     (required_file (codes "machine") ∷ required_file (codes "tools")
     ∷ file_option (codes "program") ∷ file_option (codes "system") ∷ cuts_option
-    ∷ flag (codes "json") ∷ origin_option ∷ margin_option
-    ∷ travel_margin_option ∷ rapids_option ∷ dialect_option ∷ [])
+    ∷ flag (codes "json") ∷ origin_option ∷ fixture_option
+    ∷ stock_option ∷ margin_option ∷ travel_margin_option ∷ rapids_option ∷ dialect_option ∷ [])
 
 -- `--tool N`, with a number from 1 to 9,999
 -- `adapt --from CONTROL [--machine FILE] [--tools FILE] [--program FILE] [--delete]`
@@ -153,7 +160,7 @@ adapt_app = fold with_rule (new_app (codes "adapt"))
 
 -- `machine [--grbl FILE] [--steps-per-mm N] [--travel X,Y,Z] [--feed X,Y,Z] [--acceleration X,Y,Z]`
 -- and `[--corner SPEED] [--ticks N] [--frame END] [--jump SPEED] [--turn ACCELERATION]
--- [--start X,Y,Z] [--home28 X,Y,Z] [--home30 X,Y,Z] [--ring N] [--arc-feed]`
+-- [--start X,Y,Z] [--home28 X,Y,Z] [--home30 X,Y,Z] [--ring N] [--arc-feed] [--rates]`
 abbrev pub machine_app : App
 machine_app = fold with_rule (new_app (codes "machine"))
     (file_option (codes "grbl") ∷ file_option (codes "steps-per-mm") ∷ file_option (codes "travel")
@@ -161,7 +168,7 @@ machine_app = fold with_rule (new_app (codes "machine"))
     ∷ file_option (codes "corner") ∷ file_option (codes "ticks") ∷ file_option (codes "frame")
     ∷ file_option (codes "jump") ∷ file_option (codes "turn") ∷ file_option (codes "start")
     ∷ file_option (codes "home28") ∷ file_option (codes "home30") ∷ file_option (codes "ring")
-    ∷ flag (codes "arc-feed") ∷ [])
+    ∷ flag (codes "arc-feed") ∷ flag (codes "rates") ∷ [])
 
 -- `N`, a number from 1 to 999, which may not be left out
 abbrev pub number_argument : Rule

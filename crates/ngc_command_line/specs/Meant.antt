@@ -5,6 +5,9 @@ use Rattle.std.specs.Str.{bytes_eq}
 use Rattle.std.specs.Str.Parse.{IsNumeral, digits_value, without_leading_plus}
 use Rattle.std.specs.Option.{option_map_or}
 use Rattle.clap.specs.Words.{IsUnsignedIn, Row, Shape, Text, all_of, fault_of, first_of}
+use Rattle.ngc_added_boxes.specs.Boxes.{AddedBoxes}
+use Rattle.ngc_added_boxes.specs.Texts.{parsed_boxes, parsed_fixtures}
+use Rattle.ngc_added_boxes.specs.declared.reading.BoxMistake.{BoxMistake}
 use Rattle.ngc_margins.specs.Changes.{no_changes}
 use Rattle.ngc_margins.specs.Demands.{Demand}
 use Rattle.ngc_margins.specs.Texts.{parsed_demands}
@@ -59,9 +62,15 @@ is_set name rows = option_map_or (λ value. bytes_eq value (codes "true")) (firs
 abbrev pub origins_in : List Row → Result OriginList OriginMistake
 origins_in rows = parsed_origins (unwrap_or (all_of (codes "origin") rows) [])
 
--- the texts of the options that replace keys of the machine file
+-- the fixtures that the values of `--fixture` write, all of them, or the first mistake
+abbrev pub fixtures_in : List Row → Result AddedBoxes BoxMistake
+fixtures_in rows = parsed_fixtures (unwrap_or (all_of (codes "fixture") rows) [])
+
+-- the texts of the options that replace keys of the machine file, or add to them
 pub record ChangeTexts : Type 0 where
   pub origins : Option (List Text)
+  pub fixtures : Option (List Text)
+  pub stock : Option Text
   pub margin : Option Text
   pub travel_margin : Option Text
   pub rapids : Option Text
@@ -69,31 +78,45 @@ pub record ChangeTexts : Type 0 where
 abbrev pub change_texts : List Row → ChangeTexts
 change_texts rows = record {
   origins = all_of (codes "origin") rows;
+  fixtures = all_of (codes "fixture") rows;
+  stock = first_of (codes "stock") rows;
   margin = first_of (codes "margin") rows;
   travel_margin = first_of (codes "travel-margin") rows;
   rapids = first_of (codes "rapids") rows;
 }
 
 abbrev pub no_texts : ChangeTexts
-no_texts = record { origins = None; margin = None; travel_margin = None; rapids = None }
+no_texts = record {
+  origins = None;
+  fixtures = None;
+  stock = None;
+  margin = None;
+  travel_margin = None;
+  rapids = None;
+}
 
 -- what the texts replace, if all of them can be read
-abbrev pub both_read : Result OriginList OriginMistake → Result Demand DemandMistake →
-    Option Changes
-both_read (Ok origins) (Ok demands) = Some (record { origins = origins; demands = demands })
-both_read _ _ = None
+abbrev pub all_read : Result OriginList OriginMistake → Result AddedBoxes BoxMistake →
+    Result Demand DemandMistake → Option Changes
+all_read (Ok origins) (Ok boxes) (Ok demands) =
+    Some (record { origins = origins; boxes = boxes; demands = demands })
+all_read _ _ _ = None
 
 abbrev pub demands_written : ChangeTexts → Result Demand DemandMistake
 demands_written t = parsed_demands t.margin t.travel_margin t.rapids
 
+abbrev pub boxes_written : ChangeTexts → Result AddedBoxes BoxMistake
+boxes_written t = parsed_boxes (unwrap_or t.fixtures []) t.stock
+
 abbrev pub changes_written : ChangeTexts → Option Changes
-changes_written t = both_read (parsed_origins (unwrap_or t.origins [])) (demands_written t)
+changes_written t =
+    all_read (parsed_origins (unwrap_or t.origins [])) (boxes_written t) (demands_written t)
 
 abbrev pub changes_in : List Row → Option Changes
 changes_in rows = changes_written (change_texts rows)
 
--- the values of `--origin` are origins, each of another system, and those of the other options that
--- replace keys of the machine file can be read
+-- the values of `--origin` are origins, each of another system, those of `--fixture` and `--stock` are
+-- boxes, and those of the other options that replace keys of the machine file can be read
 abbrev pub HaveChanges : Option (Text × List Row) → Type 0
 HaveChanges None = Unit {0}
 HaveChanges (Some found) = IsSome (changes_in found.1)
@@ -271,6 +294,7 @@ pub record AreMachineOptions (rows : List Row) (options : MachineOptions) : Type
   pub home30 : option_map (λ name. name.now) options.home30 ≡ first_of (codes "home30") rows
   pub ring : option_map (λ name. name.now) options.ring ≡ first_of (codes "ring") rows
   pub arc_feed : options.arc_feed ≡ is_set (codes "arc-feed") rows
+  pub rates : options.rates ≡ is_set (codes "rates") rows
 
 -- a value was found under the name
 abbrev pub HasValue : Text → List Row → Type 0
@@ -513,7 +537,7 @@ IsMachineRequest source corner ticks frame (ToMachine machine) =
     × (option_map (λ name. name.now) machine.home28 ≡ None)
     × (option_map (λ name. name.now) machine.home30 ≡ None)
     × (option_map (λ name. name.now) machine.ring ≡ None)
-    × (machine.arc_feed ≡ false)
+    × (machine.arc_feed ≡ false) × (machine.rates ≡ false)
 IsMachineRequest source corner ticks frame other = ⊥
 
 -- `help` is requested, for this command

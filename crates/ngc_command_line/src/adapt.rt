@@ -35,7 +35,7 @@ const TOOLS: Argument<'static> = Argument {
 pub(crate) static ADAPT: SubcommandRow<'static> = SubcommandRow {
     name: "adapt",
     about: "Print a part program for another control as one for this",
-    help_end: help_end!("  ngc adapt --from grbl --program part.nc > part.ngc"),
+    help_end: help_end!(program "  ngc adapt --from grbl --program part.nc > part.ngc"),
     arguments: &[FROM, MACHINE, TOOLS, PROGRAM, DELETE],
 };
 

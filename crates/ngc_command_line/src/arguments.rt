@@ -7,16 +7,30 @@ ghost use Rattle.ngc_command_line.specs.Meant.{HasValue, is_set};
 use crate::table::{Argument, Takes};
 use clap::ArgMatches;
 
-// The end of a command's help.
+// The end of a command's help, with an example. `program` precedes the example of a command that
+// reads a part program.
 macro_rules! help_end {
     ($example:literal) => {
+        help_end!($example, "")
+    };
+    (program $example:literal) => {
+        help_end!(
+            $example,
+            "`ngc.toml` beside the program, or `--job FILE`, names machine, tools
+and more: `ngc report part.nc` is then a whole command.
+"
+        )
+    };
+    ($example:literal, $job:literal) => {
         concat!(
             "Example:\n",
             $example,
             "
 
 `--out FILE` writes the output to a file: whole, or not at all.
-
+",
+            $job,
+            "
 Exit status:
   0  done
   1  input could not be read, output not written, or memory ran out
@@ -86,6 +100,22 @@ pub(crate) const ORIGIN: Argument<'static> = Argument {
     is_required: false,
     takes: Takes::Texts("PLACE"),
     help: "Origin of a system in place of the machine file's,\nin mm, as 54=60,40,-140; once for each system",
+};
+
+pub(crate) const FIXTURE: Argument<'static> = Argument {
+    name: "fixture",
+    is_named: true,
+    is_required: false,
+    takes: Takes::Texts("BOX"),
+    help: "Box that tools stay out of, added for this call, in\nmm, as clamp=54:-30,20,-10,-5,40,15; up to 16 times",
+};
+
+pub(crate) const STOCK: Argument<'static> = Argument {
+    name: "stock",
+    is_named: true,
+    is_required: false,
+    takes: Takes::Text("BOX"),
+    help: "Material in place of the machine file's, in mm, as\n54:0,0,-20,100,60,0",
 };
 
 pub(crate) const MARGIN: Argument<'static> = Argument {

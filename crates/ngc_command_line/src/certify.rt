@@ -6,8 +6,8 @@ ghost use Rattle.ngc_command_line.specs.Meant.{AreCertifyOptions, AreCuts, HasCe
 ghost use Rattle.ngc_command_line.specs.Meant.{IsFormat, changes_in};
 
 use crate::arguments::{
-    CUTS, DIALECT, MARGIN, ORIGIN, PROGRAM, RAPIDS, REQUIRED_MACHINE, REQUIRED_TOOLS,
-    TRAVEL_MARGIN, help_end, required,
+    CUTS, DIALECT, FIXTURE, MARGIN, ORIGIN, PROGRAM, RAPIDS, REQUIRED_MACHINE, REQUIRED_TOOLS,
+    STOCK, TRAVEL_MARGIN, help_end, required,
 };
 use crate::options::{CertifyOptions, Format};
 use crate::table::{Argument, SubcommandRow, Takes};
@@ -26,7 +26,7 @@ pub(crate) static CERTIFY: SubcommandRow<'static> = SubcommandRow {
     name: "certify",
     about: "Print a certificate that travel is kept and fixtures are cleared",
     help_end: help_end!(
-        "  ngc certify --program examples/slot.ngc \\
+        program "  ngc certify --program examples/slot.ngc \\
     --machine examples/clamped_mill.toml --tools examples/tools.toml > slot.cert"
     ),
     arguments: &[
@@ -36,6 +36,8 @@ pub(crate) static CERTIFY: SubcommandRow<'static> = SubcommandRow {
         CUTS,
         FORMAT,
         ORIGIN,
+        FIXTURE,
+        STOCK,
         MARGIN,
         TRAVEL_MARGIN,
         RAPIDS,

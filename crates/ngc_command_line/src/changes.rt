@@ -1,11 +1,16 @@
-//! `--origin`, `--margin`, `--travel-margin` and `--rapids`.
+//! `--origin`, `--fixture`, `--stock`, `--margin`, `--travel-margin` and `--rapids`.
 
 ghost use Rattle.std.specs.Prelude.{◌≡◌, Err, MatchResult, None, Ok, Some};
 ghost use Rattle.clap.specs.Words.{found_of, rows_of};
-ghost use Rattle.ngc_command_line.specs.Meant.{change_texts, changes_in, demands_written, origins_in};
+ghost use Rattle.clap.specs.Words.{first_of};
+ghost use Rattle.std.specs.Prelude.{codes};
+ghost use Rattle.ngc_added_boxes.specs.Texts.{and_stock};
+ghost use Rattle.ngc_command_line.specs.Meant.{change_texts, changes_in, demands_written};
+ghost use Rattle.ngc_command_line.specs.Meant.{fixtures_in, origins_in};
 
 use crate::UsageFault;
 use clap::ArgMatches;
+use ngc_added_boxes::{BoxMistake, Boxes, RefusedBox, read_fixtures, read_stock};
 use ngc_margins::{Changes, DemandMistake, Demands, read_demands};
 use ngc_origins::{OriginMistake, Origins, Refused, read_origins};
 use std::alloc::Global;
@@ -15,6 +20,10 @@ use std::alloc::Global;
 pub(crate) enum RefusedChange<'a> {
     /// A value of `--origin`.
     Origin(Refused<'a>),
+    /// A value of `--fixture`.
+    Fixture(RefusedBox<'a>),
+    /// The value of `--stock`.
+    Stock(BoxMistake),
     /// A value of another option.
     Demand(DemandMistake),
 }
@@ -41,6 +50,28 @@ fn reason(mistake: OriginMistake) -> &'static str {
     }
 }
 
+// Returns the fixtures in the words of a subcommand, or the first text that is none.
+fn fixtures_of<'a>(found: &ArgMatches<'a>) -> Result<Boxes, RefusedBox<'a>>
+    ensures { MatchResult result
+        (λ boxes. fixtures_in (rows_of (found_of found.now)) ≡ Ok boxes)
+        (λ refused. fixtures_in (rows_of (found_of found.now)) ≡ Err refused.mistake) }
+{
+    match found.get_strs("fixture") {
+        Some(texts) => read_fixtures(texts),
+        None => Ok(Boxes::none()),
+    }
+}
+
+// Returns these boxes with the block of material in the words of a subcommand, if there is one.
+fn with_stock_of(found: &ArgMatches<'_>, boxes: Boxes) -> Result<Boxes, BoxMistake>
+    ensures { result ≡ and_stock (Ok boxes) (first_of (codes "stock") (rows_of (found_of found.now))) }
+{
+    match found.get_str("stock") {
+        Some(text) => read_stock(boxes, text),
+        None => Ok(boxes),
+    }
+}
+
 fn origin_fault(alloc: Global, refused: &Refused<'_>) -> UsageFault {
     let (text, reason) = (refused.text, reason(refused.mistake));
     let told = format!(in alloc;
@@ -53,6 +84,43 @@ For more information, try '--help'.
         Ok(text) => UsageFault::Usage(text),
         Err(_) => UsageFault::Memory,
     }
+}
+
+fn box_reason(mistake: BoxMistake, corners: &'static str) -> &'static str {
+    match mistake {
+        BoxMistake::NoName => "the name before `=` is 1 to 40 printable characters",
+        BoxMistake::NoSystem => "the system before `:` is 54 to 59, 59.1, 59.2 or 59.3",
+        BoxMistake::NoCorners => corners,
+        BoxMistake::Flat => "the two corners differ in X, in Y and in Z",
+        BoxMistake::TooMany => "at most 16 fixtures are added",
+    }
+}
+
+fn box_fault(alloc: Global, option: &str, text: &str, reason: &str) -> UsageFault {
+    let told = format!(in alloc;
+        "error: invalid value '{text}' for '--{option} <BOX>': {reason}
+
+For more information, try '--help'.
+"
+    );
+    match told {
+        Ok(text) => UsageFault::Usage(text),
+        Err(_) => UsageFault::Memory,
+    }
+}
+
+fn fixture_fault(alloc: Global, refused: &RefusedBox<'_>) -> UsageFault {
+    let corners =
+        "two corners are six numbers from -4000 to 4000, in mm, with at most six decimals";
+    let reason = box_reason(refused.mistake, corners);
+    box_fault(alloc, "fixture", refused.text, reason)
+}
+
+fn stock_fault(alloc: Global, found: &ArgMatches<'_>, mistake: BoxMistake) -> UsageFault {
+    let corners =
+        "two corners are six numbers from -1000 to 1000, in mm, with at most six decimals";
+    let text = found.get_str("stock").unwrap_or("");
+    box_fault(alloc, "stock", text, box_reason(mistake, corners))
 }
 
 // Returns what the other three options demand, or the first that is refused.
@@ -76,8 +144,20 @@ pub(crate) fn changes_of<'a>(found: &ArgMatches<'a>) -> Result<Changes, RefusedC
         Ok(origins) => origins,
         Err(refused) => return Err(RefusedChange::Origin(refused)),
     };
+    let fixtures = match fixtures_of(found) {
+        Ok(fixtures) => fixtures,
+        Err(refused) => return Err(RefusedChange::Fixture(refused)),
+    };
+    let boxes = match with_stock_of(found, fixtures) {
+        Ok(boxes) => boxes,
+        Err(mistake) => return Err(RefusedChange::Stock(mistake)),
+    };
     match demands_of(found) {
-        Ok(demands) => Ok(Changes { origins, demands }),
+        Ok(demands) => Ok(Changes {
+            origins,
+            boxes,
+            demands,
+        }),
         Err(mistake) => Err(RefusedChange::Demand(mistake)),
     }
 }
@@ -128,6 +208,8 @@ pub(crate) fn change_fault(
 ) -> UsageFault {
     match refused {
         RefusedChange::Origin(refused) => origin_fault(alloc, refused),
+        RefusedChange::Fixture(refused) => fixture_fault(alloc, refused),
+        RefusedChange::Stock(mistake) => stock_fault(alloc, found, *mistake),
         RefusedChange::Demand(mistake) => demand_fault(alloc, found, *mistake),
     }
 }

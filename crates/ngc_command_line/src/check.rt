@@ -6,8 +6,8 @@ ghost use Rattle.ngc_command_line.specs.Meant.{AreCheckOptions, HasCheckValues, 
 
 use crate::CheckOptions;
 use crate::arguments::{
-    DIALECT, MARGIN, ORIGIN, PROGRAM, RAPIDS, REQUIRED_CERTIFICATE, REQUIRED_MACHINE,
-    REQUIRED_TOOLS, TRAVEL_MARGIN, help_end, required,
+    DIALECT, FIXTURE, MARGIN, ORIGIN, PROGRAM, RAPIDS, REQUIRED_CERTIFICATE, REQUIRED_MACHINE,
+    REQUIRED_TOOLS, STOCK, TRAVEL_MARGIN, help_end, required,
 };
 use crate::table::SubcommandRow;
 use clap::ArgMatches;
@@ -17,7 +17,7 @@ pub(crate) static CHECK: SubcommandRow<'static> = SubcommandRow {
     name: "check",
     about: "Print `accepted` if the certificate holds for the part program",
     help_end: help_end!(
-        "  ngc check --program examples/slot.ngc --certificate slot.cert \\
+        program "  ngc check --program examples/slot.ngc --certificate slot.cert \\
     --machine examples/clamped_mill.toml --tools examples/tools.toml"
     ),
     arguments: &[
@@ -26,6 +26,8 @@ pub(crate) static CHECK: SubcommandRow<'static> = SubcommandRow {
         REQUIRED_CERTIFICATE,
         PROGRAM,
         ORIGIN,
+        FIXTURE,
+        STOCK,
         MARGIN,
         TRAVEL_MARGIN,
         RAPIDS,

@@ -5,8 +5,8 @@ ghost use Rattle.clap.specs.Words.{found_of, rows_of};
 ghost use Rattle.ngc_command_line.specs.Meant.{AreDrawOptions, HasDrawValues, changes_in};
 
 use crate::arguments::{
-    DELETE, DIALECT, MARGIN, ORIGIN, PROGRAM, RAPIDS, REQUIRED_MACHINE, REQUIRED_TOOLS,
-    TRAVEL_MARGIN, flag_is_set, help_end, required,
+    DELETE, DIALECT, FIXTURE, MARGIN, ORIGIN, PROGRAM, RAPIDS, REQUIRED_MACHINE, REQUIRED_TOOLS,
+    STOCK, TRAVEL_MARGIN, flag_is_set, help_end, required,
 };
 use crate::options::DrawOptions;
 use crate::table::{Argument, SubcommandRow, Takes};
@@ -49,7 +49,7 @@ pub(crate) static DRAW: SubcommandRow<'static> = SubcommandRow {
     name: "draw",
     about: "Draw a part program, its fixtures and its travel as an SVG picture",
     help_end: help_end!(
-        "  ngc draw --program examples/slot.ngc \\
+        program "  ngc draw --program examples/slot.ngc \\
     --machine examples/clamped_mill.toml --tools examples/tools.toml > slot.svg"
     ),
     arguments: &[
@@ -62,6 +62,8 @@ pub(crate) static DRAW: SubcommandRow<'static> = SubcommandRow {
         BODIES,
         WHOLE,
         ORIGIN,
+        FIXTURE,
+        STOCK,
         MARGIN,
         TRAVEL_MARGIN,
         RAPIDS,

@@ -29,7 +29,7 @@ const TOOLS: Argument<'static> = Argument {
 pub(crate) static LIST: SubcommandRow<'static> = SubcommandRow {
     name: "list",
     about: "Print the commands of a part program, one a line",
-    help_end: help_end!("  ngc list --program examples/facing.ngc"),
+    help_end: help_end!(program "  ngc list --program examples/facing.ngc"),
     arguments: &[PROGRAM, MACHINE, TOOLS, DELETE, ORIGIN, DIALECT],
 };
 

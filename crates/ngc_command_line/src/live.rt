@@ -5,8 +5,8 @@ ghost use Rattle.clap.specs.Words.{found_of, rows_of};
 ghost use Rattle.ngc_command_line.specs.Meant.{AreLiveOptions, HasLiveValues, changes_in};
 
 use crate::arguments::{
-    DELETE, DIALECT, MARGIN, ORIGIN, RAPIDS, REQUIRED_CERTIFICATE, REQUIRED_MACHINE,
-    REQUIRED_TOOLS, TRAVEL_MARGIN, flag_is_set, help_end, required,
+    DELETE, DIALECT, FIXTURE, MARGIN, ORIGIN, RAPIDS, REQUIRED_CERTIFICATE, REQUIRED_MACHINE,
+    REQUIRED_TOOLS, STOCK, TRAVEL_MARGIN, flag_is_set, help_end, required,
 };
 use crate::options::LiveOptions;
 use crate::run::{INVERTED, LOG_OUTPUT, mask_of};
@@ -42,7 +42,7 @@ pub(crate) static LIVE: SubcommandRow<'static> = SubcommandRow {
     name: "live",
     about: "Run a part program over events as they arrive on standard input",
     help_end: help_end!(
-        "  ngc live --program examples/slot.ngc --certificate slot.cert \\
+        program "  ngc live --program examples/slot.ngc --certificate slot.cert \\
     --machine examples/clamped_mill.toml --tools examples/tools.toml"
     ),
     arguments: &[
@@ -56,6 +56,8 @@ pub(crate) static LIVE: SubcommandRow<'static> = SubcommandRow {
         FEED_RING,
         ABORT,
         ORIGIN,
+        FIXTURE,
+        STOCK,
         MARGIN,
         TRAVEL_MARGIN,
         RAPIDS,

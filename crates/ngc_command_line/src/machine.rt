@@ -128,6 +128,14 @@ const ARC_FEED: Argument<'static> = Argument {
     help: "Run arcs at their feed and `turn` at every place:\nthe default (`arc_feed` in the file switches it off)",
 };
 
+const RATES: Argument<'static> = Argument {
+    name: "rates",
+    is_named: true,
+    is_required: false,
+    takes: Takes::Nothing,
+    help: "Print the rates of version 2 in place of figures with\ntheir units",
+};
+
 pub(crate) static MACHINE: SubcommandRow<'static> = SubcommandRow {
     name: "machine",
     about: "Print a machine file from figures at hand, or from a dump of GRBL's settings",
@@ -151,6 +159,7 @@ pub(crate) static MACHINE: SubcommandRow<'static> = SubcommandRow {
         HOME30,
         RING,
         ARC_FEED,
+        RATES,
     ],
 };
 
@@ -173,5 +182,6 @@ pub(crate) fn machine_options<'a>(found: &ArgMatches<'a>) -> MachineOptions<'a>
         home30: found.get_str("home30"),
         ring: found.get_str("ring"),
         arc_feed: flag_is_set(found, "arc-feed"),
+        rates: flag_is_set(found, "rates"),
     }
 }

@@ -329,4 +329,6 @@ pub struct MachineOptions<'a> {
     pub ring: Option<&'a str>,
     /// Whether arcs run at their feed at every point.
     pub arc_feed: bool,
+    /// Whether the file has the rates of version 2 in place of figures with their units.
+    pub rates: bool,
 }

@@ -5,8 +5,8 @@ ghost use Rattle.clap.specs.Words.{found_of, rows_of};
 ghost use Rattle.ngc_command_line.specs.Meant.{ArePlaceOptions, HasPlaceValues, changes_in};
 
 use crate::arguments::{
-    CUTS, DIALECT, MARGIN, ORIGIN, PROGRAM, RAPIDS, REQUIRED_MACHINE, REQUIRED_TOOLS,
-    TRAVEL_MARGIN, flag_is_set, help_end, required,
+    CUTS, DIALECT, FIXTURE, MARGIN, ORIGIN, PROGRAM, RAPIDS, REQUIRED_MACHINE, REQUIRED_TOOLS,
+    STOCK, TRAVEL_MARGIN, flag_is_set, help_end, required,
 };
 use crate::certify::cuts_of;
 use crate::options::PlaceOptions;
@@ -27,7 +27,7 @@ pub(crate) static PLACE: SubcommandRow<'static> = SubcommandRow {
     name: "place",
     about: "Find where the origin of a coordinate system may lie for a part program to fit",
     help_end: help_end!(
-        "  ngc place --program examples/slot.ngc \\
+        program "  ngc place --program examples/slot.ngc \\
     --machine examples/clamped_mill.toml --tools examples/tools.toml"
     ),
     arguments: &[
@@ -38,6 +38,8 @@ pub(crate) static PLACE: SubcommandRow<'static> = SubcommandRow {
         CUTS,
         JSON,
         ORIGIN,
+        FIXTURE,
+        STOCK,
         MARGIN,
         TRAVEL_MARGIN,
         RAPIDS,

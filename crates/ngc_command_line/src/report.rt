@@ -5,8 +5,8 @@ ghost use Rattle.clap.specs.Words.{found_of, rows_of};
 ghost use Rattle.ngc_command_line.specs.Meant.{AreReportOptions, HasReportValues, changes_in};
 
 use crate::arguments::{
-    CUTS, DIALECT, MARGIN, ORIGIN, PROGRAM, RAPIDS, REQUIRED_MACHINE, REQUIRED_TOOLS,
-    TRAVEL_MARGIN, flag_is_set, help_end, required,
+    CUTS, DIALECT, FIXTURE, MARGIN, ORIGIN, PROGRAM, RAPIDS, REQUIRED_MACHINE, REQUIRED_TOOLS,
+    STOCK, TRAVEL_MARGIN, flag_is_set, help_end, required,
 };
 use crate::certify::cuts_of;
 use crate::options::ReportOptions;
@@ -34,7 +34,7 @@ pub(crate) static REPORT: SubcommandRow<'static> = SubcommandRow {
     name: "report",
     about: "Tell whether a part program fits, and how long it takes",
     help_end: help_end!(
-        "  ngc report --program examples/slot.ngc \\
+        program "  ngc report --program examples/slot.ngc \\
     --machine examples/clamped_mill.toml --tools examples/tools.toml"
     ),
     arguments: &[
@@ -45,6 +45,8 @@ pub(crate) static REPORT: SubcommandRow<'static> = SubcommandRow {
         ALL,
         JSON,
         ORIGIN,
+        FIXTURE,
+        STOCK,
         MARGIN,
         TRAVEL_MARGIN,
         RAPIDS,

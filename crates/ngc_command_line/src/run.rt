@@ -5,8 +5,8 @@ ghost use Rattle.clap.specs.Words.{IsUnsignedIn, first_of, found_of, rows_of};
 ghost use Rattle.ngc_command_line.specs.Meant.{AreRunsOptions, HasRunValues, IsMask, changes_in};
 
 use crate::arguments::{
-    DELETE, DIALECT, MARGIN, ORIGIN, PROGRAM, RAPIDS, REQUIRED_CERTIFICATE, REQUIRED_MACHINE,
-    REQUIRED_TOOLS, TRAVEL_MARGIN, flag_is_set, help_end, required,
+    DELETE, DIALECT, FIXTURE, MARGIN, ORIGIN, PROGRAM, RAPIDS, REQUIRED_CERTIFICATE,
+    REQUIRED_MACHINE, REQUIRED_TOOLS, STOCK, TRAVEL_MARGIN, flag_is_set, help_end, required,
 };
 use crate::options::{Options, Recording, RunOptions, RunThroughOptions};
 use crate::table::{Argument, SubcommandRow, Takes};
@@ -49,7 +49,7 @@ pub(crate) static RUN: SubcommandRow<'static> = SubcommandRow {
     name: "run",
     about: "Run a part program through, or over events, and print the log",
     help_end: help_end!(
-        "  ngc run --program examples/slot.ngc --certificate slot.cert \\
+        program "  ngc run --program examples/slot.ngc --certificate slot.cert \\
     --machine examples/clamped_mill.toml --tools examples/tools.toml"
     ),
     arguments: &[
@@ -62,6 +62,8 @@ pub(crate) static RUN: SubcommandRow<'static> = SubcommandRow {
         LOG_OUTPUT,
         INVERTED,
         ORIGIN,
+        FIXTURE,
+        STOCK,
         MARGIN,
         TRAVEL_MARGIN,
         RAPIDS,
@@ -73,7 +75,7 @@ pub(crate) static PULSES: SubcommandRow<'static> = SubcommandRow {
     name: "pulses",
     about: "Run a part program as `run` does, and print the pulses",
     help_end: help_end!(
-        "  ngc pulses --program examples/slot.ngc --certificate slot.cert \\
+        program "  ngc pulses --program examples/slot.ngc --certificate slot.cert \\
     --machine examples/clamped_mill.toml --tools examples/tools.toml > slot.vcd"
     ),
     arguments: &[
@@ -86,6 +88,8 @@ pub(crate) static PULSES: SubcommandRow<'static> = SubcommandRow {
         PULSES_OUTPUT,
         INVERTED,
         ORIGIN,
+        FIXTURE,
+        STOCK,
         MARGIN,
         TRAVEL_MARGIN,
         RAPIDS,

@@ -8,5 +8,5 @@ mod reading;
 mod report_lines;
 
 pub use origins::Origins;
-pub use reading::{OriginMistake, Refused, read_origins};
+pub use reading::{OriginMistake, Refused, read_origins, system_in};
 pub use report_lines::{say_origin_facts, say_origin_words};

@@ -57,8 +57,9 @@ fn split_equals(text: &[u8]) -> (&[u8], &[u8])
     (before, without_first(rest))
 }
 
-// Returns the position of a system among the nine of a machine file.
-fn system_in(code: &[u8]) -> Option<usize>
+/// Returns the position of a coordinate system among the nine of a machine file, 0 to 8, by its code
+/// without the G: `54` to `59`, `59.1`, `59.2` or `59.3`.
+pub fn system_in(code: &[u8]) -> Option<usize>
     ensures value { result ≡ spec.system_in code.now }
     ensures nine { IfSome result (λ system. system < 9) }
 {

@@ -20,4 +20,5 @@ returns c = record {
   home30 = c.get_str-13.ensures ∙ first_value-rows (found_of c.args.found.now) (codes "home30");
   ring = c.get_str-14.ensures ∙ first_value-rows (found_of c.args.found.now) (codes "ring");
   arc_feed = c.flag_is_set.ensures;
+  rates = c.flag_is_set-2.ensures;
 }
