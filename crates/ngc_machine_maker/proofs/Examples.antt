@@ -11,7 +11,7 @@ use Rattle.ngc_machine_maker.specs.declared.figures.PerAxis.{PerAxis}
 use Rattle.ngc_machine_maker.specs.declared.figures.Speed.{Speed}
 use Rattle.ngc_machine_maker.specs.declared.refusal.FigureRefusal.TheVariants as refusals
 use Rattle.ngc_machine_maker.specs.declared.refusal.Stop.TheVariants as stops
-use Rattle.ngc_machine_maker.specs.Formulas.{nearest_step}
+use Rattle.ngc_machine_maker.specs.Formulas.{nearest_step, no_dump}
 use Rattle.ngc_machine_maker.specs.Numbers.{numbers_of, ring_of}
 use Rattle.ngc_machine_maker.specs.Options.{usual_corner}
 
@@ -74,6 +74,7 @@ small_router = record {
   start = three (mm 0) (mm 0) (mm 0);
   home28 = None;
   home30 = None;
+  dump = no_dump;
 }
 
 numbers_of_a_small_router : numbers_of small_router ≡ Ok (record {
@@ -115,6 +116,7 @@ bench_mill = record {
   start = three (mm 1) (mm 1) (mm 1);
   home28 = Some (three (mm 0) (mm 0) (mm 0));
   home30 = None;
+  dump = no_dump;
 }
 
 numbers_of_a_bench_mill : numbers_of bench_mill ≡ Ok (record {
@@ -155,6 +157,7 @@ large_router = record {
   start = three (mm 0) (mm 0) (mm 100);
   home28 = None;
   home30 = None;
+  dump = no_dump;
 }
 
 numbers_of_a_large_router : numbers_of large_router ≡ Ok (record {

@@ -8,7 +8,7 @@ pub mod Examples
 pub mod UnitLaws
 -- The number of leading digits of a text, the number that they write, and numbers up to a limit.
 pub mod Digits
--- The lines of a text, in order.
+-- The lines of a dump, in order.
 pub mod LineLaws
 -- Texts with computed results: a machine file, a note, options, and the settings of a controller
 -- with Grbl.

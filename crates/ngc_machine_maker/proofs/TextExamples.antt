@@ -10,15 +10,20 @@ use Rattle.ngc_machine_maker.specs.declared.numbers.MachineNumbers.{MachineNumbe
 use Rattle.ngc_machine_maker.specs.declared.refusal.Field.TheVariants as fields
 use Rattle.ngc_machine_maker.specs.declared.refusal.FigureRefusal.TheVariants as refusals
 use Rattle.ngc_machine_maker.specs.declared.refusal.Stop.TheVariants as stops
+use Rattle.ngc_machine_maker.specs.declared.refusal.Stored.TheVariants as places
 use Rattle.ngc_machine_maker.specs.Choices.{place_in, ring_in}
 use Rattle.ngc_machine_maker.specs.Decimals.{number_in}
 use Rattle.ngc_machine_maker.specs.File.{heading, scale_text, scale_after, steps_text, errors_text}
 use Rattle.ngc_machine_maker.specs.File.{step_lines, speed_lines, joint_lines, corner_comment, jump_comment}
 use Rattle.ngc_machine_maker.specs.File.{acceleration_lines, ring_lines, arc_feed_comment, arc_feed_lines, place_lines, grbl_lines, dialect_lines}
 use Rattle.ngc_machine_maker.specs.File.{file_text, notes_text}
-use Rattle.ngc_machine_maker.specs.Grbl.{lines_of, has_setting, value_of, setting, figures_in}
+use Rattle.ngc_grbl_lines.specs.Lines.{lines_of}
+use Rattle.ngc_grbl_lines.specs.Entries.{content, after_dollar, after_number, setting_number, setting_value, place_text, place_name, place_values}
+use Rattle.ngc_machine_maker.specs.DumpLines.{supplied_lines, axis_defaults, offset_after}
+use Rattle.ngc_machine_maker.specs.Grbl.{has_setting, value_in, setting, figures_in}
+use Rattle.ngc_machine_maker.specs.Stored.{stored_text, stored_in, place}
 use Rattle.ngc_machine_maker.specs.Options.{lengths_in, speeds_in, second_speed_in, frame_in}
-use Rattle.ngc_machine_maker.specs.Sentences.{refusal_text, refusal_line, axis_text, stop_text}
+use Rattle.ngc_machine_maker.specs.Sentences.{refusal_text, refusal_line, axis_text, stop_text, value_text as mistake_text, unequal_text, example_text}
 use Rattle.ngc_machine_maker.specs.Texts.{line_text, value_text, remark_text}
 use Rattle.ngc_machine_maker.proofs.Examples.{three, mm, mm_a_minute, small_router, large_router}
 
@@ -46,7 +51,7 @@ small_numbers = record {
 -- 21 millionths per tick at 27,000 ticks per second are 15,309 steps per second squared: 19.136
 -- mm/s^2. 59,259 millionths of a step of 1,250 nm per tick are 119.999475 mm/min
 file_of_a_small_router : file_text small_numbers small_router ≡ codes "# Made by `ngc machine`. Lengths are nanometres, rates are millionths of a step in a\n# tick, three numbers are X, Y, Z, and remarks are in the units of a shop.\n\nversion = 2\nstep = 1250 # 0.00125 mm\nticks_per_second = 27000 # how often the controller may make steps\nmax_rate = 493827 # 1000 mm/min\naxis_rate = [493827, 493827, 296296] # X 1000, Y 1000, Z 599.999 mm/min\n# `corner`: motions may meet at this speed at any angle. By default it is what the axis\n# with the least acceleration reaches in 5 ms, and at least 2 mm/s.\ncorner = 59259 # 119.999 mm/min\n# `jump`: an axis may gain or lose this speed at once where motions meet. At the machine\n# start with half of it, raise it until you hear lost steps, and keep two thirds.\njump = 59259 # 119.999 mm/min\nchange = 21 # 19.136 mm/s^2\nturn = 21947873 # 20 mm/s^2 on arcs, up to twice that while slowing down\n# `ring`: the controller looks ahead over this many. If short lines are slow, try 1024.\nring = 256 # how many commands are loaded and not done at most\n# `arc_feed`: if arcs run roughly, try 0 here and half of `turn`. Then they are slower.\narc_feed = 2 # arcs run at their feed and their turn at every place\nlow = [0, 0, -45000000] # X 0, Y 0, Z -45 mm\nhigh = [300000000, 180000000, 0] # X 300, Y 180, Z 0 mm\nstart = [0, 0, 0] # X 0, Y 0, Z 0 mm\nhome28 = [0, 0, 0] # X 0, Y 0, Z 0 mm\nhome30 = [0, 0, 0] # X 0, Y 0, Z 0 mm\n"
-unfolding digits number_text length_text heading scale_after step_lines speed_lines joint_lines corner_comment jump_comment acceleration_lines ring_lines arc_feed_comment place_lines line_text value_text remark_text
+unfolding digits number_text length_text heading scale_after supplied_lines axis_defaults offset_after step_lines speed_lines joint_lines corner_comment jump_comment acceleration_lines ring_lines arc_feed_comment place_lines line_text value_text remark_text
 file_of_a_small_router = refl
 
 -- another ring, and no line without arcs at their feed
@@ -66,7 +71,7 @@ no_lines_of_a_dialect : dialect_lines false ≡ codes ""
 no_lines_of_a_dialect = refl
 
 no_note_of_a_small_router : notes_text small_numbers small_router ≡ codes ""
-unfolding scale_after
+unfolding scale_after offset_after
 no_note_of_a_small_router = refl
 
 -- 799.996932 mm in steps of 5,292 nm are 151,171 steps, which the motor makes 799.948141 mm long
@@ -75,7 +80,7 @@ note_of_a_large_router : notes_text (record small_numbers {
   low = three (pos 0) (pos 0) (pos 0);
   high = three (pos 799996932) (pos 599996376) (pos 99997632);
 }) large_router ≡ codes "note: the motors' step is 5291.677 nm, and the file's 5292 nm: over their travel the axes go X 0.048791, Y 0.036593, Z 0.006099 mm less far than the file says\n"
-unfolding digits number_text scale_after scale_text steps_text errors_text
+unfolding digits number_text scale_after offset_after scale_text steps_text errors_text
 note_of_a_large_router = refl
 
 -- ---- options
@@ -151,19 +156,40 @@ figures_of_settings : figures_in (codes "Grbl 1.1f ['$' for help]\n$23=3 (homing
       zero = three ends.High ends.High ends.High;
       start = three (mm 299) (mm 179) (mm 1);
     })
-unfolding lines_of has_setting value_of setting number_in
+unfolding lines_of content after_dollar after_number setting_number setting_value place_text place_name place_values stored_text has_setting value_in setting place number_in
 figures_of_settings = refl
 
-unequal_settings : figures_in (codes "$23=3\n$27=1.000\n$100=800.000\n$101=400.000\n$102=800.000\n" ++ settings_of_feed) ≡ Err refusals.UnequalSteps
-unfolding lines_of has_setting value_of setting number_in
+unequal_settings : figures_in (codes "$23=3\n$27=1.000\n$100=800.000\n$101=400.000\n$102=800.000\n" ++ settings_of_feed) ≡ Err (refusals.UnequalSteps (three 800000000 400000000 800000000))
+unfolding lines_of content after_dollar after_number setting_number setting_value place_text place_name place_values stored_text has_setting value_in setting place number_in
 unequal_settings = refl
 
-missing_setting : figures_in (codes "$27=1.000\n$100=800.000\n$101=800.000\n$102=800.000\n" ++ settings_of_feed) ≡ Err (refusals.Missing 23)
-unfolding lines_of has_setting value_of setting number_in
+missing_setting : figures_in (codes "$23=3\n$27=1.000\n$100=800.000\n$101=800.000\n" ++ settings_of_feed) ≡ Err (refusals.Missing 102)
+unfolding lines_of content after_dollar after_number setting_number setting_value has_setting value_in setting number_in
 missing_setting = refl
 
+negative_setting : setting (codes "[12:30:01] $130 = -300.000 (x)\n") 130 6 ≡ Err (refusals.Negative 130 1)
+unfolding lines_of content after_dollar after_number setting_number setting_value has_setting value_in setting number_in
+negative_setting = refl
+
+setting_after_a_time : setting (codes "; $27=2\n[12:30:01] >>> $27 = 1.000 (pull-off)\n$27=3\n") 27 6 ≡ Ok (Some 1000000)
+unfolding lines_of content after_dollar after_number setting_number setting_value has_setting value_in setting number_in
+setting_after_a_time = refl
+
+-- -2.3622 inches are -59.99988 mm
+place_in_millimetres : stored_in false (codes "-60.000,-80.000,25.500") ≡ Some (three (neg_ℤ (pos 60000000)) (neg_ℤ (pos 80000000)) (pos 25500000))
+unfolding number_in stored_in
+place_in_millimetres = refl
+
+place_in_inches : stored_in true (codes "-2.3622,0.0000,1.0000,0.5000") ≡ Some (three (neg_ℤ (pos 59999880)) (pos 0) (pos 25400000))
+unfolding number_in stored_in
+place_in_inches = refl
+
+place_after_a_time : place (codes "[G54:0.000,0.000,0.000]\n[12:30:01] [G28:1.000,2.000,-3.000]\n") false places.G28 ≡ Ok (Some (three (pos 1000000) (pos 2000000) (neg_ℤ (pos 3000000))))
+unfolding lines_of content place_text place_name place_values stored_text stored_in place number_in
+place_after_a_time = refl
+
 setting_with_a_comma : figures_in (codes "$23=3\n$100=800,000\n") ≡ Err (refusals.Setting 100 2)
-unfolding lines_of has_setting value_of setting number_in
+unfolding lines_of content after_dollar after_number setting_number setting_value place_text place_name place_values stored_text has_setting value_in setting place number_in
 setting_with_a_comma = refl
 
 -- ---- the texts of refusals
@@ -173,5 +199,10 @@ unfolding refusal_text axis_text stop_text
 sentence_of_a_place = refl
 
 sentence_of_a_setting : refusal_line (refusals.Setting 100 2) ≡ codes "line 2: the value of $100 is not a number, as in $100=800.000\n"
-unfolding digits refusal_text
+unfolding digits refusal_text mistake_text
 sentence_of_a_setting = refl
+
+sentence_of_unequal_steps : refusal_line (refusals.UnequalSteps (three 80000000 80000000 400000000))
+    ≡ codes "$100, $101 and $102 are 80, 80 and 400 steps a mm, and one step serves all axes: set the drivers' microsteps so that all three are equal, for example 400\n"
+unfolding digits number_text refusal_text unequal_text example_text
+sentence_of_unequal_steps = refl

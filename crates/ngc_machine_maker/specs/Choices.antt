@@ -126,4 +126,5 @@ chosen f choices =
       start = start;
       home28 = home28;
       home30 = home30;
+      dump = f.dump;
     })))))))))

@@ -7,6 +7,7 @@ use Rattle.ngc_machine_maker.specs.declared.line.Remark.{Remark}
 use Rattle.ngc_machine_maker.specs.declared.line.Remark.TheVariants as remarks
 use Rattle.ngc_machine_maker.specs.declared.line.Value.TheVariants as values
 use Rattle.ngc_machine_maker.specs.declared.numbers.MachineNumbers.{MachineNumbers}
+use Rattle.ngc_machine_maker.specs.DumpLines.{supplied_lines, offset_after, origin_lines, home_by}
 use Rattle.ngc_machine_maker.specs.ShopUnits.{speed, speeds, acceleration, arc_acceleration}
 use Rattle.ngc_machine_maker.specs.ShopUnits.{motor_step, is_whole, is_short, errors}
 use Rattle.ngc_machine_maker.specs.Texts.{line_text, thousandths_text, axes_text}
@@ -96,10 +97,11 @@ arc_feed_lines arc_feed =
 abbrev pub place_line : List ℕ → PerAxis ℤ → List ℕ
 place_line key place = line_text key (values.Place place) (remarks.Place place)
 
-unfoldable pub place_lines : MachineNumbers → List ℕ
-place_lines n = place_line (codes "low") n.low ++ place_line (codes "high") n.high
-    ++ place_line (codes "start") n.start ++ place_line (codes "home28") n.home28
-    ++ place_line (codes "home30") n.home30
+unfoldable pub place_lines : MachineNumbers → Figures → List ℕ
+place_lines n f = place_line (codes "low") n.low ++ place_line (codes "high") n.high
+    ++ place_line (codes "start") n.start
+    ++ place_line (codes "home28") (home_by n.home28 f.home28 f.dump.places.g28)
+    ++ place_line (codes "home30") (home_by n.home30 f.home30 f.dump.places.g30)
 
 -- the language of programs, if it isn't our own
 unfoldable pub grbl_lines : List ℕ
@@ -113,10 +115,11 @@ dialect_lines grbl = if grbl then grbl_lines else []
 
 -- the whole file
 abbrev pub file_text : MachineNumbers → Figures → List ℕ
-file_text n f = heading ++ scale_after (codes "# ") n f ++ step_lines n ++ speed_lines n
+file_text n f = heading ++ scale_after (codes "# ") n f ++ supplied_lines f.dump.supplied
+    ++ offset_after (codes "# ") f.dump.places ++ step_lines n ++ speed_lines n
     ++ joint_lines n ++ acceleration_lines n ++ ring_lines n.ring ++ arc_feed_lines n.arc_feed
-    ++ place_lines n ++ dialect_lines f.grbl
+    ++ place_lines n f ++ origin_lines f.dump.places ++ dialect_lines f.grbl
 
 -- the notes on it
 abbrev pub notes_text : MachineNumbers → Figures → List ℕ
-notes_text n f = scale_after (codes "note: ") n f
+notes_text n f = scale_after (codes "note: ") n f ++ offset_after (codes "note: ") f.dump.places

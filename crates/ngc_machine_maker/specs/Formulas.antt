@@ -3,9 +3,10 @@
 -- steps, and the lesser number of steps is used. So the machine is neither faster than requested
 -- nor goes farther, with the file's step or with the motor's.
 use Rattle.std.specs.Prelude.{ℕ, ◌+◌, ◌*◌, ◌/◌, ◌==◌, ◌||◌, nat_lt, min, max, Option, Some, None}
-use Rattle.std.specs.Prelude.{Result, Ok, Err, Bool, if◌then◌else◌}
+use Rattle.std.specs.Prelude.{Result, Ok, Err, Bool, false, if◌then◌else◌}
 use Rattle.ngc_machine_maker.specs.declared.figures.Axis.{Axis}
 use Rattle.ngc_machine_maker.specs.declared.figures.Axis.TheVariants as axes
+use Rattle.ngc_machine_maker.specs.declared.figures.Dump.{Dump}
 use Rattle.ngc_machine_maker.specs.declared.figures.PerAxis.{PerAxis}
 use Rattle.ngc_machine_maker.specs.declared.figures.Ratio.{Ratio}
 use Rattle.ngc_machine_maker.specs.declared.figures.StepsPerMillimetre.{StepsPerMillimetre}
@@ -21,6 +22,33 @@ use Rattle.ngc_machine_maker.specs.declared.scale.Scale.{Scale}
 abbrev pub and_then : {T U : Type 0} → Result T FigureRefusal → (T → Result U FigureRefusal) → Result U FigureRefusal
 and_then (Err refusal) f = Err refusal
 and_then (Ok x) f = f x
+
+-- what figures have that are from no dump of settings
+abbrev pub none_supplied : PerAxis Bool
+none_supplied = record { x = false; y = false; z = false }
+
+abbrev pub no_dump : Dump
+no_dump =
+    record {
+      supplied = record {
+        unit = false;
+        ends = false;
+        pull_off = false;
+        feed = none_supplied;
+        acceleration = none_supplied;
+      };
+      places = record {
+        g54 = None;
+        g55 = None;
+        g56 = None;
+        g57 = None;
+        g58 = None;
+        g59 = None;
+        g28 = None;
+        g30 = None;
+        g92 = None;
+      };
+    }
 
 -- a millimetre has 1,000,000 nm, and steps per millimetre are in millionths
 abbrev pub ratio_of : StepsPerMillimetre → Ratio

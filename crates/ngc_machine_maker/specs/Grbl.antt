@@ -1,110 +1,159 @@
 -- The settings of a controller with Grbl, as it prints them after $$: a line for each, as
--- $100=800.000 or $100=800.000 (x, step/mm).
-use Rattle.std.specs.Prelude.{ℕ, zero, suc, ◌+◌, ◌-◌, ◌/◌, ◌%◌, ◌==◌, ◌&&◌, ◌||◌, not, min, Bool}
-use Rattle.std.specs.Prelude.{List, [], ◌∷◌, length, take, drop, Option, Some, None, Result}
+-- $100=800.000 or $100 = 800.000 (x, step/mm).
+use Rattle.std.specs.Prelude.{ℕ, ◌+◌, ◌-◌, ◌/◌, ◌%◌, ◌==◌, ◌&&◌, ◌||◌, not, Bool, List, []}
+use Rattle.std.specs.Prelude.{◌∷◌, length, drop, Option, Some, None, is_some, is_none, Result}
 use Rattle.std.specs.Prelude.{Ok, Err, true, false, if◌then◌else◌}
-use Rattle.std.specs.Char.{is_ascii_digit}
-use Rattle.std.specs.List.{prefix_len}
+use Rattle.ngc_grbl_lines.specs.Lines.{lines_of}
+use Rattle.ngc_grbl_lines.specs.Entries.{setting_number, setting_value}
 use Rattle.ngc_machine_maker.specs.declared.figures.End.TheVariants as ends
 use Rattle.ngc_machine_maker.specs.declared.figures.Figures.{Figures}
+use Rattle.ngc_machine_maker.specs.declared.figures.Dump.{Dump}
 use Rattle.ngc_machine_maker.specs.declared.figures.Length.{Length}
 use Rattle.ngc_machine_maker.specs.declared.figures.PerAxis.{PerAxis}
 use Rattle.ngc_machine_maker.specs.declared.figures.StepsPerMillimetre.{StepsPerMillimetre}
+use Rattle.ngc_machine_maker.specs.declared.figures.StoredPlaces.{StoredPlaces}
+use Rattle.ngc_machine_maker.specs.declared.figures.Supplied.{Supplied}
+use Rattle.ngc_machine_maker.specs.declared.grbl.Settings.{Settings}
 use Rattle.ngc_machine_maker.specs.declared.refusal.FigureRefusal.{FigureRefusal}
 use Rattle.ngc_machine_maker.specs.declared.refusal.FigureRefusal.TheVariants as refusals
-use Rattle.ngc_machine_maker.specs.Decimals.{begins, number_in}
+use Rattle.ngc_machine_maker.specs.Decimals.{begins, is_number, number_in}
 use Rattle.ngc_machine_maker.specs.Formulas.{and_then}
 use Rattle.ngc_machine_maker.specs.Options.{each_of, length_of, speed_of, acceleration_of, steps}
 use Rattle.ngc_machine_maker.specs.Options.{same_for_all, figures_by}
-
--- ---- lines
-
-abbrev pub is_no_feed : ℕ → Bool
-is_no_feed b = not (b == 10)
-
--- the number of bytes of a text's first line, with its line feed
-abbrev pub line_length : List ℕ → ℕ
-line_length text = min (prefix_len is_no_feed text + 1) (length text)
-
--- the first n lines of a text
-abbrev pub lines_within : ℕ → List ℕ → List (List ℕ)
-lines_within zero text = []
-lines_within (suc n) [] = []
-lines_within (suc n) (b ∷ rest) =
-    let text = b ∷ rest in
-    take (line_length text) text ∷ lines_within n (drop (line_length text) text)
-
--- the lines of a text, each with its line feed
-unfoldable pub lines_of : List ℕ → List (List ℕ)
-lines_of text = lines_within (length text) text
+use Rattle.ngc_machine_maker.specs.Stored.{places_in}
 
 -- ---- a setting
-
-abbrev pub is_no_equals : ℕ → Bool
-is_no_equals b = not (b == 61)
-
-abbrev pub before_equals : List ℕ → List ℕ
-before_equals text = take (prefix_len is_no_equals text) text
-
-abbrev pub after_equals : List ℕ → List ℕ
-after_equals text = drop 1 (drop (prefix_len is_no_equals text) text)
 
 abbrev pub is_some_number : ℕ → Option ℕ → Bool
 is_some_number number None = false
 is_some_number number (Some n) = n == number
 
--- a line that has the setting with this number: $, the number, and the rest
+-- a line that has the setting with this number
 unfoldable pub has_setting : ℕ → List ℕ → Bool
-has_setting number line =
-    begins 36 line && is_some_number number (number_in 0 (before_equals (drop 1 line)))
+has_setting number line = is_some_number number (number_in 0 (setting_number line))
 
-abbrev pub is_of_value : ℕ → Bool
-is_of_value b = is_ascii_digit b || (b == 46)
+-- a number of any length, which may begin with a minus sign
+abbrev pub is_any_number : List ℕ → Bool
+is_any_number text = is_number (length text) text
 
--- a blank, the end of the line, or the parenthesis of a remark
-abbrev pub ends_value : ℕ → Bool
-ends_value b = (b == 32) || ((b == 9) || ((b == 13) || ((b == 10) || (b == 40))))
+abbrev pub is_negative : List ℕ → Bool
+is_negative text = begins 45 text && is_any_number (drop 1 text)
 
-abbrev pub ends_well : List ℕ → Bool
-ends_well [] = true
-ends_well (b ∷ rest) = ends_value b
+-- why the value of a setting can't be used
+abbrev pub unusable : ℕ → ℕ → List ℕ → FigureRefusal
+unusable number at text =
+    if is_negative text then refusals.Negative number at else
+    (if is_any_number text then refusals.Digits number at else refusals.Setting number at)
 
--- the value of the setting on a line, in units of which 10 ^ places make one
-unfoldable pub value_of : ℕ → List ℕ → Option ℕ
-value_of places line =
-    let value = after_equals line in
-    if ends_well (drop (prefix_len is_of_value value) value)
-    then number_in places (take (prefix_len is_of_value value) value) else None
+abbrev pub value_by : ℕ → ℕ → List ℕ → Option ℕ → Result (Option ℕ) FigureRefusal
+value_by number at text None = Err (unusable number at text)
+value_by number at text (Some n) = Ok (Some n)
 
-abbrev pub value_by : ℕ → ℕ → Option ℕ → Result ℕ FigureRefusal
-value_by number at None = Err (refusals.Setting number at)
-value_by number at (Some n) = Ok n
+-- the value of a setting, in units of which 10 ^ places make one
+unfoldable pub value_in : ℕ → ℕ → ℕ → List ℕ → Result (Option ℕ) FigureRefusal
+value_in number places at text = value_by number at text (number_in places text)
 
 -- the value of a setting, from the first of these lines that has it; the first line has the number
 -- `at`
-abbrev pub setting_in : ℕ → ℕ → ℕ → List (List ℕ) → Result ℕ FigureRefusal
-setting_in number places at [] = Err (refusals.Missing number)
+abbrev pub setting_in : ℕ → ℕ → ℕ → List (List ℕ) → Result (Option ℕ) FigureRefusal
+setting_in number places at [] = Ok None
 setting_in number places at (line ∷ rest) =
-    if has_setting number line then value_by number at (value_of places line)
+    if has_setting number line then value_in number places at (setting_value line)
     else setting_in number places (at + 1) rest
 
-unfoldable pub setting : List ℕ → ℕ → ℕ → Result ℕ FigureRefusal
+unfoldable pub setting : List ℕ → ℕ → ℕ → Result (Option ℕ) FigureRefusal
 setting text number places = setting_in number places 1 (lines_of text)
 
 -- three successive settings: X, Y and Z
-abbrev pub three_settings : List ℕ → ℕ → ℕ → Result (PerAxis ℕ) FigureRefusal
+abbrev pub three_settings : List ℕ → ℕ → ℕ → Result (PerAxis (Option ℕ)) FigureRefusal
 three_settings text number places =
     and_then (setting text number places) (λ x.
     and_then (setting text (number + 1) places) (λ y.
     and_then (setting text (number + 2) places) (λ z.
     Ok (record { x = x; y = y; z = z }))))
 
--- ---- figures
+-- settings that a dump must have: nobody can guess the steps and the travel of a machine
+abbrev pub required_by : ℕ → Option ℕ → Result ℕ FigureRefusal
+required_by number None = Err (refusals.Missing number)
+required_by number (Some n) = Ok n
+
+abbrev pub required : List ℕ → ℕ → ℕ → Result ℕ FigureRefusal
+required text number places = and_then (setting text number places) (λ n. required_by number n)
+
+abbrev pub three_required : List ℕ → ℕ → ℕ → Result (PerAxis ℕ) FigureRefusal
+three_required text number places =
+    and_then (required text number places) (λ x.
+    and_then (required text (number + 1) places) (λ y.
+    and_then (required text (number + 2) places) (λ z.
+    Ok (record { x = x; y = y; z = z }))))
 
 -- one step serves all axes
 abbrev pub common_steps : PerAxis ℕ → Result StepsPerMillimetre FigureRefusal
 common_steps p =
-    if p.x == p.y && p.y == p.z then Ok (steps p.x) else Err refusals.UnequalSteps
+    if p.x == p.y && p.y == p.z then Ok (steps p.x) else Err (refusals.UnequalSteps p)
+
+-- $100 to $102 are steps per millimetre, $110 to $112 the greatest speeds in millimetres per
+-- minute, $120 to $122 accelerations in millimetres per second squared, $130 to $132 the travel in
+-- millimetres, $23 the mask of axes that home to their low end, $27 the pull-off in millimetres,
+-- and $13 is not 0 if places are in inches
+abbrev pub settings_in : List ℕ → Result Settings FigureRefusal
+settings_in text =
+    and_then (three_required text 100 6) (λ all_steps.
+    and_then (common_steps all_steps) (λ steps.
+    and_then (three_settings text 110 3) (λ feed.
+    and_then (three_settings text 120 3) (λ acceleration.
+    and_then (three_required text 130 6) (λ travel.
+    and_then (setting text 23 0) (λ mask.
+    and_then (setting text 27 6) (λ pull_off.
+    and_then (setting text 13 0) (λ unit.
+    Ok (record {
+      steps = steps;
+      feed = feed;
+      acceleration = acceleration;
+      travel = travel;
+      mask = mask;
+      pull_off = pull_off;
+      unit = unit;
+    })))))))))
+
+-- ---- GRBL's defaults: 500 mm/min, 10 mm/s^2, homing to the high ends, a pull-off of 1 mm, and
+-- places in millimetres. They are those of its file config.h and of DEFAULTS_GENERIC, version 1.1
+
+abbrev pub or_default : ℕ → Option ℕ → ℕ
+or_default otherwise None = otherwise
+or_default otherwise (Some n) = n
+
+abbrev pub each_or : ℕ → PerAxis (Option ℕ) → PerAxis ℕ
+each_or otherwise p =
+    record {
+      x = or_default otherwise p.x;
+      y = or_default otherwise p.y;
+      z = or_default otherwise p.z;
+    }
+
+abbrev pub is_inches : Option ℕ → Bool
+is_inches unit = not (or_default 0 unit == 0)
+
+abbrev pub each_missing : PerAxis (Option ℕ) → PerAxis Bool
+each_missing p = record { x = is_none p.x; y = is_none p.y; z = is_none p.z }
+
+abbrev pub has_places : StoredPlaces → Bool
+has_places p =
+    is_some p.g54 || (is_some p.g55 || (is_some p.g56
+    || (is_some p.g57 || (is_some p.g58 || (is_some p.g59
+    || (is_some p.g28 || (is_some p.g30 || is_some p.g92)))))))
+
+abbrev pub supplied : Settings → StoredPlaces → Supplied
+supplied s places =
+    record {
+      unit = is_none s.unit && has_places places;
+      ends = is_none s.mask;
+      pull_off = is_none s.pull_off;
+      feed = each_missing s.feed;
+      acceleration = each_missing s.acceleration;
+    }
+
+-- ---- figures
 
 -- after homing an axis is away from its end by the pull-off: from its high end, where zero is, or
 -- from its low end if its bit of the mask is 1
@@ -119,9 +168,9 @@ homed_axes mask pull_off travel =
       z = homed (mask / 4 % 2) pull_off travel.z;
     }
 
--- the figures of a machine with GRBL, with another start
-abbrev pub started_by_grbl : Figures → PerAxis Length → Figures
-started_by_grbl f start =
+-- the figures of a machine with GRBL, with another start, and with what a dump has besides
+abbrev pub started_by_grbl : Figures → PerAxis Length → Dump → Figures
+started_by_grbl f start dump =
     record {
       scale = f.scale;
       travel = f.travel;
@@ -138,22 +187,27 @@ started_by_grbl f start =
       start = start;
       home28 = f.home28;
       home30 = f.home30;
+      dump = dump;
     }
 
--- $100 to $102 are steps per millimetre, $110 to $112 the greatest speeds in millimetres per
--- minute, $120 to $122 accelerations in millimetres per second squared, $130 to $132 the travel in
--- millimetres, $23 the mask of axes that home to their low end, and $27 the pull-off in
--- millimetres. Zero is at the high end of each axis, and the start is where homing ends
+-- zero is at the high end of each axis
+abbrev pub plain_figures : Settings → Figures
+plain_figures s =
+    figures_by s.steps (each_of length_of s.travel) (each_of speed_of (each_or 500000 s.feed))
+    (each_of acceleration_of (each_or 10000 s.acceleration)) (same_for_all ends.High)
+
+-- the start is where homing ends
+abbrev pub homed_start : Settings → PerAxis Length
+homed_start s =
+    each_of length_of (homed_axes (or_default 0 s.mask) (or_default 1000000 s.pull_off) s.travel)
+
+abbrev pub figures_from : Settings → StoredPlaces → Figures
+figures_from s places =
+    started_by_grbl (plain_figures s) (homed_start s)
+    (record { supplied = supplied s places; places = places })
+
 abbrev pub figures_in : List ℕ → Result Figures FigureRefusal
 figures_in text =
-    and_then (three_settings text 100 6) (λ all_steps.
-    and_then (common_steps all_steps) (λ steps.
-    and_then (three_settings text 110 3) (λ feed.
-    and_then (three_settings text 120 3) (λ acceleration.
-    and_then (three_settings text 130 6) (λ travel.
-    and_then (setting text 23 0) (λ mask.
-    and_then (setting text 27 6) (λ pull_off.
-    Ok (started_by_grbl
-    (figures_by steps (each_of length_of travel) (each_of speed_of feed)
-    (each_of acceleration_of acceleration) (same_for_all ends.High))
-    (each_of length_of (homed_axes mask pull_off travel))))))))))
+    and_then (settings_in text) (λ s.
+    and_then (places_in text (is_inches s.unit)) (λ places.
+    Ok (figures_from s places)))

@@ -11,5 +11,7 @@ pub mod File
 pub mod Decimals
 pub mod Options
 pub mod Choices
+pub mod Stored
 pub mod Grbl
+pub mod DumpLines
 pub mod Sentences

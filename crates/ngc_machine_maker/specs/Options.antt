@@ -16,7 +16,7 @@ use Rattle.ngc_machine_maker.specs.declared.refusal.Field.TheVariants as fields
 use Rattle.ngc_machine_maker.specs.declared.refusal.FigureRefusal.{FigureRefusal}
 use Rattle.ngc_machine_maker.specs.declared.refusal.FigureRefusal.TheVariants as refusals
 use Rattle.ngc_machine_maker.specs.Decimals.{number_in, numbers_in}
-use Rattle.ngc_machine_maker.specs.Formulas.{and_then, least, ratio_of}
+use Rattle.ngc_machine_maker.specs.Formulas.{and_then, least, no_dump, ratio_of}
 
 abbrev pub same_for_all : {T : Type 0} → T → PerAxis T
 same_for_all value = record { x = value; y = value; z = value }
@@ -119,6 +119,7 @@ figures_by steps travel feed acceleration zero =
       start = same_for_all (length_of 0);
       home28 = None;
       home30 = None;
+      dump = no_dump;
     }
 
 abbrev pub figures_of : Options → Result Figures FigureRefusal

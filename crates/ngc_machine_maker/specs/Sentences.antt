@@ -1,13 +1,17 @@
 -- The texts of refusals: what is wrong, and what to enter instead.
-use Rattle.std.specs.Prelude.{ℕ, List, ◌++◌, codes, decimal}
+use Rattle.std.specs.Prelude.{ℕ, ◌%◌, ◌==◌, ◌&&◌, nat_lt, nat_le, max, Bool, List, [], ◌++◌, codes}
+use Rattle.std.specs.Prelude.{decimal, if◌then◌else◌}
+use Rattle.ngc_text.specs.Millimetres.{size_text}
 use Rattle.ngc_machine_maker.specs.declared.figures.Axis.{Axis}
 use Rattle.ngc_machine_maker.specs.declared.figures.Axis.TheVariants as axes
+use Rattle.ngc_machine_maker.specs.declared.figures.PerAxis.{PerAxis}
 use Rattle.ngc_machine_maker.specs.declared.refusal.Field.{Field}
 use Rattle.ngc_machine_maker.specs.declared.refusal.Field.TheVariants as fields
 use Rattle.ngc_machine_maker.specs.declared.refusal.FigureRefusal.{FigureRefusal}
 use Rattle.ngc_machine_maker.specs.declared.refusal.FigureRefusal.TheVariants as refusals
 use Rattle.ngc_machine_maker.specs.declared.refusal.Stop.{Stop}
 use Rattle.ngc_machine_maker.specs.declared.refusal.Stop.TheVariants as stops
+use Rattle.ngc_machine_maker.specs.Stored.{stored_text}
 
 unfoldable pub axis_text : Axis → List ℕ
 axis_text axes.X = codes "X"
@@ -39,6 +43,36 @@ field_text fields.Ring = codes "--ring is not a whole number, as 64"
 field_text (fields.Stop stop) = codes "--" ++ stop_text stop
     ++ codes " is not three coordinates in mm, as 0,0,-1: below zero where zero is the high end"
 
+-- what is wrong with the value of a setting on a line
+unfoldable pub value_text : ℕ → ℕ → List ℕ → List ℕ
+value_text number at mistake = codes "line " ++ decimal at ++ codes ": the value of $"
+    ++ decimal number ++ mistake
+
+-- ---- steps that differ
+
+abbrev pub greatest : PerAxis ℕ → ℕ
+greatest p = max (max p.x p.y) p.z
+
+abbrev pub divides : ℕ → ℕ → Bool
+divides n m = nat_lt 0 n && (m % n == 0)
+
+-- other microsteps can make all of them the greatest, if that has up to 2,000 steps a millimetre
+-- and is a multiple of the others
+abbrev pub is_example : PerAxis ℕ → Bool
+is_example p =
+    nat_le (greatest p) 2000000000
+    && (divides p.x (greatest p) && (divides p.y (greatest p) && divides p.z (greatest p)))
+
+-- they are in millionths
+unfoldable pub unequal_text : PerAxis ℕ → List ℕ
+unequal_text p = codes "$100, $101 and $102 are " ++ size_text p.x ++ codes ", " ++ size_text p.y
+    ++ codes " and " ++ size_text p.z ++ codes " steps a mm, and one step serves all axes: "
+    ++ codes "set the drivers' microsteps so that all three are equal"
+
+unfoldable pub example_text : PerAxis ℕ → List ℕ
+example_text p =
+    if is_example p then codes ", for example " ++ size_text (greatest p) else []
+
 unfoldable pub refusal_text : FigureRefusal → List ℕ
 refusal_text (refusals.Unread field) = field_text field
 refusal_text refusals.Step = codes
@@ -63,10 +97,15 @@ refusal_text (refusals.Outside stop axis) = stop_text stop ++ codes " is outside
     ++ axis_text axis ++ codes ": give a place within it"
 refusal_text (refusals.Missing number) = codes "the setting $" ++ decimal number
     ++ codes " is missing: give all lines that Grbl prints after $$"
-refusal_text (refusals.Setting number at) = codes "line " ++ decimal at ++ codes ": the value of $"
-    ++ decimal number ++ codes " is not a number, as in $100=800.000"
-refusal_text refusals.UnequalSteps = codes
-    "$100, $101 and $102 differ: one step serves all axes, so make them equal"
+refusal_text (refusals.Setting number at) =
+    value_text number at (codes " is not a number, as in $100=800.000")
+refusal_text (refusals.Negative number at) = value_text number at
+    (codes " is below zero, and this setting can't be: write it without the minus sign")
+refusal_text (refusals.Digits number at) = value_text number at
+    (codes " has too many digits: write it as Grbl does, with at most three decimals")
+refusal_text (refusals.Place stored at) = codes "line " ++ decimal at ++ codes ": the place of "
+    ++ stored_text stored ++ codes " is not X, Y and Z, each at most 1000 mm from zero: correct it"
+refusal_text (refusals.UnequalSteps steps) = unequal_text steps ++ example_text steps
 
 -- a sentence on a line of its own
 abbrev pub refusal_line : FigureRefusal → List ℕ

@@ -1,5 +1,5 @@
 //! The optional settings of a machine, besides its figures.
-ghost use Rattle.std.specs.Prelude.{◌≡◌};
+ghost use Rattle.std.specs.Prelude.{◌≡◌, IfOk};
 ghost use Rattle.ngc_machine_maker.specs.Choices as spec;
 ghost use Rattle.ngc_machine_maker.specs.Options.{second_speed_in};
 
@@ -214,7 +214,8 @@ fn home_by(
 impl Figures {
     /// Returns the figures with these choices, or the first choice that can't be read.
     pub fn with_choices(&self, choices: &Choices<'_>) -> Result<Figures, FigureRefusal>
-        ensures { result ≡ spec.chosen self.now choices.now }
+        ensures value { result ≡ spec.chosen self.now choices.now }
+        ensures scale { IfOk result (λ f. f.scale ≡ self.now.scale) }
     {
         let corner = corner_by(self.corner, choices.corner)?;
         let jump = jump_by(self.jump, choices.jump)?;
@@ -240,6 +241,7 @@ impl Figures {
             start,
             home28,
             home30,
+            dump: self.dump,
         })
     }
 }

@@ -52,7 +52,7 @@ fn are_digits(text: &[u8]) -> bool
     text.iter().all(|b| b.is_ascii_digit())
 }
 
-fn is_number(text: &[u8], places: usize) -> bool
+pub(crate) fn is_number(text: &[u8], places: usize) -> bool
     ensures { result ≡ spec.is_number places text.now }
 {
     let (whole, rest) = split_whole(text);

@@ -1,6 +1,6 @@
 //! The figures that a shop knows of its machine.
 ghost use Rattle.std.specs.Prelude.{◌≡◌};
-ghost use Rattle.ngc_machine_maker.specs.Formulas.{ratio_of};
+ghost use Rattle.ngc_machine_maker.specs.Formulas.{no_dump, ratio_of};
 
 /// An axis of the machine.
 #[derive(Clone, Copy)]
@@ -71,6 +71,79 @@ pub enum End {
     High,
 }
 
+/// GRBL's defaults that a dump of its settings doesn't have, so that they are supplied.
+#[derive(Clone, Copy)]
+pub struct Supplied {
+    /// `$13`, whether places are in inches, if the dump has places.
+    pub unit: bool,
+    /// `$23`, the ends to which the axes home.
+    pub ends: bool,
+    /// `$27`, the pull-off.
+    pub pull_off: bool,
+    /// `$110` to `$112`, the greatest speeds.
+    pub feed: PerAxis<bool>,
+    /// `$120` to `$122`, the accelerations.
+    pub acceleration: PerAxis<bool>,
+}
+
+/// The places that a controller with GRBL has stored, in nanometres. `None`: a dump doesn't have it.
+#[derive(Clone, Copy)]
+pub struct StoredPlaces {
+    pub g54: Option<PerAxis<i64>>,
+    pub g55: Option<PerAxis<i64>>,
+    pub g56: Option<PerAxis<i64>>,
+    pub g57: Option<PerAxis<i64>>,
+    pub g58: Option<PerAxis<i64>>,
+    pub g59: Option<PerAxis<i64>>,
+    pub g28: Option<PerAxis<i64>>,
+    pub g30: Option<PerAxis<i64>>,
+    /// The offset of `G92`.
+    pub g92: Option<PerAxis<i64>>,
+}
+
+/// What a dump has besides figures, and what it lacks.
+#[derive(Clone, Copy)]
+pub struct Dump {
+    pub supplied: Supplied,
+    pub places: StoredPlaces,
+}
+
+impl Dump {
+    /// Returns what figures without a dump have: nothing.
+    pub fn none() -> Dump
+        ensures { result ≡ no_dump }
+    {
+        Dump {
+            supplied: Supplied {
+                unit: false,
+                ends: false,
+                pull_off: false,
+                feed: PerAxis {
+                    x: false,
+                    y: false,
+                    z: false,
+                },
+                acceleration: PerAxis {
+                    x: false,
+                    y: false,
+                    z: false,
+                },
+            },
+            places: StoredPlaces {
+                g54: None,
+                g55: None,
+                g56: None,
+                g57: None,
+                g58: None,
+                g59: None,
+                g28: None,
+                g30: None,
+                g92: None,
+            },
+        }
+    }
+}
+
 /// The figures of a machine. A stop is the distance of an axis from its zero, into the travel.
 #[derive(Clone, Copy)]
 pub struct Figures {
@@ -103,4 +176,7 @@ pub struct Figures {
     pub home28: Option<PerAxis<Length>>,
     /// The place to which `G30` goes. `None`: the start.
     pub home30: Option<PerAxis<Length>>,
+    /// What the dump of a controller with GRBL has besides. Its places for `G28` and `G30` count where
+    /// `home28` and `home30` are `None`.
+    pub dump: Dump,
 }

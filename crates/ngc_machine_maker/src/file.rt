@@ -18,6 +18,7 @@ ghost use Rattle.ngc_machine_maker.specs.Texts.{axes_text, line_text};
 ghost use Rattle.ngc_machine_maker.specs.declared.line.Value.TheVariants as values;
 ghost use Rattle.ngc_machine_maker.specs.declared.line.Remark.TheVariants as remarks;
 
+use crate::dump_lines::{home_by, say_offset_after, say_origins, say_supplied};
 use crate::figures::{Figures, PerAxis};
 use crate::line::{Remark, Value, say_line};
 use crate::numbers::MachineNumbers;
@@ -284,16 +285,19 @@ fn say_place<W: Sink>(key: &[u8], place: &PerAxis<i64>, page: &mut Page, output:
 }
 
 #[tactic(auto, unfolding(crate::specs::File::place_lines))]
-fn say_places<W: Sink>(numbers: &MachineNumbers, page: &mut Page, output: &mut W)
+fn say_places<W: Sink>(numbers: &MachineNumbers, figures: &Figures, page: &mut Page, output: &mut W)
     ensures { Says (W.written output.old) (W.written output.new)
         (W.failures output.old) (W.failures output.new) page.old page.new
-        (place_lines numbers.now) }
+        (place_lines numbers.now figures.now) }
 {
+    let stored = &figures.dump.places;
+    let home28 = home_by(&numbers.home28, &figures.home28, &stored.g28);
+    let home30 = home_by(&numbers.home30, &figures.home30, &stored.g30);
     say_place(b"low", &numbers.low, page, output);
     say_place(b"high", &numbers.high, page, output);
     say_place(b"start", &numbers.start, page, output);
-    say_place(b"home28", &numbers.home28, page, output);
-    say_place(b"home30", &numbers.home30, page, output);
+    say_place(b"home28", &home28, page, output);
+    say_place(b"home30", &home30, page, output);
 }
 
 #[tactic(auto, unfolding(crate::specs::File::grbl_lines))]
@@ -325,13 +329,16 @@ fn say_file<W: Sink>(numbers: &MachineNumbers, figures: &Figures, page: &mut Pag
 {
     say_heading(page, output);
     say_scale_after(b"# ", numbers, figures, page, output);
+    say_supplied(&figures.dump.supplied, page, output);
+    say_offset_after(b"# ", &figures.dump.places, page, output);
     say_step_lines(numbers, page, output);
     say_speed_lines(numbers, page, output);
     say_joint_lines(numbers, page, output);
     say_acceleration_lines(numbers, page, output);
     say_ring(numbers.ring, page, output);
     say_arc_feed(numbers.arc_feed, page, output);
-    say_places(numbers, page, output);
+    say_places(numbers, figures, page, output);
+    say_origins(&figures.dump.places, page, output);
     say_dialect(figures.grbl, page, output);
 }
 
@@ -355,8 +362,19 @@ pub fn write_machine_file<W: Sink>(
     page.finish(sink)
 }
 
+fn say_notes<W: Sink>(numbers: &MachineNumbers, figures: &Figures, page: &mut Page, output: &mut W)
+    requires numbers { AreInFile numbers.now }
+    requires scale { IsScale (scale_in numbers.now figures.now) }
+    ensures { Says (W.written output.old) (W.written output.new)
+        (W.failures output.old) (W.failures output.new) page.old page.new
+        (notes_text numbers.now figures.now) }
+{
+    say_scale_after(b"note: ", numbers, figures, page, output);
+    say_offset_after(b"note: ", &figures.dump.places, page, output);
+}
+
 /// Writes the notes on the file: how far the axes go if the motors' step is no whole number of
-/// nanometres. After a fault a prefix of them is written, and the sink has counted the failure.
+/// nanometres, and that an offset of G92 was in force. After a fault a prefix of them is written, and the sink has counted the failure.
 pub fn write_notes<W: Sink>(
     numbers: &MachineNumbers,
     figures: &Figures,
@@ -371,6 +389,6 @@ pub fn write_notes<W: Sink>(
     ensures counts { CountsFailure (W.failures sink.old) (W.failures sink.new) result }
 {
     let mut page = Page::new();
-    say_scale_after(b"note: ", numbers, figures, &mut page, sink);
+    say_notes(numbers, figures, &mut page, sink);
     page.finish(sink)
 }

@@ -115,7 +115,7 @@ fn coordinates(place: &PerAxis<i64>) -> [Part<'static>; 7]
 }
 
 #[tactic(auto, unfolding(crate::specs::Texts::value_text))]
-fn say_value<W: Sink>(value: &Value, page: &mut Page, output: &mut W)
+pub(crate) fn say_value<W: Sink>(value: &Value, page: &mut Page, output: &mut W)
     ensures { Says (W.written output.old) (W.written output.new)
         (W.failures output.old) (W.failures output.new) page.old page.new
         (value_text value.now) }
@@ -145,7 +145,7 @@ fn say_step<W: Sink>(nanometres: u32, page: &mut Page, output: &mut W)
 }
 
 #[tactic(auto, unfolding(crate::specs::Texts::remark_text))]
-fn say_remark<W: Sink>(remark: &Remark, page: &mut Page, output: &mut W)
+pub(crate) fn say_remark<W: Sink>(remark: &Remark, page: &mut Page, output: &mut W)
     ensures { Says (W.written output.old) (W.written output.new)
         (W.failures output.old) (W.failures output.new) page.old page.new
         (remark_text remark.now) }

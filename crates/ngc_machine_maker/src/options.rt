@@ -1,11 +1,11 @@
 //! Figures from the texts of options.
-ghost use Rattle.std.specs.Prelude.{◌≡◌};
+ghost use Rattle.std.specs.Prelude.{◌≡◌, IfOk};
 ghost use Rattle.ngc_machine_maker.specs.declared.refusal.Field.TheVariants as fields;
 ghost use Rattle.ngc_machine_maker.specs.Options as spec;
 
 use crate::decimal::{number_in, numbers_in};
 use crate::figures::{
-    Acceleration, End, Figures, Length, PerAxis, Ratio, Speed, StepsPerMillimetre,
+    Acceleration, Dump, End, Figures, Length, PerAxis, Ratio, Speed, StepsPerMillimetre,
 };
 use crate::rates::least;
 use crate::refusal::{Field, FigureRefusal};
@@ -191,13 +191,15 @@ pub(crate) fn figures_by(
         },
         home28: None,
         home30: None,
+        dump: Dump::none(),
     }
 }
 
 impl Figures {
     /// Returns the figures in these options, or the first option that can't be read.
     pub fn from_options(options: &Options<'_>) -> Result<Figures, FigureRefusal>
-        ensures { result ≡ spec.figures_of options.now }
+        ensures value { result ≡ spec.figures_of options.now }
+        ensures decimal { IfOk result (λ f. f.scale.per ≡ 1000000000000) }
     {
         let steps = steps_in(options.steps_per_mm)?;
         let travel = lengths_in(Field::Travel, options.travel)?;

@@ -1,6 +1,6 @@
 //! The reasons why figures are refused.
 
-use crate::figures::Axis;
+use crate::figures::{Axis, PerAxis};
 
 /// A place at which all axes stop.
 #[derive(Clone, Copy)]
@@ -24,6 +24,20 @@ pub enum Field {
     Ticks,
     Ring,
     Stop(Stop),
+}
+
+/// A place that a controller with GRBL stores.
+#[derive(Clone, Copy)]
+pub enum Stored {
+    G54,
+    G55,
+    G56,
+    G57,
+    G58,
+    G59,
+    G28,
+    G30,
+    G92,
 }
 
 /// The reasons why no machine file is made of some figures.
@@ -55,6 +69,13 @@ pub enum FigureRefusal {
     Missing(u32),
     /// The value of the setting with this number, on the line with that number, is no number.
     Setting(u32, usize),
-    /// The steps per millimetre differ from axis to axis.
-    UnequalSteps,
+    /// The value of the setting with this number, on the line with that number, is below zero.
+    Negative(u32, usize),
+    /// The value of the setting with this number, on the line with that number, is a number with too
+    /// many digits.
+    Digits(u32, usize),
+    /// The place on the line with this number can't be read, or is farther than 1,000 mm from zero.
+    Place(Stored, usize),
+    /// The steps per millimetre differ from axis to axis. They are in millionths.
+    UnequalSteps(PerAxis<u32>),
 }

@@ -1,5 +1,5 @@
 //! The texts of refusals.
-ghost use Rattle.std.specs.Prelude.{◌≡◌, ◌++◌, OnOk, OnErr};
+ghost use Rattle.std.specs.Prelude.{◌≡◌, ◌++◌, codes, OnOk, OnErr};
 ghost use Rattle.std.specs.Io.KnownBytes.{Appends};
 ghost use Rattle.ngc_sentences.specs.Saying.{Says};
 ghost use Rattle.ngc_text.specs.Failures.{CountsFailure};
@@ -7,9 +7,12 @@ ghost use Rattle.ngc_text.specs.Written.{AppendsPrefix};
 ghost use Rattle.ngc_machine_maker.specs.declared.refusal.FigureRefusal.TheVariants as refusals;
 ghost use Rattle.ngc_machine_maker.specs.Sentences.{axis_text, stop_text, field_text, refusal_text};
 ghost use Rattle.ngc_machine_maker.specs.Sentences.{refusal_line};
+ghost use Rattle.ngc_machine_maker.specs.Sentences as spec;
+ghost use Rattle.ngc_text.specs.Millimetres.{size_text};
 
-use crate::figures::Axis;
-use crate::refusal::{Field, FigureRefusal, Stop};
+use crate::figures::{Axis, PerAxis};
+use crate::refusal::{Field, FigureRefusal, Stop, Stored};
+use crate::stored::stored_name;
 use ngc_sentences::{Page, Part, say};
 use ngc_text::{Sink, WriteFault};
 
@@ -101,21 +104,95 @@ fn say_outside<W: Sink>(stop: Stop, axis: Axis, page: &mut Page, output: &mut W)
 }
 
 #[tactic(auto, unfolding(crate::specs::Sentences::refusal_text))]
-fn say_setting<W: Sink>(number: u32, at: usize, page: &mut Page, output: &mut W)
-    ensures { Says (W.written output.old) (W.written output.new)
-        (W.failures output.old) (W.failures output.new) page.old page.new
-        (refusal_text (refusals.Setting number at)) }
-{
-    say!(page, output; b"line ", Part::Number(at as u128), b": the value of $", Part::Number(u128::from(number)), b" is not a number, as in $100=800.000");
-}
-
-#[tactic(auto, unfolding(crate::specs::Sentences::refusal_text))]
 fn say_missing<W: Sink>(number: u32, page: &mut Page, output: &mut W)
     ensures { Says (W.written output.old) (W.written output.new)
         (W.failures output.old) (W.failures output.new) page.old page.new
         (refusal_text (refusals.Missing number)) }
 {
     say!(page, output; b"the setting $", Part::Number(u128::from(number)), b" is missing: give all lines that Grbl prints after $$");
+}
+
+// Says what is wrong with the value of a setting.
+#[tactic(auto, unfolding(crate::specs::Sentences::value_text))]
+fn say_value<W: Sink>(
+    number: u32,
+    at: usize,
+    mistake: &'static [u8],
+    page: &mut Page,
+    output: &mut W,
+)
+    ensures { Says (W.written output.old) (W.written output.new)
+        (W.failures output.old) (W.failures output.new) page.old page.new
+        (spec.value_text number at mistake.now) }
+{
+    say!(page, output; b"line ", Part::Number(at as u128), b": the value of $", Part::Number(u128::from(number)), Part::Text(mistake));
+}
+
+#[tactic(auto, unfolding(crate::specs::Sentences::refusal_text))]
+fn say_place<W: Sink>(stored: Stored, at: usize, page: &mut Page, output: &mut W)
+    ensures { Says (W.written output.old) (W.written output.new)
+        (W.failures output.old) (W.failures output.new) page.old page.new
+        (refusal_text (refusals.Place stored at)) }
+{
+    say!(page, output; b"line ", Part::Number(at as u128), b": the place of ", Part::Text(stored_name(stored)), b" is not X, Y and Z, each at most 1000 mm from zero: correct it");
+}
+
+fn greatest(steps: &PerAxis<u32>) -> u32
+    ensures { result ≡ spec.greatest steps.now }
+{
+    steps.x.max(steps.y).max(steps.z)
+}
+
+fn divides(number: u32, multiple: u32) -> bool
+    ensures { result ≡ spec.divides number multiple }
+{
+    number > 0 && multiple % number == 0
+}
+
+// Returns whether other microsteps can give all axes the greatest number of steps.
+fn is_example(steps: &PerAxis<u32>) -> bool
+    ensures { result ≡ spec.is_example steps.now }
+{
+    let all = greatest(steps);
+    all <= 2_000_000_000 && divides(steps.x, all) && divides(steps.y, all) && divides(steps.z, all)
+}
+
+#[tactic(auto, unfolding(crate::specs::Sentences::unequal_text))]
+fn say_unequal<W: Sink>(steps: &PerAxis<u32>, page: &mut Page, output: &mut W)
+    ensures { Says (W.written output.old) (W.written output.new)
+        (W.failures output.old) (W.failures output.new) page.old page.new
+        (spec.unequal_text steps.now) }
+{
+    say!(page, output; b"$100, $101 and $102 are ", Part::Size(u128::from(steps.x)), b", ", Part::Size(u128::from(steps.y)), b" and ", Part::Size(u128::from(steps.z)), b" steps a mm, and one step serves all axes: ", b"set the drivers' microsteps so that all three are equal");
+}
+
+fn say_some_example<W: Sink>(steps: u32, page: &mut Page, output: &mut W)
+    ensures { Says (W.written output.old) (W.written output.new)
+        (W.failures output.old) (W.failures output.new) page.old page.new
+        (codes ", for example " ++ size_text steps) }
+{
+    say!(page, output; b", for example ", Part::Size(u128::from(steps)));
+}
+
+#[tactic(auto, unfolding(crate::specs::Sentences::example_text))]
+fn say_example<W: Sink>(steps: &PerAxis<u32>, page: &mut Page, output: &mut W)
+    ensures { Says (W.written output.old) (W.written output.new)
+        (W.failures output.old) (W.failures output.new) page.old page.new
+        (spec.example_text steps.now) }
+{
+    if is_example(steps) {
+        say_some_example(greatest(steps), page, output);
+    }
+}
+
+#[tactic(auto, unfolding(crate::specs::Sentences::refusal_text))]
+fn say_unequal_steps<W: Sink>(steps: &PerAxis<u32>, page: &mut Page, output: &mut W)
+    ensures { Says (W.written output.old) (W.written output.new)
+        (W.failures output.old) (W.failures output.new) page.old page.new
+        (refusal_text (refusals.UnequalSteps steps.now)) }
+{
+    say_unequal(steps, page, output);
+    say_example(steps, page, output);
 }
 
 #[tactic(auto, unfolding(crate::specs::Sentences::refusal_text))]
@@ -167,10 +244,29 @@ fn say_refusal<W: Sink>(refusal: FigureRefusal, page: &mut Page, output: &mut W)
         ),
         FigureRefusal::Outside(stop, axis) => say_outside(stop, axis, page, output),
         FigureRefusal::Missing(number) => say_missing(number, page, output),
-        FigureRefusal::Setting(number, at) => say_setting(number, at, page, output),
-        FigureRefusal::UnequalSteps => {
-            say!(page, output; b"$100, $101 and $102 differ: one step serves all axes, so make them equal")
-        }
+        FigureRefusal::Setting(number, at) => say_value(
+            number,
+            at,
+            b" is not a number, as in $100=800.000",
+            page,
+            output,
+        ),
+        FigureRefusal::Negative(number, at) => say_value(
+            number,
+            at,
+            b" is below zero, and this setting can't be: write it without the minus sign",
+            page,
+            output,
+        ),
+        FigureRefusal::Digits(number, at) => say_value(
+            number,
+            at,
+            b" has too many digits: write it as Grbl does, with at most three decimals",
+            page,
+            output,
+        ),
+        FigureRefusal::Place(stored, at) => say_place(stored, at, page, output),
+        FigureRefusal::UnequalSteps(steps) => say_unequal_steps(&steps, page, output),
     }
 }
 

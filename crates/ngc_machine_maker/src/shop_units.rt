@@ -101,7 +101,7 @@ fn file_step(numbers: &MachineNumbers, figures: &Figures) -> u64
 }
 
 /// Returns whether the motor's step is a whole number of nanometres.
-pub(crate) fn is_whole(numbers: &MachineNumbers, figures: &Figures) -> bool
+pub fn is_whole(numbers: &MachineNumbers, figures: &Figures) -> bool
     requires { IsScale (scale_in numbers.now figures.now) }
     ensures { result ≡ is_whole numbers.now figures.now }
 {

@@ -14,6 +14,7 @@ use Rattle.ngc_machine_maker.specs.declared.figures.Figures.{Figures}
 use Rattle.ngc_machine_maker.specs.declared.figures.Length.{Length}
 use Rattle.ngc_machine_maker.specs.declared.figures.PerAxis.{PerAxis}
 use Rattle.ngc_machine_maker.specs.declared.figures.Speed.{Speed}
+use Rattle.ngc_machine_maker.specs.Formulas.{no_dump}
 
 -- the length of a travel: 0 if it ends below its beginning, and 2^32 - 1 nm if it is longer, which
 -- is too long
@@ -110,4 +111,5 @@ figures_of h scale = record {
   start = record { x = no_length; y = no_length; z = no_length };
   home28 = None;
   home30 = None;
+  dump = no_dump;
 }

@@ -5,7 +5,7 @@ ghost use Rattle.ngc_written_machines.specs.Figures as spec;
 use ngc_machine_figures::{
     Acceleration as WrittenAcceleration, AxesSheet, ControlSheet, HeadSheet, Speed as WrittenSpeed,
 };
-use ngc_machine_maker::{Acceleration, End, Figures, Length, PerAxis, Ratio, Speed};
+use ngc_machine_maker::{Acceleration, Dump, End, Figures, Length, PerAxis, Ratio, Speed};
 use ngc_motor_scale::MotorScale;
 use ngc_quantities::Range;
 
@@ -171,5 +171,6 @@ pub(crate) fn figures_of(head: &HeadSheet, scale: &MotorScale) -> Figures
         },
         home28: None,
         home30: None,
+        dump: Dump::none(),
     }
 }

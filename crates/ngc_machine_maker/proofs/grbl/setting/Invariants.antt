@@ -1,6 +1,7 @@
 -- The value of the setting is the one in the lines from here on.
 use Rattle.std.proofs.Common.{◌≡◌, ◌+◌, ◌≤◌, length}
-use Rattle.ngc_machine_maker.specs.Grbl.{lines_of, setting_in}
+use Rattle.ngc_grbl_lines.specs.Lines.{lines_of}
+use Rattle.ngc_machine_maker.specs.Grbl.{setting_in}
 use Rattle.ngc_machine_maker.proofs.grbl.setting.Given as goal
 
 abbrev pub invariant-loop-rest : goal.invariant-loop-rest

@@ -39,7 +39,7 @@ returns-in-LowArcs g c =
 pub returns-in-UnequalSteps : goal.returns-in-UnequalSteps
 unfolding refusal_text
 returns-in-UnequalSteps g c =
-    rw c.in-UnequalSteps.is c.say-in-UnequalSteps.ensures
+    rw c.in-UnequalSteps.is c.say_unequal_steps.ensures
 
 pub returns-in-SlowFeed : goal.returns-in-SlowFeed
 unfolding refusal_text
@@ -69,4 +69,19 @@ returns-in-Missing g c =
 pub returns-in-Setting : goal.returns-in-Setting
 unfolding refusal_text
 returns-in-Setting g c =
-    rw c.in-Setting.is c.say_setting.ensures
+    rw c.in-Setting.is c.say_value.ensures
+
+pub returns-in-Negative : goal.returns-in-Negative
+unfolding refusal_text
+returns-in-Negative g c =
+    rw c.in-Negative.is c.say_value-in-Negative.ensures
+
+pub returns-in-Digits : goal.returns-in-Digits
+unfolding refusal_text
+returns-in-Digits g c =
+    rw c.in-Digits.is c.say_value-in-Digits.ensures
+
+pub returns-in-Place : goal.returns-in-Place
+unfolding refusal_text
+returns-in-Place g c =
+    rw c.in-Place.is c.say_place.ensures
