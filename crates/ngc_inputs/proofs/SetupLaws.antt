@@ -3,10 +3,10 @@ use Rattle.std.proofs.Common.{◌≡◌, ℕ, List, [], Option, Some, None, Resu
 use Rattle.std.specs.Prelude.{IsOk}
 use Rattle.ngc_canonical.specs.State.{Setup}
 use Rattle.ngc_machine_files.specs.Machine.{MachineFile, built_in_machine}
-use Rattle.ngc_machine_files.specs.ToolText.{tool_table}
 use Rattle.ngc_machine_files.specs.declared.fault.FileFault.{FileFault}
 use Rattle.ngc_machine_files.specs.declared.tools.Tool.{Tool}
 use Rattle.ngc_written_machines.specs.Reading.{any_machine}
+use Rattle.ngc_written_tools.specs.Reading.{any_tools}
 use Rattle.ngc_inputs.specs.Setups.{FileBytes, IfParsed, KeepsFiles, IfMachine, IfTools, OnSetup, AreSetup, Refuses}
 use Rattle.ngc_inputs.specs.Setups.{OnPlaced, changed_in}
 use Rattle.ngc_inputs.specs.Shops.{PlacedResultIs, ShopResultIs, IsPlaced, RefusesMachine, RefusesPlaced, RefusesShop, RefusesTools}
@@ -49,7 +49,7 @@ on_setup bytes machine tools setup P parsed_machine parsed_tools p =
     said_weaker any_machine built_in_machine bytes machine (λ says. says ≡ Ok setup.machine)
     (λ m. IfTools bytes tools (λ t. (s : Setup) × AreSetup m t s × P s))
     (λ m said_m.
-    said_weaker tool_table [] bytes tools (λ says. says ≡ Ok setup.tools) (λ t. (s : Setup) × AreSetup m t s × P s)
+    said_weaker any_tools [] bytes tools (λ says. says ≡ Ok setup.tools) (λ t. (s : Setup) × AreSetup m t s × P s)
     (λ t said_t. (setup, record { parsed_machine = said_m; parsed_tools = said_t }, p)) parsed_tools)
     parsed_machine
 
@@ -61,7 +61,7 @@ on_placed bytes machine tools changes setup P parsed_machine parsed_tools p =
     said_weaker any_machine built_in_machine bytes machine (IsPlaced changes setup.machine)
     (λ m. IfTools bytes tools (λ t. (s : Setup) × AreSetup (changed_in changes m) t s × P s))
     (λ m said_m.
-    said_weaker tool_table [] bytes tools (λ says. says ≡ Ok setup.tools) (λ t. (s : Setup) × AreSetup (changed_in changes m) t s × P s)
+    said_weaker any_tools [] bytes tools (λ says. says ≡ Ok setup.tools) (λ t. (s : Setup) × AreSetup (changed_in changes m) t s × P s)
     (λ t said_t. (setup, record { parsed_machine = said_m; parsed_tools = said_t }, p)) parsed_tools)
     parsed_machine
 
@@ -72,17 +72,17 @@ pub shop_placed : (bytes : FileBytes) (machine tools : Option (List ℕ)) (chang
 shop_placed bytes machine tools changes shop placed_shop said placed_machine same_tools = (
   said_weaker any_machine built_in_machine bytes machine (λ says. says ≡ Ok (file_of shop.machine)) (IsPlaced changes (file_of placed_shop.machine))
       (λ says is. ap (changed_in changes) is ∙ placed_machine) said.0,
-  said_weaker tool_table [] bytes tools (λ says. says ≡ Ok (tools_of shop.tools)) (λ says. says ≡ Ok (tools_of placed_shop.tools))
+  said_weaker any_tools [] bytes tools (λ says. says ≡ Ok (tools_of shop.tools)) (λ says. says ≡ Ok (tools_of placed_shop.tools))
       (λ says is. is ∙ ap Ok (sym same_tools)) said.1,
 )
 
 -- changes that a machine that was read refuses
 pub changes_refused : (bytes : FileBytes) (machine tools : Option (List ℕ)) (changes : Changes) (shop : Shop) (e : FileFault)
-    → ShopResultIs bytes machine tools (Ok shop) → changed changes (file_of shop.machine) ≡ Err e
+    → ShopResultIs bytes machine tools (Ok shop) → Refuses e (changed changes (file_of shop.machine))
     → PlacedResultIs bytes machine tools changes (Err (answers.Machine e))
 changes_refused bytes machine tools changes shop e said refused =
     said_weaker any_machine built_in_machine bytes machine (λ says. says ≡ Ok (file_of shop.machine)) (λ says. Refuses e (changed_in changes says))
-    (λ says is _. ap (changed_in changes) is ∙ refused) said.0
+    (λ says is held. ap (changed_in changes) is ∙ refused held) said.0
 
 -- a refusal of one of the two files
 pub shop_refused : (bytes : FileBytes) (machine tools : Option (List ℕ)) (changes : Changes) (fault : AnswerFault) → RefusesShop bytes machine tools fault
@@ -109,7 +109,7 @@ pub refused_tools : (bytes after : FileBytes) (machine tools : Option (List ℕ)
     → IfMachine bytes machine (λ says. says ≡ Ok m) → KeepsFiles bytes after → RefusesTools after tools fault → RefusesShop bytes machine tools fault
 refused_tools bytes after machine tools m (answers.Tools e) read keeps refuses = (
   said_weaker any_machine built_in_machine bytes machine (λ says. says ≡ Ok m) IsOk (λ says is_m. subst IsOk (sym is_m) refl) read,
-  said_before tool_table [] bytes after tools (Refuses e) keeps refuses,
+  said_before any_tools [] bytes after tools (Refuses e) keeps refuses,
 )
 refused_tools bytes after machine tools m (answers.Input e) read keeps refuses = tt
 refused_tools bytes after machine tools m _ read keeps refuses = absurd refuses

@@ -10,8 +10,8 @@ use Rattle.ngc_line_reader.specs.declared.program.fault.ReadFault.{ReadFault}
 use Rattle.ngc_line_reader.specs.declared.program.fault.ReadFault.TheVariants as reads
 use Rattle.ngc_machine_files.specs.Machine.{MachineFile, file_of}
 use Rattle.ngc_machine_files.specs.declared.fault.FileFault.{FileFault}
-use Rattle.ngc_machine_files.specs.ToolText.{tool_table}
 use Rattle.ngc_written_machines.specs.Reading.{any_machine}
+use Rattle.ngc_written_tools.specs.Reading.{any_tools}
 use Rattle.ngc_inputs.specs.Setups.{FileBytes, IfMachine, KeepsFiles}
 use Rattle.ngc_inputs.specs.Shops.{PlacedResultIs, ShopResultIs, IsPlaced}
 use Rattle.ngc_margins.specs.declared.changes.Changes.{Changes}
@@ -103,10 +103,10 @@ is_read read value known source same said =
 pub shop_read : (bytes : FileBytes) (machine tools : Option (List ℕ)) (shop : Shop) → ShopResultIs bytes machine tools (Ok shop) →
     AllRead bytes (shop_inputs machine tools)
 shop_read bytes None None shop said = tt
-shop_read bytes None (Some t) shop said = (is_read tool_table _ (bytes (Some t)) (bytes (Some t)) refl said.1, tt)
+shop_read bytes None (Some t) shop said = (is_read any_tools _ (bytes (Some t)) (bytes (Some t)) refl said.1, tt)
 shop_read bytes (Some m) None shop said = (is_read any_machine _ (bytes (Some m)) (bytes (Some m)) refl said.0, tt)
 shop_read bytes (Some m) (Some t) shop said =
-    (is_read any_machine _ (bytes (Some m)) (bytes (Some m)) refl said.0, (is_read tool_table _ (bytes (Some t)) (bytes (Some t)) refl said.1, tt))
+    (is_read any_machine _ (bytes (Some m)) (bytes (Some m)) refl said.0, (is_read any_tools _ (bytes (Some t)) (bytes (Some t)) refl said.1, tt))
 
 -- the same of a machine with changes
 pub placed_read : (bytes : FileBytes) (machine tools : Option (List ℕ)) (changes : Changes) (shop : Shop) → PlacedResultIs bytes machine tools changes (Ok shop)
@@ -124,9 +124,9 @@ placed_read bytes machine tools changes shop said = both machine tools said
 
     both : (machine tools : Option (List ℕ)) → PlacedResultIs bytes machine tools changes (Ok shop) → AllRead bytes (shop_inputs machine tools)
     both None None said = tt
-    both None (Some t) said = (is_read tool_table _ (bytes (Some t)) (bytes (Some t)) refl said.1, tt)
+    both None (Some t) said = (is_read any_tools _ (bytes (Some t)) (bytes (Some t)) refl said.1, tt)
     both (Some m) None said = (of_machine (bytes (Some m)) said.0, tt)
-    both (Some m) (Some t) said = (of_machine (bytes (Some m)) said.0, (is_read tool_table _ (bytes (Some t)) (bytes (Some t)) refl said.1, tt))
+    both (Some m) (Some t) said = (of_machine (bytes (Some m)) said.0, (is_read any_tools _ (bytes (Some t)) (bytes (Some t)) refl said.1, tt))
 
 -- ---- the machine file and the tool table
 

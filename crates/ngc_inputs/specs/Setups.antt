@@ -2,13 +2,13 @@
 use Rattle.std.specs.Prelude.{◌≡◌, ◌≢◌, ℕ, List, [], Option, Some, None, Result, Ok, Err, IfSome}
 use Rattle.ngc_canonical.specs.State.{Setup}
 use Rattle.ngc_machine_files.specs.Machine.{MachineFile, built_in_machine}
-use Rattle.ngc_machine_files.specs.ToolText.{tool_table}
 use Rattle.ngc_machine_files.specs.declared.fault.FileFault.{FileFault}
 use Rattle.ngc_machine_files.specs.declared.fault.FileFault.TheVariants.{Memory}
 use Rattle.ngc_machine_files.specs.declared.tools.Tool.{Tool}
 use Rattle.ngc_margins.specs.Changes.{changed}
 use Rattle.ngc_margins.specs.declared.changes.Changes.{Changes}
 use Rattle.ngc_written_machines.specs.Reading.{any_machine}
+use Rattle.ngc_written_tools.specs.Reading.{any_tools}
 
 -- the bytes of a file by its name, or of standard input, where they are known
 abbrev pub FileBytes : Type 0
@@ -39,7 +39,7 @@ abbrev pub IfMachine : FileBytes → Option (List ℕ) →
 IfMachine bytes name P = IfParsed any_machine built_in_machine bytes name P
 
 abbrev pub IfTools : FileBytes → Option (List ℕ) → (Result (List Tool) FileFault → Type 0) → Type 0
-IfTools bytes name P = IfParsed tool_table [] bytes name P
+IfTools bytes name P = IfParsed any_tools [] bytes name P
 
 -- P of the machine with its tools in two files
 abbrev pub OnSetup : FileBytes → Option (List ℕ) → Option (List ℕ) → (Setup → Type 0) → Type 0

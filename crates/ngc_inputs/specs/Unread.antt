@@ -11,8 +11,8 @@ use Rattle.ngc_text.specs.declared.input_fault.InputFault.TheVariants as inputs
 use Rattle.ngc_line_reader.specs.ProgramText.{program_of}
 use Rattle.ngc_line_reader.specs.declared.program.fault.ReadFault.{ReadFault}
 use Rattle.ngc_line_reader.specs.declared.program.fault.ReadFault.TheVariants as reads
-use Rattle.ngc_machine_files.specs.ToolText.{tool_table}
 use Rattle.ngc_written_machines.specs.Reading.{any_machine}
+use Rattle.ngc_written_tools.specs.Reading.{any_tools}
 use Rattle.ngc_inputs.specs.declared.fault.AnswerFault.{AnswerFault}
 use Rattle.ngc_inputs.specs.declared.fault.AnswerFault.TheVariants as answers
 use Rattle.ngc_inputs.specs.declared.setup.TheConstants.{FILE_LIMIT}
@@ -32,7 +32,7 @@ pub data Kind : Type 0 where
 -- what a text is read as is not refused
 abbrev pub IsReadAs : Kind → List ℕ → Type 0
 IsReadAs OfMachine text = IsOk (any_machine text)
-IsReadAs OfTools text = IsOk (tool_table text)
+IsReadAs OfTools text = IsOk (any_tools text)
 IsReadAs OfProgram text = IsOk (program_of text)
 IsReadAs OfCertificate text = IsOk (parsed_certificate text)
 IsReadAs OfEvents text = IsOk (parsed_events text)

@@ -2,6 +2,7 @@
 ghost use Rattle.std.specs.Prelude.{◌≡◌, IfErr, IfOk, Err, IfSome, MatchResult, Ok, OnOk, Some};
 ghost use Rattle.std.specs.Prelude.{option_map};
 ghost use Rattle.ngc_machine_files.specs.Machine.{file_of};
+ghost use Rattle.ngc_machine_files.specs.Refusals.{FileResultIs};
 ghost use Rattle.ngc_machine_files.specs.Tools.{tools_of};
 ghost use Rattle.ngc_inputs.specs.Setups.{IfMachine, IfTools, KeepsFiles};
 ghost use Rattle.ngc_inputs.specs.Shops.{PlacedResultIs, ShopResultIs, RefusesMachine, RefusesTools};
@@ -16,6 +17,7 @@ use ngc_machine_files::{FileFault, Machine, Tools, built_in_machine};
 use ngc_margins::Changes;
 use ngc_text::{InputFault, read_whole};
 use ngc_written_machines::read_machine as machine_in;
+use ngc_written_tools::read_tools as tools_in;
 use std::alloc::Global;
 
 /// The machine and its tools.
@@ -27,12 +29,11 @@ pub struct Shop {
 
 impl Shop {
     /// Returns the machine of a call, with the changes of its options and its margins kept, and its
-    /// tools; or 265 if the start is outside the travel limits then, and 267 if a fixture is too
-    /// large.
+    /// tools; or 265 if the start is outside the travel limits then, 267 if a fixture is too large
+    /// or too far away or there are too many, and 900 if memory is refused.
     pub fn with_changes(self, changes: &Changes) -> Result<Shop, FileFault>
-        ensures machine { MatchResult result
-            (λ shop. changed changes.now (file_of self.machine) ≡ Ok (file_of shop.machine))
-            (λ fault. changed changes.now (file_of self.machine) ≡ Err fault) }
+        ensures machine { FileResultIs (λ shop. file_of shop.machine) result
+            (changed changes.now (file_of self.machine)) }
         ensures tools { IfOk result (λ shop. tools_of shop.tools ≡ tools_of self.tools) }
     {
         match changes.apply(self.machine) {
@@ -96,7 +97,7 @@ fn named_tools<F: Files>(
         (setup_input OfTools (Some name.now)) (F.failures files.old) (F.failures files.new) result }
 {
     let bytes = bytes_of(alloc, name, files)?;
-    match Tools::read(alloc, bytes.as_slice()) {
+    match tools_in(alloc, bytes.as_slice()) {
         Ok(tools) => Ok(tools),
         Err(fault) => Err(AnswerFault::Tools(fault)),
     }

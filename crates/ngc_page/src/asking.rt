@@ -179,5 +179,6 @@ pub fn machine_options() -> Options<'static>
         home30: None,
         ring: None,
         arc_feed: false,
+        rates: false,
     })
 }

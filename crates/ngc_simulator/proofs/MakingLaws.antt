@@ -2,11 +2,11 @@
 use Rattle.std.proofs.Common.{◌≡◌, ℕ, List, Option, None, Result, Ok, Err, is_err, OnOk, false, inl, inr, refl, subst}
 use Rattle.std.specs.Io.KnownBytes.{Keeps}
 use Rattle.ngc_machine_files.specs.Machine.{MachineFile}
-use Rattle.ngc_machine_files.specs.MachineText.{machine_file}
 use Rattle.ngc_command_line.specs.declared.options.MachineOptions.{MachineOptions}
 use Rattle.ngc_simulator.specs.Answers.{MachineResult, MakesOn}
 use Rattle.ngc_simulator.specs.Making.{AreAskedKeys, IsNotRead, IsUnmade, MakeFails, with_remarks}
 use Rattle.ngc_inputs.specs.Setups.{FileBytes}
+use Rattle.ngc_written_machines.specs.Reading.{any_machine}
 use Rattle.ngc_inputs.specs.Unread.{unread_by}
 use Rattle.ngc_inputs.specs.declared.fault.AnswerFault.{AnswerFault}
 use Rattle.ngc_inputs.specs.declared.fault.AnswerFault.TheVariants as answers
@@ -35,7 +35,7 @@ keys_refused keys (answers.Machine e) refuses = inl refuses
 keys_refused keys _ refuses = absurd refuses
 
 -- it refuses them with the comments after them
-pub whole_refused : (keys text : List ℕ) (machine : MachineFile) (fault : AnswerFault) → machine_file keys ≡ Ok machine →
+pub whole_refused : (keys text : List ℕ) (machine : MachineFile) (fault : AnswerFault) → any_machine keys ≡ Ok machine →
     text ≡ with_remarks keys machine
     → IsNotRead text fault → IsUnmade keys fault
 whole_refused keys text machine (answers.Machine e) says is refuses =

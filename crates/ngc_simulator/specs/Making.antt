@@ -6,7 +6,6 @@ use Rattle.std.specs.Io.KnownBytes.{Appends, Keeps}
 use Rattle.ngc_text.specs.Written.{AppendsPrefix}
 use Rattle.ngc_command_line.specs.declared.options.MachineOptions.{MachineOptions}
 use Rattle.ngc_machine_files.specs.Machine.{MachineFile}
-use Rattle.ngc_machine_files.specs.MachineText.{machine_file}
 use Rattle.ngc_machine_files.specs.declared.fault.FileFault.{FileFault}
 use Rattle.ngc_machine_maker.specs.declared.choices.Choices.{Choices}
 use Rattle.ngc_machine_maker.specs.declared.figures.Figures.{Figures}
@@ -19,7 +18,10 @@ use Rattle.ngc_machine_maker.specs.Grbl.{figures_in}
 use Rattle.ngc_machine_maker.specs.Numbers.{numbers_of}
 use Rattle.ngc_machine_maker.specs.Options.{figures_of}
 use Rattle.ngc_machine_maker.specs.Sentences.{refusal_line}
+use Rattle.ngc_machine_maker.specs.ShopUnits.{is_whole}
+use Rattle.ngc_machine_writer.specs.File.{written_text}
 use Rattle.ngc_setup_sheet.specs.Sheets.{warning_remarks}
+use Rattle.ngc_written_machines.specs.Reading.{any_machine}
 use Rattle.ngc_simulator.specs.declared.done.Notes.{Notes}
 use Rattle.ngc_inputs.specs.declared.fault.AnswerFault.{AnswerFault}
 use Rattle.ngc_inputs.specs.declared.fault.AnswerFault.TheVariants as answers
@@ -85,7 +87,7 @@ ReportsRefusal refusal old new notes = Keeps old new × (notes.is_written ≡ fa
 
 -- a text isn't read as a machine file, with the reader's fault
 abbrev pub IsNotRead : List ℕ → AnswerFault → Type 0
-IsNotRead text (answers.Machine e) = Refuses e (machine_file text)
+IsNotRead text (answers.Machine e) = Refuses e (any_machine text)
 IsNotRead text _ = ⊥
 
 -- the keys of a machine file, followed by the warnings of `ngc show` on this machine without tools,
@@ -96,15 +98,15 @@ with_remarks keys machine = keys ++ warning_remarks machine []
 -- the machine is the one that the keys describe, and the whole is read as a machine file
 pub record IsMadeText (keys text : List ℕ) : Type 0 where
   pub machine : MachineFile
-  pub says : machine_file keys ≡ Ok machine
+  pub says : any_machine keys ≡ Ok machine
   pub is_text : text ≡ with_remarks keys machine
-  pub is_file : IsOk (machine_file text)
+  pub is_file : IsOk (any_machine text)
 
 -- the reader refuses the keys, or the keys with the comments after them
 abbrev pub IsUnread : List ℕ → FileFault → Type 0
-IsUnread keys e = Refuses e (machine_file keys)
-    ⊎ ((machine : MachineFile) × (machine_file keys ≡ Ok machine)
-    × Refuses e (machine_file (with_remarks keys machine)))
+IsUnread keys e = Refuses e (any_machine keys)
+    ⊎ ((machine : MachineFile) × (any_machine keys ≡ Ok machine)
+    × Refuses e (any_machine (with_remarks keys machine)))
 
 -- why no text is made of some keys
 abbrev pub IsUnmade : List ℕ → AnswerFault → Type 0
@@ -112,16 +114,25 @@ IsUnmade keys answers.Memory = Unit {0}
 IsUnmade keys (answers.Machine e) = IsUnread keys e
 IsUnmade keys _ = ⊥
 
-abbrev pub WritesNumbers : Figures → Result MachineNumbers FigureRefusal → Option (List ℕ) →
-    Option (List ℕ) → Notes → Type 0
-WritesNumbers figures (Ok numbers) old new notes =
-    ((text : List ℕ) × IsMadeText (file_text numbers figures) text × Appends old new text)
-    × (notes.is_written ≡ true) × (notes.text.items ≡ notes_text numbers figures)
-WritesNumbers figures (Err refusal) old new notes = ReportsRefusal refusal old new notes
+-- The keys of a machine file: figures with their units, or the rates of version 2, if those are asked
+-- for or the motor's step is no whole number of nanometres.
+abbrev pub keys_text : Bool → MachineNumbers → Figures → List ℕ
+keys_text rates numbers figures =
+    if rates || not (is_whole numbers figures) then file_text numbers figures
+    else written_text figures
 
-abbrev pub MakesFile : Result Figures FigureRefusal → Option (List ℕ) → Option (List ℕ) → Notes → Type 0
-MakesFile (Ok figures) old new notes = WritesNumbers figures (numbers_of figures) old new notes
-MakesFile (Err refusal) old new notes = ReportsRefusal refusal old new notes
+abbrev pub WritesNumbers : Bool → Figures → Result MachineNumbers FigureRefusal → Option (List ℕ) →
+    Option (List ℕ) → Notes → Type 0
+WritesNumbers rates figures (Ok numbers) old new notes =
+    ((text : List ℕ) × IsMadeText (keys_text rates numbers figures) text × Appends old new text)
+    × (notes.is_written ≡ true) × (notes.text.items ≡ notes_text numbers figures)
+WritesNumbers rates figures (Err refusal) old new notes = ReportsRefusal refusal old new notes
+
+abbrev pub MakesFile : Bool → Result Figures FigureRefusal → Option (List ℕ) → Option (List ℕ) →
+    Notes → Type 0
+MakesFile rates (Ok figures) old new notes =
+    WritesNumbers rates figures (numbers_of figures) old new notes
+MakesFile rates (Err refusal) old new notes = ReportsRefusal refusal old new notes
 
 -- the keys of the requested machine file
 pub record AreAskedKeys (options : MachineOptions) (dump : Option (List ℕ)) (keys : List ℕ) : Type 0 where
@@ -129,7 +140,7 @@ pub record AreAskedKeys (options : MachineOptions) (dump : Option (List ℕ)) (k
   pub are_requested : IsAskedFor options dump (Ok figures)
   pub numbers : MachineNumbers
   pub are_numbers : numbers_of figures ≡ Ok numbers
-  pub are_keys : keys ≡ file_text numbers figures
+  pub are_keys : keys ≡ keys_text options.rates numbers figures
 
 -- if the text isn't read as a machine file, nothing is written; if a write fails, a prefix of it is
 -- written
@@ -146,7 +157,7 @@ MakeFails options dump old new _ = ⊥
 abbrev pub Makes : MachineOptions → Option (List ℕ) → Option (List ℕ) → Option (List ℕ) →
     Result Notes AnswerFault → Type 0
 Makes options dump old new (Ok notes) = (asked : Result Figures FigureRefusal)
-    × IsAskedFor options dump asked × MakesFile asked old new notes
+    × IsAskedFor options dump asked × MakesFile options.rates asked old new notes
 Makes options dump old new (Err fault) = MakeFails options dump old new fault
 
 -- of the dump that is named, where its bytes are known

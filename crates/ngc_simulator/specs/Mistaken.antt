@@ -10,7 +10,7 @@ use Rattle.ngc_report.specs.Forms.{opening}
 use Rattle.ngc_report.specs.declared.form.Form.{Form}
 use Rattle.ngc_report.specs.declared.form.Form.TheVariants.{Words, Json}
 use Rattle.ngc_machine_mistakes.specs.Mistakes.{mistake_text}
-use Rattle.ngc_setup_sheet.specs.Mistakes.{tools_mistake_text}
+use Rattle.ngc_tool_mistakes.specs.Mistakes.{mistake_text as tools_mistake_text}
 use Rattle.ngc_inputs.specs.declared.fault.AnswerFault.{AnswerFault}
 use Rattle.ngc_inputs.specs.declared.fault.AnswerFault.TheVariants as answers
 use Rattle.ngc_inputs.specs.declared.setup.Shop.{Shop}
@@ -39,7 +39,7 @@ abbrev pub OfMistake : Form → FileBytes → Option (List ℕ) → Option (List
 OfMistake form bytes machine tools (answers.Machine e) P =
     IsSomeAnd machine (λ name. OfText form (mistake_text name) e (bytes (Some name)) P)
 OfMistake form bytes machine tools (answers.Tools e) P =
-    IsSomeAnd tools (λ name. OfText form tools_mistake_text e (bytes (Some name)) P)
+    IsSomeAnd tools (λ name. OfText form (tools_mistake_text name) e (bytes (Some name)) P)
 OfMistake form bytes machine tools fault P = ⊥
 
 -- For a file that is refused its mistake is written, or nothing if memory ran out; if the sink

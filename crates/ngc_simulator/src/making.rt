@@ -2,30 +2,31 @@
 ghost use Rattle.std.specs.Prelude.{◌≡◌, ◌++◌, [], IfErr, IfOk, MatchResult, Ok, true, false};
 ghost use Rattle.std.specs.Prelude.{is_some, option_map, Some};
 ghost use Rattle.ngc_machine_files.specs.Machine.{file_of};
-ghost use Rattle.ngc_machine_files.specs.MachineText.{machine_file};
 ghost use Rattle.ngc_machine_maker.specs.Asked.{scale_in};
-ghost use Rattle.ngc_machine_maker.specs.File.{file_text};
 ghost use Rattle.ngc_machine_maker.specs.InFile.{AreInFile};
 ghost use Rattle.ngc_machine_maker.specs.Ranges.{IsScale};
 ghost use Rattle.ngc_machine_maker.specs.Sentences.{refusal_line};
 ghost use Rattle.ngc_simulator.specs.Answers.{MachineResult, machine_inputs};
 ghost use Rattle.ngc_inputs.specs.Faults.{FailsByOutput};
 ghost use Rattle.ngc_setup_sheet.specs.Sheets.{warning_remarks};
-ghost use Rattle.ngc_simulator.specs.Making.{AreChoices, AreFigures, IsAskedFor, IsMadeText};
+ghost use Rattle.ngc_simulator.specs.Making.{AreChoices, AreFigures, IsAskedFor, IsMadeText, keys_text};
 ghost use Rattle.ngc_simulator.specs.Making.{IsNotRead, IsUnmade, Makes, MakesFile};
 ghost use Rattle.ngc_simulator.specs.Making.{MakeFails, has_all_figures, has_source};
 ghost use Rattle.ngc_inputs.specs.Unread.{FailsByInput, SourceFails};
+ghost use Rattle.ngc_written_machines.specs.Reading.{any_machine};
 
 use crate::done::{Done, Notes};
 use ngc_command_line::MachineOptions;
 use ngc_inputs::{AnswerFault, Files, bytes_of};
 use ngc_machine_files::Machine;
 use ngc_machine_maker::{
-    Choices, FigureRefusal, Figures, MachineNumbers, Options, numbers_of, read_grbl,
+    Choices, FigureRefusal, Figures, MachineNumbers, Options, is_whole, numbers_of, read_grbl,
     write_machine_file, write_notes, write_refusal,
 };
+use ngc_machine_writer::write_written_file;
 use ngc_setup_sheet::write_warning_remarks;
 use ngc_text::{Device, Sink, write_all};
+use ngc_written_machines::read_machine;
 use std::alloc::Global;
 
 fn has_source(options: &MachineOptions<'_>) -> bool
@@ -97,7 +98,8 @@ fn requested_figures(
     dump: Option<&[u8]>,
 ) -> Result<Figures, FigureRefusal>
     requires { is_some dump ≡ false → has_all_figures options.now ≡ true }
-    ensures { IsAskedFor options.now (option_map (λ d. d.now) dump.entry) result }
+    ensures asked { IsAskedFor options.now (option_map (λ d. d.now) dump.entry) result }
+    ensures decimal { IfOk result (λ f. f.scale.per ≡ 1000000000000) }
 {
     let choices = choices_of(options);
     let given = match dump {
@@ -126,19 +128,27 @@ fn refused(alloc: Global, refusal: FigureRefusal) -> Result<Notes, AnswerFault>
     }
 }
 
-// Returns the keys of a machine file, each with its remark.
+// Returns the keys of a machine file: figures with their units, or the rates of version 2, each with
+// its remark, if those are asked for or the motor's step is no whole number of nanometres.
 fn keys_text(
     alloc: Global,
+    rates: bool,
     numbers: &MachineNumbers,
     figures: &Figures,
 ) -> Result<Vec<u8, Global>, AnswerFault>
     requires numbers { AreInFile numbers.now }
     requires scale { IsScale (scale_in numbers.now figures.now) }
-    ensures text { IfOk result (λ text. text.items ≡ file_text numbers.now figures.now) }
+    requires decimal { figures.now.scale.per ≡ 1000000000000 }
+    ensures text { IfOk result (λ text. text.items ≡ keys_text rates numbers.now figures.now) }
     ensures fault { IfErr result (λ fault. fault ≡ AnswerFault.Memory) }
 {
     let mut keys = Device::new(Vec::new(alloc));
-    match write_machine_file(numbers, figures, &mut keys) {
+    let written = if rates || !is_whole(numbers, figures) {
+        write_machine_file(numbers, figures, &mut keys)
+    } else {
+        write_written_file(figures, &mut keys)
+    };
+    match written {
         Ok(()) => Ok(keys.into_inner()),
         Err(_) => Err(AnswerFault::Memory),
     }
@@ -146,9 +156,9 @@ fn keys_text(
 
 // Returns the machine that a text describes.
 fn machine_in(alloc: Global, text: &[u8]) -> Result<Machine<Global>, AnswerFault>
-    ensures { MatchResult result (λ m. machine_file text.now ≡ Ok (file_of m)) (IsNotRead text.now) }
+    ensures { MatchResult result (λ m. any_machine text.now ≡ Ok (file_of m)) (IsNotRead text.now) }
 {
-    match Machine::read(alloc, text) {
+    match read_machine(alloc, text) {
         Ok(machine) => Ok(machine),
         Err(fault) => Err(AnswerFault::Machine(fault)),
     }
@@ -175,16 +185,18 @@ fn with_warnings(
 // a machine file.
 fn made_text(
     alloc: Global,
+    rates: bool,
     numbers: &MachineNumbers,
     figures: &Figures,
 ) -> Result<Vec<u8, Global>, AnswerFault>
     requires numbers { AreInFile numbers.now }
     requires scale { IsScale (scale_in numbers.now figures.now) }
+    requires decimal { figures.now.scale.per ≡ 1000000000000 }
     ensures made { MatchResult result
-        (λ text. IsMadeText (file_text numbers.now figures.now) text.items)
-        (IsUnmade (file_text numbers.now figures.now)) }
+        (λ text. IsMadeText (keys_text rates numbers.now figures.now) text.items)
+        (IsUnmade (keys_text rates numbers.now figures.now)) }
 {
-    let keys = keys_text(alloc, numbers, figures)?;
+    let keys = keys_text(alloc, rates, numbers, figures)?;
     let machine = machine_in(alloc, keys.as_slice())?;
     let text = with_warnings(keys, &machine)?;
     let _read = machine_in(alloc, text.as_slice())?;
@@ -216,7 +228,7 @@ fn make<W: Sink>(
     if write_notes(&numbers, &figures, &mut told).is_err() {
         return Err(AnswerFault::Memory);
     }
-    let text = made_text(alloc, &numbers, &figures)?;
+    let text = made_text(alloc, options.rates, &numbers, &figures)?;
     write_all(output, text.as_slice())?;
     Ok(Notes {
         text: told.into_inner(),

@@ -8,7 +8,7 @@ ghost use Rattle.ngc_machine_files.specs.Faults.{number_of as file_number};
 ghost use Rattle.ngc_machine_files.specs.declared.fault.FileFault.TheVariants.{Memory};
 ghost use Rattle.ngc_report.specs.declared.form.Form.TheVariants.{Words};
 ghost use Rattle.ngc_machine_mistakes.specs.Mistakes.{mistake_text};
-ghost use Rattle.ngc_setup_sheet.specs.Mistakes.{tools_mistake_text};
+ghost use Rattle.ngc_tool_mistakes.specs.Mistakes.{mistake_text as tools_mistake_text};
 ghost use Rattle.ngc_inputs.specs.Faults.{FailsByOutput};
 ghost use Rattle.ngc_simulator.specs.Mistaken.{PlacedReportResultIs, ReportResultIs, OfText, ReportsMistake};
 ghost use Rattle.ngc_simulator.specs.Mistaken.{fault_document};
@@ -22,8 +22,8 @@ use ngc_machine_mistakes::write_mistake;
 use ngc_margins::Changes;
 use ngc_program_report::{opening, write_ending};
 use ngc_report::Form;
-use ngc_setup_sheet::write_tools_mistake;
 use ngc_text::{InputFault, Sink, WriteFault, write_all};
+use ngc_tool_mistakes::write_mistake as write_tools_mistake;
 use std::alloc::Global;
 
 fn write_fault_document<W: Sink>(number: u16, output: &mut W) -> Result<(), WriteFault>
@@ -89,7 +89,7 @@ fn report_tools_words<F: Files, W: Sink>(
     output: &mut W,
 ) -> Result<(), AnswerFault>
     ensures tells { ReportsMistake
-        (OfText Words tools_mistake_text fault (F.bytes files.old (Some name.now)))
+        (OfText Words (tools_mistake_text name.now) fault (F.bytes files.old (Some name.now)))
         (W.written output.old) (W.written output.new) result }
     ensures keeps { KeepsFiles (F.bytes files.old) (F.bytes files.new) }
     ensures unread { FailsByInput (SourceFails F.R.remaining F.R.failures) (F.bytes files.old)
@@ -104,7 +104,7 @@ fn report_tools_words<F: Files, W: Sink>(
         Err(InputFault::Device) => return Err(AnswerFault::Input(InputFault::Device)),
         Err(InputFault::Memory | InputFault::TooLong) => return Ok(()),
     };
-    write_tools_mistake(alloc, bytes.as_slice(), fault, output)?;
+    write_tools_mistake(alloc, name, bytes.as_slice(), fault, output)?;
     Ok(())
 }
 
@@ -140,7 +140,7 @@ fn report_tools_mistake<F: Files, W: Sink>(
     output: &mut W,
 ) -> Result<(), AnswerFault>
     ensures tells { ReportsMistake
-        (OfText form tools_mistake_text fault (F.bytes files.old (Some name.now)))
+        (OfText form (tools_mistake_text name.now) fault (F.bytes files.old (Some name.now)))
         (W.written output.old) (W.written output.new) result }
     ensures keeps { KeepsFiles (F.bytes files.old) (F.bytes files.new) }
     ensures unread { FailsByInput (SourceFails F.R.remaining F.R.failures) (F.bytes files.old)

@@ -1,12 +1,11 @@
 use Rattle.std.proofs.Common.{List, ℕ, Result, Ok, refl, subst, sym, true, ◌∙◌}
 use Rattle.std.specs.Prelude.{option_map}
-use Rattle.ngc_machine_maker.specs.File.{file_text}
 use Rattle.ngc_machine_maker.specs.declared.numbers.MachineNumbers.{MachineNumbers}
 use Rattle.ngc_machine_maker.specs.declared.refusal.FigureRefusal.{FigureRefusal}
 use Rattle.ngc_report.proofs.Converted.{turned}
 use Rattle.ngc_text.specs.Written.{AppendsPrefix}
 use Rattle.std.specs.Io.KnownBytes.{Appends}
-use Rattle.ngc_simulator.specs.Making.{Makes, WritesNumbers}
+use Rattle.ngc_simulator.specs.Making.{Makes, WritesNumbers, keys_text}
 use Rattle.ngc_inputs.specs.declared.fault.AnswerFault.TheVariants as answers
 use Rattle.ngc_inputs.proofs.JobLaws.{keeps_same}
 use Rattle.ngc_simulator.proofs.MakingLaws.{of_no_error, unmade}
@@ -16,12 +15,12 @@ pub returns-in_err-text-clause-makes : goal.returns-in_err-text-clause-makes
 returns-in_err-text-clause-makes g c =
     let dump = option_map (λ d. d.now) c.args.dump in
     let old = g.W.Sink.written c.args.output.now in
-    let keys = file_text c.in-Ok-numbers_of.numbers c.in-Ok.figures in
+    let keys = keys_text c.args.options.now.rates c.in-Ok-numbers_of.numbers c.in-Ok.figures in
     turned _ c.in_err-text.field-0.0 (Makes c.args.options.now dump old old) c.from_residual.ensures.1
     (unmade c.args.options.now dump old old keys c.in_err-text.field-0.0
     (record {
       figures = c.in-Ok.figures;
-      are_requested = c.in-Ok.ensures;
+      are_requested = c.in-Ok.ensures.asked;
       numbers = c.in-Ok-numbers_of.numbers;
       are_numbers = sym c.in-Ok-numbers_of.ensures.value;
       are_keys = refl;
@@ -34,11 +33,11 @@ returns-in_err-write_all-clause-makes g c =
     let new = g.W.Sink.written c.write_all.new.sink in
     turned _ (answers.Write c.in_err-write_all.field-0.0) (Makes c.args.options.now (option_map (λ d. d.now) c.args.dump) old new)
     c.from_residual-in_err-write_all.ensures.1 (
-      file_text c.in-Ok-numbers_of.numbers c.in-Ok.figures,
+      keys_text c.args.options.now.rates c.in-Ok-numbers_of.numbers c.in-Ok.figures,
       c.in_ok-text.text.items,
       record {
         figures = c.in-Ok.figures;
-        are_requested = c.in-Ok.ensures;
+        are_requested = c.in-Ok.ensures.asked;
         numbers = c.in-Ok-numbers_of.numbers;
         are_numbers = sym c.in-Ok-numbers_of.ensures.value;
         are_keys = refl;
@@ -55,8 +54,8 @@ returns-clause-makes g c =
     let appends = subst (λ (t : List ℕ). Appends old new t) c.as_slice.ensures.value c.in_ok-write_all.ensures.ok in
     let noted = of_no_error c.write_notes.result _ (sym c.is_err.ensures.value ∙ c.if-is_err.false) c.write_notes.ensures.ok in (
       Ok figures,
-      c.in-Ok.ensures,
-      subst (λ (r : Result MachineNumbers FigureRefusal). WritesNumbers figures r old new (record { text = c.into_inner.result; is_written = true }))
+      c.in-Ok.ensures.asked,
+      subst (λ (r : Result MachineNumbers FigureRefusal). WritesNumbers c.args.options.now.rates figures r old new (record { text = c.into_inner.result; is_written = true }))
           c.in-Ok-numbers_of.ensures.value
           ((c.in_ok-text.text.items, c.in_ok-text.ensures.made, appends), refl, rw (c.into_inner.ensures, noted, c.new-told.ensures.inner, c.new.ensures.items) refl),
     )
