@@ -37,7 +37,7 @@ dialect_numbers = 123 ∷ 134 ∷ 135 ∷ 136 ∷ 137 ∷ 138 ∷ 139 ∷ 205 �
 
 -- machine file and tool table
 abbrev pub setup_numbers : List ℕ
-setup_numbers = 261 ∷ 261 ∷ 262 ∷ 263 ∷ 264 ∷ 265 ∷ 266 ∷ 267 ∷ 268 ∷ 269 ∷ 269 ∷ []
+setup_numbers = 261 ∷ 261 ∷ 262 ∷ 263 ∷ 264 ∷ 265 ∷ 266 ∷ 267 ∷ 268 ∷ 269 ∷ 269 ∷ 269 ∷ []
 
 -- certificates
 abbrev pub certificate_numbers : List ℕ

@@ -16,16 +16,18 @@ pub(crate) fn setup() -> &'static [Row]
             example: "machine file `version = 4`",
             answer: "`ngc: fault 261 machine`",
             place: None,
-            mend: "Only version 2 has `axis_rate`, `jump`, `ring`, `arc_feed`, `changer`, `margin`,\n\
-             `travel_margin` and `rapids`.",
+            mend: "In version 3 each length, speed and acceleration is a text with its unit. Only version 2 has\n\
+             `axis_rate`; `jump`, `ring`, `arc_feed`, `changer`, `margin`, `travel_margin` and `rapids` are in\n\
+             versions 2 and 3.",
         },
         Row {
             number: 261,
-            rule: "The version of this tool table is unknown: write `version = 1`, or 2 where tools have parts.",
-            example: "tool table `version = 3`",
+            rule: "The version of this tool table is unknown: write `version = 3`, or 2 or 1 for whole numbers.",
+            example: "tool table `version = 4`",
             answer: "`ngc: fault 261 tools`",
             place: None,
-            mend: "In version 1 a tool has `length` and `radius`, in version 2 `bottom` and `parts`.",
+            mend: "In version 3 a tool has `diameter` and `length` with their units, in version 2 `bottom` and\n\
+             `parts`, and in version 1 `length` and `radius`.",
         },
         Row {
             number: 262,
@@ -33,7 +35,7 @@ pub(crate) fn setup() -> &'static [Row]
             example: "machine file `step = 499`",
             answer: "`ngc: fault 262 machine`",
             place: None,
-            mend: "A step of 0.01 mm is `step = 10000`.",
+            mend: "A step of 0.01 mm is `step = 10000`. In version 3 `motor` says the step: the same for all axes.",
         },
         Row {
             number: 263,
@@ -52,7 +54,8 @@ pub(crate) fn setup() -> &'static [Row]
             answer: "`ngc: fault 264 machine`",
             place: None,
             mend: "`max_rate`, `axis_rate`, `change`, `corner`: 1 to 1,000,000. `jump`: 0 to 1,000,000. `turn`: 1\n\
-             to 1,000,000,000,000. `ring`: 16 to 1,024. `arc_feed`: 0 to 2. `changer`: 0 or 1.",
+             to 1,000,000,000,000. `ring`: 16 to 1,024. `arc_feed`: 0 to 2. `changer`: 0 or 1. In version 3\n\
+             the `ticks` don't suit a `speed` or an `acceleration`: without that key `ngc` chooses them.",
         },
         Row {
             number: 265,
@@ -64,7 +67,8 @@ pub(crate) fn setup() -> &'static [Row]
             answer: "`ngc: fault 265 machine`",
             place: None,
             mend: "Write `start` as a multiple of `step`: with `step = 10000` it can be 0 or 10000, and not 5. With\n\
-             a travel margin `start` is at least that far from `low` and `high`.",
+             a travel margin `start` is at least that far from `low` and `high`. In version 3 the ends of\n\
+             the travel are in `travel`.",
         },
         Row {
             number: 266,
@@ -84,7 +88,8 @@ pub(crate) fn setup() -> &'static [Row]
             answer: "`ngc: fault 267 machine`",
             place: None,
             mend: "In the example Z has no size: with `high = [1, 1, 1]` it would have. A `name` has 1 to 40\n\
-             printable ASCII characters. There are at most 256 fixtures. The material's `system` is 0 to 9.",
+             printable ASCII characters. There are at most 256 fixtures. The material's `system` is 0 to 9.\n\
+             In version 3 `from` and `to`, or `from` and `size`, are in place of `low` and `high`.",
         },
         Row {
             number: 268,
@@ -96,7 +101,8 @@ pub(crate) fn setup() -> &'static [Row]
             answer: "`ngc: fault 268 tools`",
             place: None,
             mend: "`number`: 1 to 9,999, another one for each tool. `length`, `radius`: 0 to 1,000,000,000 nm.\n\
-             `offset`: at most that either way. `bottom`: -1,000,000,000 to 0 nm.",
+             `offset`: at most that either way. `bottom`: -1,000,000,000 to 0 nm. In version 3 lengths are\n\
+             at most 1,000 mm, and those of the tool and its holder must add up.",
         },
         Row {
             number: 269,
@@ -107,18 +113,30 @@ pub(crate) fn setup() -> &'static [Row]
             answer: "`ngc: fault 269 machine`",
             place: None,
             mend: "Write lengths in whole nanometres: `step = 10000` for 0.01 mm. `axis_rate` has three numbers,\n\
-             and is only in version 2, as are `dialect`, the name of a control, and the table `stock`.",
+             and is only in version 2. `dialect`, the name of a control, and the table `stock` are in\n\
+             versions 2 and 3. In version 3 write `\"0.01 mm\"`.",
         },
         Row {
             number: 269,
             rule: "The tool table isn't TOML, or a key is missing, unknown or has a value of the wrong kind:\n\
              `ngc show` says which key it is.\n\
-             Each tool has the four keys of the table's version.",
+             Each tool has the keys of the table's version.",
             example: "tool table `version = 1`, `[[tool]]`, `number = 1`",
             answer: "`ngc: fault 269 tools`",
             place: None,
             mend: "Version 1: `number`, `length`, `radius`, `offset`. Version 2: `number`, `offset`, `bottom`,\n\
-             `parts`, and where you like a `name`.",
+             `parts`, and where you like a `name`. Version 3: `number`, `diameter`, and `length` or\n\
+             `stickout`; the others may be missing.",
+        },
+        Row {
+            number: 269,
+            rule: "The job file isn't TOML, or a key is unknown or has a value of the wrong kind: the message says\n\
+             which key it is, and what to write.",
+            example: "job file `margin = 1`",
+            answer: "`ngc: fault 269 job`",
+            place: None,
+            mend: "Write `margin = \"1 mm\"`. A job file is `ngc.toml` beside the program, or the one that `--job`\n\
+             names.",
         },
     ];
     ROWS
