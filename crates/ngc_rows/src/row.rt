@@ -2,6 +2,7 @@ use crate::directive::Role;
 use crate::files::RowFiles;
 use crate::outputs::RowOutputs;
 use crate::text::{Text, around};
+use ngc_job_calls::{CallFault, JobCall, with_job};
 use ngc_output_answers::answer_to;
 use ngc_output_words::{CallWords, WordsFault, call_words};
 use ngc_saved_files::{SavedFiles, note_wide};
@@ -88,6 +89,18 @@ fn refused(alloc: Global, fault: UsageFault) -> Result<Outcome, AllocError> {
     }
 }
 
+// Returns the outcome of a call that isn't begun.
+fn not_begun(alloc: Global, fault: &CallFault) -> Result<Outcome, AllocError> {
+    match fault {
+        CallFault::Memory => Err(AllocError),
+        _ => Ok(Outcome {
+            status: fault.status(),
+            output: Vec::new(alloc),
+            errors: fault.text().to_vec(alloc)?,
+        }),
+    }
+}
+
 // Returns a sink that accepts this number of bytes and then fails.
 fn sink(alloc: Global, bytes: usize) -> FailingSink {
     let most = if bytes == usize::MAX { bytes } else { 1 };
@@ -148,11 +161,44 @@ impl Row {
         &self,
         alloc: Global,
         shared: &[Text],
+        words: &[&str],
+        out: Option<&str>,
+    ) -> Result<Outcome, AllocError> {
+        match read_options(alloc, words) {
+            Ok(options) => Ok(outcome_of(alloc, self, shared, &options, out)),
+            Err(fault) => refused(alloc, fault),
+        }
+    }
+
+    // Runs the program with those words, and with those of its job file.
+    fn outcome_of_job(
+        &self,
+        alloc: Global,
+        shared: &[Text],
+        job: &JobCall<'_>,
+        out: Option<&str>,
+    ) -> Result<Outcome, AllocError> {
+        let words = job.all_words(alloc)?;
+        let outcome = self.outcome_with(alloc, shared, words.as_slice(), out)?;
+        let mut errors = job.note.as_slice().to_vec(alloc)?;
+        errors.extend_from_slice(outcome.errors.as_slice())?;
+        Ok(Outcome {
+            status: outcome.status,
+            output: outcome.output,
+            errors,
+        })
+    }
+
+    fn outcome_of_call(
+        &self,
+        alloc: Global,
+        shared: &[Text],
         call: &CallWords<'_>,
     ) -> Result<Outcome, AllocError> {
-        match read_options(alloc, call.words.as_slice()) {
-            Ok(options) => Ok(outcome_of(alloc, self, shared, &options, call.out)),
-            Err(fault) => refused(alloc, fault),
+        let mut files = RowFiles::new(alloc, self, shared);
+        match with_job(alloc, call.words.as_slice(), &mut files) {
+            Ok(job) => self.outcome_of_job(alloc, shared, &job, call.out),
+            Err(fault) => not_begun(alloc, &fault),
         }
     }
 
@@ -160,7 +206,7 @@ impl Row {
     pub fn outcome(&self, alloc: Global, shared: &[Text]) -> Result<Outcome, AllocError> {
         let words: Vec<&str> = self.words.as_str().split_whitespace().collect(alloc)?;
         match call_words(alloc, words.as_slice()) {
-            Ok(call) => self.outcome_with(alloc, shared, &call),
+            Ok(call) => self.outcome_of_call(alloc, shared, &call),
             Err(WordsFault::Memory) => Err(AllocError),
             Err(fault) => refused(alloc, UsageFault::Usage(fault.text().to_string(alloc)?)),
         }
