@@ -74,7 +74,7 @@ const actions = {
   removeFixture(number) { files.changeMachine(text => withoutFixture(text, number), 'The fixture is no longer in the machine file in use.'); },
   addTool(tool) {
     const { tools } = store.state.files, isOld = tools.source !== 'example' && !hasParts(new TextDecoder().decode(tools.bytes));
-    if (isOld && (tool.parts.length > 1 || tool.name)) return notice('Only a tool table of version 2 has holders and names.', 'bad');
+    if (isOld && (tool.parts.length > 1 || tool.name)) return notice('A tool table of version 1 has no holders and no names.', 'bad');
     if (tools.source !== 'example' && sceneNow(store.state)?.tools.some(it => it.number === tool.number)) return notice(`Tool ${tool.number} is in the table already: remove it first.`, 'bad');
     files.changeTools(text => withTool(text, tool), `Tool ${tool.number} is in the tool table in use.`);
     id('tool').reset();
@@ -91,7 +91,7 @@ const actions = {
     actions.showIn('shop', fields[values.length]);
   },
   setStock(stock) {
-    if (!hasStock(new TextDecoder().decode(store.state.files.machine.bytes))) return notice('Only a machine file of version 2 describes the material.', 'bad');
+    if (!hasStock(new TextDecoder().decode(store.state.files.machine.bytes))) return notice('A machine file of version 1 doesn\u2019t describe the material.', 'bad');
     files.changeMachine(text => withStock(text, stock), 'The material is in the machine file in use.');
     id('stock').reset();
   },

@@ -2,11 +2,22 @@
 
 const HEAD = /^[ \t]*\[\[[ \t]*fixture[ \t]*\]\].*$/gm;
 const row = corner => `[${corner.join(', ')}]`;
+const versionOf = text => Number(/^[ \t]*version[ \t]*=[ \t]*(\d+)/m.exec(text)?.[1] ?? 1);
+const added = (text, table) => `${text.replace(/\n*$/, '\n')}\n${table}`;
+const named = name => (name ? `name = ${JSON.stringify(name)}\n` : '');
+
+// Version 3 has texts with units. A whole number of nanometres divided by a million has at most six decimals, which JavaScript prints exactly.
+const length = nanometres => `"${nanometres / 1e6} mm"`, place = corner => `"${corner.map(it => it / 1e6).join(', ')} mm"`;
+const SYSTEMS = ['G54', 'G55', 'G56', 'G57', 'G58', 'G59', 'G59.1', 'G59.2', 'G59.3'];
+// The corners of a box. In version 3 a system has its name.
+const corners = (version, { system, low, high }) => (version === 3
+  ? `${system ? `in = "${SYSTEMS[system - 1]}"\n` : ''}from = ${place(low)}\nto = ${place(high)}\n`
+  : `${system ? `system = ${system}\n` : ''}low = ${row(low)}\nhigh = ${row(high)}\n`);
 
 export function withFixture(text, { name, low, high }) {
-  // Only version 2 has names.
-  const hasNames = /^[ \t]*version[ \t]*=\s*2/m.test(text), named = hasNames && name ? `name = ${JSON.stringify(name)}\n` : '';
-  return `${text.replace(/\n*$/, '\n')}\n[[fixture]]\n${named}low = ${row(low)}\nhigh = ${row(high)}\n`;
+  const version = versionOf(text);
+  // Version 1 has no names.
+  return added(text, `[[fixture]]\n${version > 1 ? named(name) : ''}${corners(version, { low, high })}`);
 }
 
 // The text without a table: from its head to before the next one.
@@ -19,23 +30,25 @@ function withoutTable(text, head) {
 export const withoutFixture = (text, number) => withoutTable(text, [...text.matchAll(HEAD)][number]);
 
 const TOOL = /^[ \t]*\[\[[ \t]*tool[ \t]*\]\].*$/gm;
-export const hasParts = text => /^[ \t]*version[ \t]*=[ \t]*2/m.test(text);
-export const NEW_TABLE = 'version = 2\n';
+export const hasParts = text => versionOf(text) > 1;
+export const NEW_TABLE = 'version = 3\n';
+// A tool with its parts from the tip up: the cutter, and a holder if it has one. Version 1 has one part and no names. G43 adds the reach, as usual.
+const tables = {
+  1: ({ reach, parts }) => `length = ${reach}\nradius = ${parts[0].radius}\noffset = ${reach}\n`,
+  2: ({ name, reach, parts }) => `offset = ${reach}\nbottom = ${-reach}\n${named(name)}parts = [\n${parts.map(it => `    { length = ${it.length}, radius = ${it.radius} },\n`).join('')}]\n`,
+  3: ({ name, reach, parts: [cutter, holder] }) => `${named(name)}diameter = ${length(2 * cutter.radius)}\nlength = ${length(reach)}\n${holder ? `holder = [{ diameter = ${length(2 * holder.radius)}, length = ${length(holder.length)} }]\n` : ''}`,
+};
 // The text with one more tool: its number, its name, its reach below the spindle nose, and its parts from the tip up, each with a length and a
-// radius. Version 1 has one part and no names. G43 adds the reach, as usual.
-export function withTool(text, { number, name, reach, parts }) {
-  const shape = hasParts(text) ? `offset = ${reach}\nbottom = ${-reach}\n${name ? `name = ${JSON.stringify(name)}\n` : ''}parts = [\n${parts.map(it => `    { length = ${it.length}, radius = ${it.radius} },\n`).join('')}]\n`
-    : `length = ${reach}\nradius = ${parts[0].radius}\noffset = ${reach}\n`;
-  return `${text.replace(/\n*$/, '\n')}\n[[tool]]\nnumber = ${number}\n${shape}`;
-}
+// radius.
+export const withTool = (text, tool) => added(text, `[[tool]]\nnumber = ${tool.number}\n${(tables[versionOf(text)] ?? tables[1])(tool)}`);
 // The text without a tool. `at` is its place in the table, from 0.
 export const withoutTool = (text, at) => withoutTable(text, [...text.matchAll(TOOL)][at]);
 
 const STOCK = /^[ \t]*\[[ \t]*stock[ \t]*\].*$/m;
-// The text with this block of material in place of another one. Only version 2 has it.
-export const withStock = (text, { system, low, high }) => `${withoutStock(text).replace(/\n*$/, '\n')}\n[stock]\n${system ? `system = ${system}\n` : ''}low = ${row(low)}\nhigh = ${row(high)}\n`;
+// The text with this block of material in place of another one. Version 1 has none.
+export const withStock = (text, stock) => added(withoutStock(text), `[stock]\n${corners(versionOf(text), stock)}`);
 export const withoutStock = text => withoutTable(text, STOCK.exec(text));
-export const hasStock = text => /^[ \t]*version[ \t]*=[ \t]*2/m.test(text);
+export const hasStock = text => versionOf(text) > 1;
 
 const number = value => String(Math.round(value * 1000) / 1000);
 const option = (name, value) => (value === null ? [] : [`--${name}=${[value].flat().map(number).join(',')}`]);
