@@ -884,7 +884,7 @@ def material(checks, page):
     page.give({"one.toml": page.read("clamped_mill.toml")})
     page.forget_notices()
     page.value(f"{form}.low.value = '0 0 -20'; {form}.high.value = '100 60 0'; document.querySelector('#stock button').click(); 0")
-    checks.has("a machine file of version 1 can't have one, and the page says so", page.notices, "version 2")
+    checks.has("a machine file of version 1 can't have one, and the page says so", page.notices, "A machine file of version 1")
     page.value(f"{form}.high.value = '1, 2'; document.querySelector('#stock button').click(); document.getElementById('stock').reset(); 0")
     checks.has("nor is one without three numbers taken", page.notices, "two corners of three numbers")
     page.do("ngc.files.useExampleMachine()")
