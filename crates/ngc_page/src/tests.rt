@@ -322,7 +322,7 @@ const ROWS: &[Row] = &[
     },
     Row {
         call: Call::Machine,
-        part: b"step = 10000",
+        part: b"motor = \"100 steps/mm\"",
         is_whole: false,
     },
     Row {
