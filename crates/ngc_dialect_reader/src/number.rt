@@ -136,6 +136,7 @@ fn last_place(decimals: usize) -> u64
 }
 
 // Returns the decimals in 10^-12, rounded.
+#[inline(always)]
 fn fraction_of(decimals: Digits<'_>) -> u64
     requires digits { IsDigits decimals.bytes.now }
     requires units { decimals.units ≡ min (digits_value decimals.bytes.now) 100000000000000 }
@@ -158,6 +159,7 @@ fn limited(size: u128) -> Option<u128>
 }
 
 // Returns the size of a number in 10^-12, if it is not too large.
+#[inline(always)]
 fn size_of(whole: Digits<'_>, decimals: Digits<'_>) -> Option<u128>
     requires units { whole.units ≡ min (digits_value whole.bytes.now) 100000000000000 }
     requires digits { IsDigits decimals.bytes.now }

@@ -1,4 +1,4 @@
-ghost use Rattle.std.specs.Prelude.{◌≡◌, ◌≤◌, length, [], Bool, false, None, Some, IsTrue};
+ghost use Rattle.std.specs.Prelude.{◌≡◌, ℕ, ◌≤◌, ◌+◌, ◌++◌, length, drop, [], Bool, false, None, Some, IsTrue};
 ghost use Rattle.arrayvec.specs.ArrayVec.{array_vec_len};
 ghost use Rattle.ngc_dialect_reader.specs.Text as spec;
 ghost use Rattle.ngc_dialect_reader.specs.declared.text.Place.TheVariants as places;
@@ -103,15 +103,24 @@ fn end_fault(closed: bool, place: Place, opened: usize) -> Option<LineFault>
     }
 }
 
-// Returns whether a byte outside comments stands in the text as it is: one from '-' to '9', or a
-// capital letter.
+// Returns whether a byte outside comments stands in the text as it is: one from '-' to 'Z', but ';'.
 #[inline]
 fn stays(byte: u8) -> bool
     ensures kept { IsTrue result → (last : Bool) → spec.kept places.Outside byte last ≡ Some byte }
     ensures visible { IsTrue result → (last : Bool) → spec.is_control byte last ≡ false }
     ensures outside { IsTrue result → spec.place_after places.Outside byte ≡ places.Outside }
 {
-    (byte >= b'-' && byte <= b'9') || (byte >= b'A' && byte <= b'Z')
+    byte >= b'-' && byte <= b'Z' && byte != b';'
+}
+
+// Returns whether a byte is a space, which outside comments adds nothing.
+#[inline]
+fn is_space(byte: u8) -> bool
+    ensures skipped { IsTrue result → (last : Bool) → spec.kept places.Outside byte last ≡ None }
+    ensures visible { IsTrue result → (last : Bool) → spec.is_control byte last ≡ false }
+    ensures outside { IsTrue result → spec.place_after places.Outside byte ≡ places.Outside }
+{
+    byte == b' '
 }
 
 #[inline]
@@ -119,6 +128,37 @@ fn is_outside(place: Place) -> bool
     ensures { IsTrue result → place ≡ places.Outside }
 {
     matches!(place, Place::Outside)
+}
+
+// Adds the bytes outside comments from `from` on that stay in the text as they are, without the spaces
+// between them, and returns the index of the first other byte. Nearly all bytes of programs are among
+// these, so that nothing else is looked for here.
+#[inline(always)]
+#[tactic(auto, using(crate::proofs::TextBytes::text_steps))]
+fn add_plain(line: &[u8], from: usize, bytes: &mut ArrayVec<u8, 256>) -> usize
+    requires length { length line.now ≤ 256 }
+    requires from { from ≤ length line.now }
+    requires room { array_vec_len bytes.old ≤ from }
+    ensures after { from ≤ result }
+    ensures within { result ≤ length line.now }
+    ensures room { array_vec_len bytes.new ≤ result }
+    ensures text { bytes.new.items ++ spec.text_from places.Outside (drop result line.now)
+        ≡ bytes.old.items ++ spec.text_from places.Outside (drop from line.now) }
+    ensures fault { (closed : Bool) (opened : ℕ)
+        → spec.text_fault closed places.Outside opened (result + 1) (drop result line.now)
+        ≡ spec.text_fault closed places.Outside opened (from + 1) (drop from line.now) }
+{
+    let mut i = from;
+    while i < line.len() {
+        let byte = line[i];
+        if stays(byte) {
+            bytes.push(byte);
+        } else if !is_space(byte) {
+            return i;
+        }
+        i += 1;
+    }
+    i
 }
 
 // Writes the text of a line into `bytes`, in place of what was there, or returns why it has none: the
@@ -136,30 +176,30 @@ pub(crate) fn read_text(
     bytes.clear();
     let mut place = Place::Outside;
     let mut opened = 0;
-    for i in 0..line.len() {
+    let mut i = add_plain(line, 0, bytes);
+    while i < line.len() {
         let byte = line[i];
-        if is_outside(place) && stays(byte) {
-            bytes.push(byte);
-            opened = i + 1;
-        } else {
-            let last = i + 1 == line.len();
-            if is_control(byte, last) {
-                return Some(LineFault {
-                    cause: Cause::ControlCharacter,
-                    column: i + 1,
-                });
-            }
-            if is_nested(place, byte) {
-                return Some(LineFault {
-                    cause: Cause::CommentInComment,
-                    column: i + 1,
-                });
-            }
-            if let Some(letter) = kept(place, byte, last) {
-                bytes.push(letter);
-            }
-            opened = opened_after(place, opened, i + 1);
-            place = place_after(place, byte);
+        let last = i + 1 == line.len();
+        if is_control(byte, last) {
+            return Some(LineFault {
+                cause: Cause::ControlCharacter,
+                column: i + 1,
+            });
+        }
+        if is_nested(place, byte) {
+            return Some(LineFault {
+                cause: Cause::CommentInComment,
+                column: i + 1,
+            });
+        }
+        if let Some(letter) = kept(place, byte, last) {
+            bytes.push(letter);
+        }
+        opened = opened_after(place, opened, i + 1);
+        place = place_after(place, byte);
+        i += 1;
+        if is_outside(place) {
+            i = add_plain(line, i, bytes);
         }
     }
     end_fault(closed, place, opened)
