@@ -27,7 +27,7 @@ use Rattle.ngc_dialect_arcs.specs.declared.refusal.ArcRefusal.{ArcRefusal}
 use Rattle.ngc_dialect_arcs.specs.declared.refusal.ArcRefusal.TheVariants as why
 use Rattle.ngc_dialect_arcs.specs.Centre.{start_square, end_square, chord_square, shift, moved, evened, in_range, is_in_range, is_even, SHIFT_LIMIT}
 use Rattle.ngc_dialect_arcs.specs.Centre.{settled, ends_of, centre_found, is_radius, is_too_short, by_radius}
-use Rattle.ngc_dialect_arcs.specs.Lines.{along_u, along_v, end_of, given, has_offset, centre_by, centre_of, word_fault, refuse_of, shown}
+use Rattle.ngc_dialect_arcs.specs.Lines.{along_u, along_v, end_of, given, has_offset, centre_by, centre_of, word_fault, count_fault, refuse_of, shown}
 use Rattle.ngc_dialect_arcs.specs.declared.line.ArcLine.{ArcLine}
 use Rattle.ngc_dialect_arcs.specs.Limits.{least_radius, may_differ}
 use Rattle.ngc_dialect_arcs.specs.Laws.{EvenedAreAlike, ArcsAreTaken, CentresStayNear, IsNearby, offsets_of}
@@ -266,9 +266,12 @@ pub record IsCentre (written : Units) (l : ArcLine) (centre : Point2) : Type 0 w
 centre_is : (written : Units) (l : ArcLine) (centre : Point2) → centre_of written l ≡ Ok centre → IsCentre written l centre
 unfolding centre_of
 centre_is written l centre h =
-    let first = before (refuse_of (word_fault l)) (λ words. end_of l >>= λ end. centre_by written l end l.radius) centre h in
-    let second = before (end_of l) (λ end. centre_by written l end l.radius) centre first.2 in
-    record { end = second.0; end_is = second.1; by = second.2 }
+    let counted : Point2 → Result Point2 ArcRefusal = λ c. refuse_of (count_fault l) >>= λ turns. Ok c in
+    let first = before (refuse_of (word_fault l)) (λ words. end_of l >>= λ end. centre_by written l end l.radius >>= counted) centre h in
+    let second = before (end_of l) (λ end. centre_by written l end l.radius >>= counted) centre first.2 in
+    let third = before (centre_by written l second.0 l.radius) counted centre second.2 in
+    let fourth = before (refuse_of (count_fault l)) (λ turns. let r : Result Point2 ArcRefusal = Ok third.0 in r) centre third.2 in
+    record { end = second.0; end_is = second.1; by = subst (λ c. centre_by written l second.0 l.radius ≡ Ok c) (same third.0 centre fourth.2) third.1 }
 
 zero_is : (z : ℤ) → is_zero z ≡ true → z ≡ pos 0
 zero_is z h = let size : unsigned_abs z ≡ 0 = eqb-true _ _ h in omega (arith, ints, size)

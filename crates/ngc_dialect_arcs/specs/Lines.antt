@@ -123,19 +123,24 @@ turns_fault (Some p) =
 -- LinuxCNC refuses an offset of the third axis, which the others leave out
 unfoldable pub word_fault : ArcLine → Option ArcRefusal
 word_fault l =
-    if is_linuxcnc l.dialect && has_third l.plane l.offsets then Some why.ThirdOffset
-    else (if counts_turns l.dialect then turns_fault l.turns else None)
+    if is_linuxcnc l.dialect && has_third l.plane l.offsets then Some why.ThirdOffset else None
+
+unfoldable pub count_fault : ArcLine → Option ArcRefusal
+count_fault l = if counts_turns l.dialect then turns_fault l.turns else None
 
 abbrev pub refuse_of : Option ArcRefusal → Result (Unit {0}) ArcRefusal
 refuse_of None = Ok tt
 refuse_of (Some e) = Err e
 
--- the centre of the arc in our own language, if the line is written in these units
+-- the centre of the arc in our own language, if the line is written in these units; the number of
+-- turns is refused last, so that what is wrong with one turn too is said first
 unfoldable pub centre_of : Units → ArcLine → Result Point2 ArcRefusal
 centre_of written l = do
   words ← refuse_of (word_fault l)
   end ← end_of l
-  centre_by written l end l.radius
+  centre ← centre_by written l end l.radius
+  turns ← refuse_of (count_fault l)
+  Ok centre
 
 -- ---- words of our own language
 

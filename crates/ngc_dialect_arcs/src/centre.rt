@@ -187,9 +187,11 @@ fn is_too_short(dialect: Dialect, radius: Nm, chord: u128) -> bool
     4 * reach * reach < chord
 }
 
-/// Returns the centre of an arc with R.
+/// Returns the centre of an arc with R, as a vector from its start in the arc's plane, as is `end`. The
+/// arc is written in the units `written`. It is refused if it ends where it begins, if R is 0 or over
+/// 2 metres, or if R is too short to reach from start to end by more than the dialect allows.
 #[tactic(auto, unfolding(crate::specs::Centre::by_radius))]
-pub(crate) fn by_radius(
+pub fn by_radius(
     dialect: Dialect,
     written: Units,
     turn: Turn,

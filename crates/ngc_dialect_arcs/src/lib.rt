@@ -8,5 +8,6 @@ mod limits;
 mod line;
 mod refusal;
 
+pub use centre::by_radius;
 pub use line::{ArcLine, programmed};
 pub use refusal::ArcRefusal;

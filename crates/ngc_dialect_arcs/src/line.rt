@@ -292,14 +292,40 @@ impl ArcLine {
     {
         if is_linuxcnc(self.dialect) && has_third(self.plane, &self.offsets) {
             Some(ArcRefusal::ThirdOffset)
-        } else if counts_turns(self.dialect) {
+        } else {
+            None
+        }
+    }
+
+    // Returns why the number of turns is refused, if it is.
+    #[tactic(auto, unfolding(crate::specs::Lines::count_fault))]
+    fn count_fault(&self) -> Option<ArcRefusal>
+        ensures { result ≡ spec.count_fault self.now }
+    {
+        if counts_turns(self.dialect) {
             turns_fault(self.turns)
         } else {
             None
         }
     }
 
-    // Returns the vector from the start to the centre.
+    // Returns the vector from the start to the centre, by R or by the offsets.
+    fn centre_by(&self, written: Units, end: &Point2) -> Result<Point2, ArcRefusal>
+        ensures { result ≡ spec.centre_by written self.now end.now self.now.radius }
+    {
+        match self.radius {
+            None => self.by_offsets(written, end),
+            Some(radius) => {
+                if self.has_offset() {
+                    Err(ArcRefusal::RadiusBesideOffsets)
+                } else {
+                    by_radius(self.dialect, written, self.turn, end, radius)
+                }
+            }
+        }
+    }
+
+    // Returns the vector from the start to the centre, unless the line is refused.
     #[tactic(auto, unfolding(crate::specs::Lines::centre_of))]
     fn centre(&self, written: Units) -> Result<Point2, ArcRefusal>
         ensures { result ≡ spec.centre_of written self.now }
@@ -308,15 +334,10 @@ impl ArcLine {
             return Err(refusal);
         }
         let end = self.end()?;
-        match self.radius {
-            None => self.by_offsets(written, &end),
-            Some(radius) => {
-                if self.has_offset() {
-                    Err(ArcRefusal::RadiusBesideOffsets)
-                } else {
-                    by_radius(self.dialect, written, self.turn, &end, radius)
-                }
-            }
+        let centre = self.centre_by(written, &end)?;
+        match self.count_fault() {
+            None => Ok(centre),
+            Some(refusal) => Err(refusal),
         }
     }
 
