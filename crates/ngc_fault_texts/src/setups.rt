@@ -17,8 +17,8 @@ pub(crate) fn setup() -> &'static [Row]
             answer: "`ngc: fault 261 machine`",
             place: None,
             mend: "In version 3 each length, speed and acceleration is a text with its unit. Only version 2 has\n\
-             `axis_rate`; `jump`, `ring`, `arc_feed`, `changer`, `margin`, `travel_margin` and `rapids` are in\n\
-             versions 2 and 3.",
+             `axis_rate`; `jump`, `ring`, `arc_feed`, `changer`, `margin`, `travel_margin` and `rapids` are\n\
+             in versions 2 and 3.",
         },
         Row {
             number: 261,

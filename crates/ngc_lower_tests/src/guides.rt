@@ -18,7 +18,7 @@ fn explanations_have_short_lines(rt: HostRuntime) -> Result<(), Fail> {
     for number in 0u16..1000 {
         let output = explanation(rt.alloc(), number);
         let text = std::str::from_utf8(output.as_slice()).map_err(|_| "text")?;
-        let is_short = text.lines().all(|line| line.chars().count() <= 100);
+        let is_short = text.lines().all(|line| line.chars().count() <= 96);
         holds(&rt, &number, is_short);
     }
     Ok(())
