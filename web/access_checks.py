@@ -1,4 +1,6 @@
 """Checks that everyone can use the page: names and roles, the live regions, the keyboard alone, contrast, narrow windows, a finger."""
+import time
+
 from browsers import Chromium
 
 DRAWN = "new Promise(done => requestAnimationFrame(() => requestAnimationFrame(() => setTimeout(done, 0)))).then(() => 0)"
@@ -159,9 +161,17 @@ def keyboard(checks, page):
     page.browser.press("s", control=True)
     page.wait("!ngc.saving.hasUnsavedEdits", 10)
     checks.expect("Ctrl+S saves the program", True)
-    for saved in page.downloads.iterdir():
+    for saved in whole_files(page.downloads):
         saved.unlink()
     page.example("slot.ngc")
+
+
+def whole_files(folder, seconds=20):
+    """The files that a browser has saved. It writes each under another name first, which these endings mark."""
+    until = time.time() + seconds
+    while any(it.suffix in (".crdownload", ".part") for it in folder.iterdir()) and time.time() < until:
+        time.sleep(0.02)
+    return list(folder.iterdir())
 
 
 def contrast(checks, page):

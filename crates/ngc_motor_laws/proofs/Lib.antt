@@ -1,0 +1,2 @@
+-- From the path to the commanded positions.
+pub mod Commanding

@@ -1,0 +1,12 @@
+//! Laws about the definitions only.
+ghost use Rattle.ngc_motors.specs.Laws.{CountIsNearest, CountMovesByOne, CountOfWhole, CountRises};
+
+/// States that a motor stands at most half of its step from the place on its axis that the path is
+/// at, that its count never falls while that place rises, that a step of the grid moves it by at
+/// most one of its steps, and that a place of whole motor steps is commanded exactly.
+pub fn counts_follow()
+    ensures nearest { CountIsNearest }
+    ensures rises { CountRises }
+    ensures by_one { CountMovesByOne }
+    ensures whole { CountOfWhole }
+{}
