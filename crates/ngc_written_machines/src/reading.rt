@@ -51,8 +51,12 @@ pub fn read_machine(alloc: Global, bytes: &[u8]) -> Result<Machine<Global>, File
         Ok(tree) => tree,
         Err(_) => return Err(FileFault::Memory),
     };
-    match &tree {
-        Some(tree) if is_written(tree) => written_file(alloc, tree),
-        _ => Machine::read(alloc, bytes),
+    if let Some(tree) = &tree {
+        if is_written(tree) {
+            return written_file(alloc, tree);
+        }
     }
+    // A file of version 1 or 2 is read by its own rules: two trees at once would take twice the memory.
+    drop(tree);
+    Machine::read(alloc, bytes)
 }

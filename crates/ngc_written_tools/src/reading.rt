@@ -92,8 +92,12 @@ pub fn read_tools(alloc: Global, bytes: &[u8]) -> Result<Tools<Global>, FileFaul
         Ok(tree) => tree,
         Err(_) => return Err(FileFault::Memory),
     };
-    match &tree {
-        Some(tree) if is_written(tree) => written_table(alloc, tree),
-        _ => Tools::read(alloc, bytes),
+    if let Some(tree) = &tree {
+        if is_written(tree) {
+            return written_table(alloc, tree);
+        }
     }
+    // A table of version 1 or 2 is read by its own rules: two trees at once would take twice the memory.
+    drop(tree);
+    Tools::read(alloc, bytes)
 }
