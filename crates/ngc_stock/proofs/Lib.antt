@@ -10,3 +10,5 @@ pub mod Silences
 pub mod FreeTools
 -- A program of which no feed below the stock is reported cuts nothing under it along straight feeds.
 pub mod AboveFeeds
+-- The law of feeds whose upper parts are clear.
+pub mod ClearFeeds

@@ -1,5 +1,5 @@
 -- The law of silence, by induction over the commands before a traverse.
-use Rattle.std.proofs.Common.{◌≡◌, ℕ, ◌+◌, ◌*◌, ◌<◌, pos, ◌+ℤ◌, ◌<ℤ◌, inl, inr, sym, subst, arith, List, [], ◌∷◌, ◌++◌, ◌/◌, min, Bool, true, false, cond, Option, Some, None}
+use Rattle.std.proofs.Common.{◌≡◌, ℕ, ◌+◌, ◌*◌, ◌<◌, ◌≤◌, pos, ◌+ℤ◌, ◌<ℤ◌, inl, inr, sym, subst, arith, List, [], ◌∷◌, ◌++◌, ◌/◌, min, Bool, true, false, cond, Option, Some, None}
 use Rattle.std.proofs.lemmas.List.{get_or-replicate, length-replicate}
 use Rattle.ngc_fixed_length.specs.declared.points.Point3.{Point3}
 use Rattle.ngc_machine_files.specs.declared.tools.Tool.{Tool}
@@ -14,8 +14,8 @@ use Rattle.ngc_commands.specs.declared.reached.Reached.{Reached}
 use Rattle.ngc_commands.specs.Reached.{after, after_all}
 use Rattle.ngc_cells.specs.Grids.{IsGrid}
 use Rattle.ngc_stock.specs.declared.stock.Stock.{Stock}
-use Rattle.ngc_stock.specs.Stocks.{IsInStock, is_slope, height_of}
-use Rattle.ngc_stock.specs.Walk.{IsMotion, IsStep, IsSilent, IsCutOn, IsCutIn, IsCutInAny, IsLeft, IsSafeOn, IsSafe, uncut}
+use Rattle.ngc_stock.specs.Stocks.{IsInStock, from_part, is_slope, height_of}
+use Rattle.ngc_stock.specs.Walk.{AreClear, IsMotion, IsStep, IsSilent, MeetNone, IsCutOn, IsCutIn, IsCutInAny, IsLeft, IsSafeOn, IsSafe, uncut}
 use Rattle.ngc_stock.proofs.Bounds.{AreBounds, fewer, feed_keeps, clear_line, clear_end}
 use Rattle.ngc_stock.proofs.Arcs.{arc_keeps}
 use Rattle.ngc_stock.specs.Silence.{Silence}
@@ -36,7 +36,7 @@ motion_keeps s t (Arc arc) (Feed f) grid old new Left stock m bounds =
     arc_keeps s t arc grid (λ q. Left q × ¬ (IsCutOn t (Arc arc) (Feed f) q)) (λ q h. stock q h.0) (λ q h. h.1) old new m
     (fewer s old Left (λ q. Left q × ¬ (IsCutOn t (Arc arc) (Feed f) q)) (λ q h. h.0) bounds)
 
-step_keeps : (s : Stock) (tool : Option Tool) (action : Action) (grid : IsGrid s.grid) (old new : List ℕ) (Left : Point3 → Type 0) →
+pub step_keeps : (s : Stock) (tool : Option Tool) (action : Action) (grid : IsGrid s.grid) (old new : List ℕ) (Left : Point3 → Type 0) →
     ((q : Point3) → Left q → IsInStock s q) → IsStep s tool action old new → AreBounds s old Left → AreBounds s new (λ q. Left q × ¬ (IsCutIn tool action q))
 step_keeps s None action grid old new Left stock m bounds = same_heights s old new Left (λ q. Left q × ¬ (IsCutIn None action q)) (λ q h. h.0) m bounds
 step_keeps s (Some t) (Move m) grid old new Left stock h bounds = motion_keeps s t m.way m.pace grid old new Left stock h bounds
@@ -55,12 +55,17 @@ some_pieces : (v : Bool) (h : ℕ) → 0 < cond v (min 1000 (h / 50000 + 1)) 1
 some_pieces true h = omega arith
 some_pieces false h = omega arith
 
+-- each part from one up
+pub parts_safe : (s : Stock) (t : Tool) (first : ℕ) (a b : Point3) (grid : IsGrid s.grid) (heights : List ℕ) (Left : Point3 → Type 0) →
+    ((q : Point3) → Left q → IsInStock s q) → AreClear s t first a b heights → AreBounds s heights Left → MeetNone s Left t first a b
+parts_safe s t first a b grid heights Left stock clear bounds = λ p from less. record {
+  line = λ n k some small q left. clear_line s (from_part t p) a b grid heights Left stock bounds (clear p from less) (some_pieces (is_slope a b) (height_of a b)) n k some small q left;
+  end = λ q left. clear_end s (from_part t p) a b grid heights Left stock bounds (clear p from less) q left;
+}
+
 way_safe : (s : Stock) (t : Tool) (way : Way) (pace : Pace) (grid : IsGrid s.grid) (old new : List ℕ) (Left : Point3 → Type 0) →
     ((q : Point3) → Left q → IsInStock s q) → IsMotion s t way pace old new → AreBounds s old Left → IsSafeOn s Left t way pace
-way_safe s t (Line a b) Rapid grid old new Left stock m bounds = record {
-  line = λ n k some small q left. clear_line s t a b grid old Left stock bounds m.0 (some_pieces (is_slope a b) (height_of a b)) n k some small q left;
-  end = λ q left. clear_end s t a b grid old Left stock bounds m.0 q left;
-}
+way_safe s t (Line a b) Rapid grid old new Left stock m bounds = parts_safe s t 0 a b grid old Left stock m.0 bounds
 way_safe s t (Line a b) (Feed f) grid old new Left stock m bounds = tt
 way_safe s t (Arc arc) pace grid old new Left stock m bounds = tt
 
@@ -78,7 +83,7 @@ step_safe s (Some t) OptionalStop grid old new Left stock m bounds = tt
 step_safe s (Some t) End grid old new Left stock m bounds = tt
 
 way_fewer : (s : Stock) (t : Tool) (way : Way) (pace : Pace) (Left Less : Point3 → Type 0) → ((q : Point3) → Less q → Left q) → IsSafeOn s Left t way pace → IsSafeOn s Less t way pace
-way_fewer s t (Line a b) Rapid Left Less f h = record { line = λ n k some small q left. h.line n k some small q (f q left); end = λ q left. h.end q (f q left) }
+way_fewer s t (Line a b) Rapid Left Less f h = λ p from less. record { line = λ n k some small q left. (h p from less).line n k some small q (f q left); end = λ q left. (h p from less).end q (f q left) }
 way_fewer s t (Line a b) (Feed x) Left Less f h = tt
 way_fewer s t (Arc arc) pace Left Less f h = tt
 
@@ -110,7 +115,7 @@ all_before s grid (b ∷ before) later c r heights Left stock bounds silent =
     (λ q. Next q × ¬ (IsCutInAny (after r b.action) before q)) (λ q. Left q × ¬ (IsCutInAny r (b ∷ before) q))
     (λ q h. ((h.0, λ i. h.1 (inl i)), λ i. h.1 (inr i))) rest
 
-at_first : (s : Stock) → AreBounds s (uncut s) (IsInStock s)
+pub at_first : (s : Stock) → AreBounds s (uncut s) (IsInStock s)
 at_first s = record {
   count = length-replicate (s.grid.columns * s.grid.rows) s.height;
   each = λ k small q h i.

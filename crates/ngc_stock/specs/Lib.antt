@@ -4,3 +4,4 @@ pub mod Walk
 pub mod Silence
 pub mod Changes
 pub mod Below
+pub mod Feeds

@@ -10,7 +10,7 @@ use Rattle.ngc_stock.specs.declared.stock.Stock.{Stock}
 use Rattle.ngc_stock.specs.Walk.{IsSilent, IsSafe, IsLeft, uncut}
 
 -- if no traverse of the commands is reported, each meets nothing that the feeds before it have left,
--- for a cutter smaller by the margin and raised
+-- for each part of the tool, smaller by the margin and raised
 abbrev pub Silence : Type 0
 Silence = (s : Stock) (r : Reached) (before after : List Command) (c : Command) → IsGrid s.grid →
     IsSilent s r (uncut s) (before ++ c ∷ after) → IsSafe s (IsLeft s r before) (after_all r before).tool c.action

@@ -1,6 +1,7 @@
 -- A stock, and what of it the cutters of feeds reach. Our own.
-use Rattle.std.specs.Prelude.{ℕ, ◌+◌, ◌*◌, ◌-◌, ◌/◌, ◌≤◌, ◌<◌, min, ℤ, pos, negsuc, neg_ℤ, ◌+ℤ◌, ◌-ℤ◌, ◌*ℤ◌, ◌≤ℤ◌, ◌<ℤ◌, unsigned_abs, List, [], ◌∷◌, Bool, ◌&&◌, not, if◌then◌else◌}
+use Rattle.std.specs.Prelude.{ℕ, ◌+◌, ◌*◌, ◌-◌, ◌/◌, ◌≤◌, ◌<◌, min, ℤ, pos, negsuc, neg_ℤ, ◌+ℤ◌, ◌-ℤ◌, ◌*ℤ◌, ◌≤ℤ◌, ◌<ℤ◌, unsigned_abs, drop, zero, suc, List, [], ◌∷◌, Bool, ◌&&◌, not, if◌then◌else◌}
 use Rattle.std.specs.Int.{int_div_euclid, int_min, int_max}
+use Rattle.ngc_fixed_length.specs.Limits.{LENGTH_LIMIT}
 use Rattle.ngc_fixed_length.specs.Roots.{whole_root_above}
 use Rattle.ngc_fixed_length.specs.Signed.{same}
 use Rattle.ngc_fixed_length.specs.declared.points.Point3.{Point3}
@@ -57,6 +58,22 @@ first_part (p ∷ ps) = p
 -- its radius; no part has one over the limit
 abbrev pub radius : Tool → ℕ
 radius t = min RADIUS_LIMIT (unsigned_abs (first_part t.parts).radius)
+
+-- ---- the other parts: the shank and the holder, cylinders from their feet up
+
+-- a tool without its lowest part: the part above it is then the lowest; no foot is over the limit
+abbrev pub above : Tool → Tool
+above t = record t {
+  bottom = int_min (pos LENGTH_LIMIT) (t.bottom +ℤ pos (unsigned_abs (first_part t.parts).length));
+  parts = drop 1 t.parts;
+}
+
+-- a tool from part p up; the parts count from 0, which is the cutter
+abbrev pub from_part : Tool → ℕ → Tool
+from_part t zero = t
+from_part t (suc p) = above (from_part t p)
+
+-- ---- what a cutter covers
 
 abbrev pub flat : Point3 → Spot
 flat p = spot p.x p.y

@@ -1,6 +1,6 @@
 -- Which heights of the cells a program's motions leave, and when a traverse may touch material. Our
 -- own.
-use Rattle.std.specs.Prelude.{◌≡◌, ℕ, zero, suc, ◌+◌, ◌*◌, ◌-◌, ◌≤◌, ◌<◌, ◌⊎◌, pos, ◌+ℤ◌, List, [], ◌∷◌, replicate, Option, Some, None}
+use Rattle.std.specs.Prelude.{◌≡◌, ℕ, zero, suc, ◌+◌, ◌*◌, ◌-◌, ◌≤◌, ◌<◌, ◌⊎◌, pos, ◌+ℤ◌, List, [], ◌∷◌, length, replicate, Option, Some, None}
 use Rattle.ngc_fixed_length.specs.declared.modes.Plane.TheVariants.{XY}
 use Rattle.ngc_fixed_length.specs.declared.points.Point2.{Point2}
 use Rattle.ngc_fixed_length.specs.declared.points.Point3.{Point3}
@@ -17,7 +17,7 @@ use Rattle.ngc_commands.specs.Reached.{after}
 use Rattle.ngc_arc_geometry.specs.Shape.{ArcShape}
 use Rattle.ngc_cells.specs.Grids.{AreLowered, AreBelow}
 use Rattle.ngc_stock.specs.declared.stock.Stock.{Stock}
-use Rattle.ngc_stock.specs.Stocks.{kappa, reduction, margin, tolerance, radius, rise, pieces, piece, point_at, highest_tip, lowest_tip, level_of, IsInStock, IsCutBy, IsInReduced}
+use Rattle.ngc_stock.specs.Stocks.{kappa, reduction, margin, tolerance, radius, rise, pieces, piece, point_at, highest_tip, lowest_tip, level_of, from_part, IsInStock, IsCutBy, IsInReduced}
 use Rattle.ngc_stock.specs.Arcs.{upper_tip, IsCutByArc, IsChord, chord}
 
 -- the heights after the first k pieces of a feed: the cells that the cutter covers at some point of a
@@ -62,9 +62,14 @@ pub record IsClear (s : Stock) (t : Tool) (a b : Point3) (heights : List ℕ) : 
       AreBelow s.grid (point_at b) (radius t - reduction s.grid)
       (level_of s ((b.z +ℤ t.bottom) +ℤ pos (tolerance s.grid))) heights
 
+-- no part of a tool from the one with this number up may touch material: each is tested as the cutter is,
+-- with its own radius and foot
+abbrev pub AreClear : Stock → Tool → ℕ → Point3 → Point3 → List ℕ → Type 0
+AreClear s t first a b heights = (p : ℕ) → first ≤ p → p < length t.parts → IsClear s (from_part t p) a b heights
+
 -- a straight traverse that may touch nothing, and a feed; arcs are feeds
 abbrev pub IsMotion : Stock → Tool → Way → Pace → List ℕ → List ℕ → Type 0
-IsMotion s t (Line a b) Rapid old new = IsClear s t a b old × (new ≡ old)
+IsMotion s t (Line a b) Rapid old new = AreClear s t 0 a b old × (new ≡ old)
 IsMotion s t (Line a b) (Feed f) old new = AreCut s t a b old new
 IsMotion s t (Arc a) Rapid old new = new ≡ old
 IsMotion s t (Arc a) (Feed f) old new = IsArcCut s t a old new
@@ -109,15 +114,19 @@ pub record IsLeft (s : Stock) (r : Reached) (before : List Command) (q : Point3)
   pub stock : IsInStock s q
   pub uncut : ¬ (IsCutInAny r before q)
 
--- at each point of a traverse's line the cutter, smaller by the margin and raised, meets none of these
--- points; at the end it needn't be raised for the pieces of a slope
+-- at each point of a traverse's line the tool's lowest part, smaller by the margin and raised, meets none
+-- of these points; at the end it needn't be raised for the pieces of a slope
 pub record MeetsNone (s : Stock) (Left : Point3 → Type 0) (t : Tool) (a b : Point3) : Type 0 where
   pub line : (n k : ℕ) → 0 < n → k ≤ n → (q : Point3) → Left q →
       ¬ (IsInReduced t a b (margin s.grid) (tolerance s.grid + 2 * rise a b) n k q)
   pub end : (q : Point3) → Left q → ¬ (IsInReduced t a b (margin s.grid) (tolerance s.grid) 1 1 q)
 
+-- so it is for each part of the tool from the one with this number up
+abbrev pub MeetNone : Stock → (Point3 → Type 0) → Tool → ℕ → Point3 → Point3 → Type 0
+MeetNone s Left t first a b = (p : ℕ) → first ≤ p → p < length t.parts → MeetsNone s Left (from_part t p) a b
+
 abbrev pub IsSafeOn : Stock → (Point3 → Type 0) → Tool → Way → Pace → Type 0
-IsSafeOn s Left t (Line a b) Rapid = MeetsNone s Left t a b
+IsSafeOn s Left t (Line a b) Rapid = MeetNone s Left t 0 a b
 IsSafeOn s Left t (Line a b) (Feed f) = Unit {0}
 IsSafeOn s Left t (Arc arc) pace = Unit {0}
 

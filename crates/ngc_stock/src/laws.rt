@@ -1,12 +1,20 @@
 //! The laws of silence.
 ghost use Rattle.ngc_stock.specs.Below.{AllAbove};
 ghost use Rattle.ngc_stock.specs.Changes.{FreeChange, FreeChanges};
+ghost use Rattle.ngc_stock.specs.Feeds.{ClearFeed};
 ghost use Rattle.ngc_stock.specs.Silence.{Silence};
 
-/// States that no straight traverse meets material that the feeds before it have left, for a cutter
-/// smaller by a margin and raised by a tolerance, if no traverse of the commands is reported.
+/// States that no straight traverse meets material that the feeds before it have left, for each part of
+/// the tool, smaller by a margin and raised by a tolerance, if no traverse of the commands is reported.
 pub fn silence()
     ensures { Silence }
+{}
+
+/// States that along a straight feed no part above the cutter, smaller by a margin and raised by a
+/// tolerance, meets material that the feeds up to this one have left, if the feed isn't reported and no
+/// traverse before it is.
+pub fn clear_feed()
+    ensures { ClearFeed }
 {}
 
 /// States that no point of a stock is in the cutters of the tools before and after a tool change, if

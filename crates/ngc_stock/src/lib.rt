@@ -1,6 +1,7 @@
 //! A stock of material, and what the cutters of feeds leave of it: definitions, and the law that a
-//! program whose traverses aren't reported meets nothing that is left; the same of its tool changes;
-//! which feeds go below its bottom.
+//! program whose traverses aren't reported meets nothing that is left, with any part of its tools; the
+//! same of its feeds for the parts above the cutter, and of its tool changes; which feeds go below its
+//! bottom.
 #![tactic(auto)]
 
 mod below;
