@@ -65,7 +65,7 @@ polar_words polar.Twice = codes "@ or ^ is on the line twice"
 polar_words polar.AxisBeside = codes "X or Y beside @ or ^"
 polar_words polar.CodeBeside = codes "@ and ^ beside a code that they can't be used with"
 polar_words polar.OtherPlane = codes "@ and ^ need the plane XY"
-polar_words polar.AtOrigin = codes "@ and ^ in G91 at the origin, which has no angle"
+polar_words polar.AtOrigin = codes "@ and ^ at the origin, which has no angle"
 polar_words polar.BelowZero = codes "@ leads to a distance below 0"
 polar_words polar.TooFar = codes "@ and ^ lead over 100 metres away"
 

@@ -78,7 +78,7 @@ pub(crate) fn polar_words(refusal: PolarRefusal) -> &'static [u8]
         PolarRefusal::AxisBeside => b"X or Y beside @ or ^",
         PolarRefusal::CodeBeside => b"@ and ^ beside a code that they can't be used with",
         PolarRefusal::OtherPlane => b"@ and ^ need the plane XY",
-        PolarRefusal::AtOrigin => b"@ and ^ in G91 at the origin, which has no angle",
+        PolarRefusal::AtOrigin => b"@ and ^ at the origin, which has no angle",
         PolarRefusal::BelowZero => b"@ leads to a distance below 0",
         PolarRefusal::TooFar => b"@ and ^ lead over 100 metres away",
     }

@@ -16,12 +16,13 @@ abbrev pub is_offset : ℕ → Bool
 is_offset letter = (letter == bytes.I) || (letter == bytes.J) || (letter == bytes.K)
 
 abbrev pub is_place : ℕ → Bool
-is_place letter = is_axis letter || is_offset letter
+is_place letter = is_axis letter || is_offset letter || (letter == bytes.R)
 
 abbrev pub keeps : Kept → ℕ → Bool
 keeps kept.NotPolar letter = not (is_polar letter)
 keeps kept.NotPolarOrHoles letter = not (is_polar letter || (letter == bytes.L))
-keeps kept.NotPlaces letter = not (is_axis letter || (letter == bytes.P))
+keeps kept.NotPlaces letter =
+    not (is_axis letter || (letter == bytes.R) || (letter == bytes.P))
 keeps kept.Offsets letter = is_offset letter
 keeps kept.Places letter = is_place letter
 keeps (kept.PlacesBut other) letter = is_place letter && not (letter == other)
@@ -36,4 +37,5 @@ one (Some w) = w ∷ []
 
 -- the words of the line
 abbrev pub line_words : WordLine → List Word → List Word
-line_words l words = (one l.first ++ one l.second) ++ kept_words l.kept words
+line_words l words =
+    ((one l.first ++ one l.second) ++ one l.third) ++ kept_words l.kept words

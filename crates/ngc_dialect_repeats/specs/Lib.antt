@@ -1,4 +1,5 @@
 pub mod Refusals
+pub mod Barred
 pub mod Kept
 pub mod Points
 pub mod Places

@@ -1,7 +1,7 @@
 -- Lines with polar words, as lines with X and Y (LinuxCNC's documentation, "Polar Coordinates"). The
 -- words are @, a distance from the origin, and ^, an angle in degrees; in G91 both are added to those of
--- the current point. In G91 a canned cycle's L repeats them. Which codes may not be beside them is our
--- own.
+-- the current point. At the origin, which has no angle, they are refused where they need its angle. In G91
+-- a canned cycle's L repeats them. Which codes may not be beside them is our own.
 use Rattle.std.specs.Prelude.{ℕ, zero, suc, ◌+◌, ◌-◌, ◌*◌, ◌/◌, ◌%◌, ◌==◌, nat_lt, nat_le, ℤ, pos, ◌+ℤ◌, ◌-ℤ◌, ◌*ℤ◌, unsigned_abs, int_lt}
 use Rattle.std.specs.Prelude.{Bool, true, false, not, ◌&&◌, ◌||◌, List, [], Option, Some, None, is_none, Result, Ok, Err, count_by, if◌then◌else◌}
 use Rattle.std.specs.Int.{int_rem_euclid}
@@ -20,7 +20,7 @@ use Rattle.ngc_dialect_rules.specs.declared.codes.TheConstants as codes
 use Rattle.ngc_dialect_rules.specs.declared.front.Known.{Known}
 use Rattle.ngc_dialect_rules.specs.Bytes as bytes
 use Rattle.ngc_dialect_rules.specs.Force.{units_by}
-use Rattle.ngc_dialect_rules.specs.Tables.{has, code_in, is_among, or_else}
+use Rattle.ngc_dialect_rules.specs.Tables.{code_in, is_among, or_else}
 use Rattle.ngc_dialect_rules.specs.Words.{codes_of, has_letter, value_of}
 use Rattle.ngc_dialect_repeats.specs.declared.kept.Kept.{Kept}
 use Rattle.ngc_dialect_repeats.specs.declared.kept.Kept.TheVariants as kept
@@ -31,6 +31,7 @@ use Rattle.ngc_dialect_repeats.specs.declared.polar.PolarLine.{PolarLine}
 use Rattle.ngc_dialect_repeats.specs.declared.refusal.PolarFault.{PolarFault}
 use Rattle.ngc_dialect_repeats.specs.declared.refusal.PolarRefusal.{PolarRefusal}
 use Rattle.ngc_dialect_repeats.specs.declared.refusal.PolarRefusal.TheVariants as why
+use Rattle.ngc_dialect_repeats.specs.Barred.{bars_polar}
 use Rattle.ngc_dialect_repeats.specs.Kept.{is_polar}
 use Rattle.ngc_dialect_repeats.specs.Places.{program_place}
 use Rattle.ngc_dialect_repeats.specs.Points.{in_millimetres, length_word, point_at, seen_from}
@@ -44,12 +45,6 @@ has_polar words = list_any (λ (w : Word). is_polar w.letter) words
 abbrev pub letters : ℕ → List Word → ℕ
 letters letter words = count_by (λ (w : Word). w.letter == letter) words
 
--- codes for their line alone, G43.1, the coordinate systems and the stops
-abbrev pub is_barred : List Code → Bool
-is_barred line =
-    has codes.NON_MODAL line || has codes.WORD_LENGTH line || has codes.SYSTEMS line
-    || has codes.STOPS line
-
 abbrev pub is_xy_plane : Plane → Bool
 is_xy_plane XY = true
 is_xy_plane _ = false
@@ -62,7 +57,7 @@ unfoldable pub line_fault : Known → List Code → List Word → Option PolarRe
 line_fault k line words =
     if nat_lt 1 (letters bytes.AT words) || nat_lt 1 (letters bytes.CARET words) then Some why.Twice else (
     if has_letter bytes.X words || has_letter bytes.Y words then Some why.AxisBeside else (
-    if is_barred line then Some why.CodeBeside else (
+    if bars_polar line then Some why.CodeBeside else (
     if not (is_xy k.modes.plane (code_in codes.PLANES line)) then Some why.OtherPlane else None)))
 
 -- ---- where they lead
@@ -118,6 +113,11 @@ count_of k line words incremental =
 abbrev pub is_at_origin : PolarPoint → Bool
 is_at_origin p = is_zero p.distance
 
+-- in G91 the words count from the current point, and @ without ^ keeps its angle
+abbrev pub needs_angle : Bool → List Word → Bool
+needs_angle incremental words =
+    incremental || (has_letter bytes.AT words && not (has_letter bytes.CARET words))
+
 abbrev pub polar_from : Known → PolarPoint → List Code → List Word → Bool → Point2 → ℤ → PolarLine
 polar_from k seen line words incremental here distance = record {
   units = units_by k.modes.units (code_in codes.UNITS line);
@@ -130,7 +130,7 @@ polar_from k seen line words incremental here distance = record {
 
 abbrev pub polar_here : Known → PolarPoint → List Code → List Word → Bool → Point2 → Result PolarLine PolarRefusal
 polar_here k seen line words incremental here =
-    if incremental && is_at_origin seen then Err why.AtOrigin
+    if is_at_origin seen && needs_angle incremental words then Err why.AtOrigin
     else in_millimetres (units_by k.modes.units (code_in codes.UNITS line))
     (value_or_zero bytes.AT words)
     >>= λ distance. Ok (polar_from k seen line words incremental here distance)
@@ -207,5 +207,6 @@ polar_step p left = do
   Ok (record {
     first = Some (length_word p.units bytes.X (to.u -ℤ from.u));
     second = Some (length_word p.units bytes.Y (to.v -ℤ from.v));
+    third = None;
     kept = kept_at p (made_with p.count left);
   })

@@ -1,6 +1,7 @@
 -- Arcs of several turns (LinuxCNC's documentation, "G2, G3": P counts the turns with the last one). The
--- turns before the last are full circles, and the height changes evenly with the angle. Which lines are
--- taken, and the rounding of heights to the nanometre, are our own.
+-- turns before the last are full circles, and the height changes evenly with the angle. By R they are
+-- circles about the centre of the arc of one turn, as in LinuxCNC. Which lines are taken, and the rounding
+-- of heights to the nanometre, are our own.
 use Rattle.std.specs.Prelude.{ℕ, ◌+◌, ◌-◌, ◌*◌, ◌/◌, ◌%◌, ◌==◌, nat_lt, nat_le, ℤ, pos, ◌+ℤ◌, ◌-ℤ◌, ◌*ℤ◌, unsigned_abs, int_lt}
 use Rattle.std.specs.Prelude.{Bool, true, false, not, ◌&&◌, ◌||◌, List, [], Option, Some, None, Result, Ok, Err, if◌then◌else◌}
 use Rattle.std.specs.Int.{int_rem_euclid}
@@ -15,18 +16,20 @@ use Rattle.ngc_fixed_length.specs.declared.points.Point2.{Point2}
 use Rattle.ngc_fixed_length.specs.declared.points.Point3.{Point3}
 use Rattle.ngc_fixed_length.specs.declared.units.Units.{Units}
 use Rattle.ngc_dialect_names.specs.declared.dialect.Dialect.{Dialect}
+use Rattle.ngc_dialect_arcs.specs.Centre.{by_radius}
 use Rattle.ngc_dialect_arcs.specs.Lines.{counts_turns}
+use Rattle.ngc_dialect_arcs.specs.declared.refusal.ArcRefusal.{ArcRefusal}
 use Rattle.ngc_dialect_numbers.specs.Circles.{TURN}
 use Rattle.ngc_dialect_parameters.specs.declared.statement.Word.{Word}
 use Rattle.ngc_dialect_rules.specs.declared.code.Code.{Code}
 use Rattle.ngc_dialect_rules.specs.declared.codes.TheConstants as codes
 use Rattle.ngc_dialect_rules.specs.declared.fault.Fault.{Fault}
 use Rattle.ngc_dialect_rules.specs.declared.front.Known.{Known}
-use Rattle.ngc_dialect_rules.specs.Arcs.{plane_by}
+use Rattle.ngc_dialect_rules.specs.Arcs.{plane_by, turn_of}
 use Rattle.ngc_dialect_rules.specs.Bytes as bytes
 use Rattle.ngc_dialect_rules.specs.Force.{centres_by as centres_after, units_by}
 use Rattle.ngc_dialect_rules.specs.Lengths.{word_length}
-use Rattle.ngc_dialect_rules.specs.Tables.{has, code_in, is_among, or_else}
+use Rattle.ngc_dialect_rules.specs.Tables.{code_in, is_among, or_else}
 use Rattle.ngc_dialect_rules.specs.Words.{codes_of, has_letter, value_of}
 use Rattle.ngc_dialect_repeats.specs.declared.kept.Kept.{Kept}
 use Rattle.ngc_dialect_repeats.specs.declared.kept.Kept.TheVariants as kept
@@ -35,7 +38,9 @@ use Rattle.ngc_dialect_repeats.specs.declared.refusal.PolarRefusal.{PolarRefusal
 use Rattle.ngc_dialect_repeats.specs.declared.refusal.PolarRefusal.TheVariants as why
 use Rattle.ngc_dialect_repeats.specs.declared.turns.ArcModes.{ArcModes}
 use Rattle.ngc_dialect_repeats.specs.declared.turns.Height.{Height}
+use Rattle.ngc_dialect_repeats.specs.declared.turns.OffsetWords.{OffsetWords}
 use Rattle.ngc_dialect_repeats.specs.declared.turns.Turning.{Turning}
+use Rattle.ngc_dialect_repeats.specs.Barred.{bars_turns}
 use Rattle.ngc_dialect_repeats.specs.Places.{program_place}
 use Rattle.ngc_dialect_repeats.specs.Points.{direction, length_word}
 use Rattle.ngc_dialect_repeats.specs.Polar.{is_count, is_incremental, made_with}
@@ -58,17 +63,15 @@ abbrev pub arc_of : Option Code → Option Code
 arc_of None = None
 arc_of (Some code) = if is_among codes.ARCS code then Some code else None
 
--- an arc by offsets, not by R
+-- an arc by offsets or by R, not by both
+abbrev pub has_one_centre : List Word → Bool
+has_one_centre words =
+    if has_letter bytes.R words then not (has_offsets words) else has_offsets words
+
 abbrev pub arc_code : Known → List Code → List Word → Option Code
 arc_code k line words =
-    if has_letter bytes.R words || not (has_offsets words) then None
+    if not (has_one_centre words) then None
     else arc_of (or_else (code_in codes.MOTIONS line) k.front.motion)
-
-abbrev pub is_barred : List Code → Bool
-is_barred line =
-    has codes.NON_MODAL line || has codes.MOTION_END line || has codes.COMPENSATION line
-    || has codes.LENGTHS line || has codes.SYSTEMS line || has codes.PATHS line
-    || has codes.STOPS line || has codes.TOLD line
 
 abbrev pub is_minute : FeedMode → Bool
 is_minute PerMinute = true
@@ -153,22 +156,60 @@ last_turn counterclockwise end centre =
     turn_part (angle_from counterclockwise (direction (pos 0 -ℤ centre.u) (pos 0 -ℤ centre.v))
     (direction (end.u -ℤ centre.u) (end.v -ℤ centre.v)))
 
--- ---- the turns
+-- ---- the centre
 
 abbrev pub modes_of : Known → List Code → ArcModes
 modes_of k line = record {
+  dialect = k.dialect;
   units = units_by k.modes.units (code_in codes.UNITS line);
   plane = plane_by k.modes.plane (code_in codes.PLANES line);
   is_incremental = is_incremental k.modes.distance (code_in codes.DISTANCES line);
   is_absolute_centre = centres_by k.front.absolute_centres (code_in codes.CENTRES line);
 }
 
+-- why a centre is refused says the rule for the arc
+abbrev pub or_refused : Result Point2 ArcRefusal → Result Point2 PolarRefusal
+or_refused (Ok centre) = Ok centre
+or_refused (Err e) = Err why.TooFar
+
+-- the vector from the start to the centre: by R that of the arc of one turn, or by the offsets
+abbrev pub centre_by :
+    ArcModes → Code → Point2 → Point2 → List Word → Option ℤ → Result Point2 PolarRefusal
+centre_by m code start end words None =
+    vector m.units (not m.is_absolute_centre) start (offset_letter (u_letter m.plane))
+    (offset_letter (v_letter m.plane)) words
+centre_by m code start end words (Some r) =
+    or_refused (by_radius m.dialect m.units (turn_of code) end r)
+
+abbrev pub centre_of :
+    ArcModes → Code → Point2 → Point2 → List Word → Result (Option ℤ) Fault → Result Point2 PolarRefusal
+centre_of m code start end words (Ok r) = centre_by m code start end words r
+centre_of m code start end words (Err e) = Err why.TooFar
+
+-- the offset or the coordinate of a centre along an axis, as the line's modes read it
+abbrev pub offset_word : ArcModes → ℕ → ℤ → ℤ → Word
+offset_word m axis start offset =
+    length_word m.units (offset_letter axis)
+    (if m.is_absolute_centre then start +ℤ offset else offset)
+
+abbrev pub offset_words : ArcModes → Point2 → Point2 → OffsetWords
+offset_words m start centre = record {
+  u = offset_word m (u_letter m.plane) start.u centre.u;
+  v = offset_word m (v_letter m.plane) start.v centre.v;
+}
+
+-- the words of the centre of a full circle, where the line has R
+abbrev pub circle_words : ArcModes → Point2 → Point2 → List Word → Option OffsetWords
+circle_words m start centre words =
+    if has_letter bytes.R words then Some (offset_words m start centre) else None
+
+-- ---- the turns
+
 unfoldable pub turning_with : ArcModes → Point3 → List Word → Code → ℕ → Result Turning PolarRefusal
 turning_with m place words code count = do
   end ← vector m.units m.is_incremental (in_plane m.plane place) (u_letter m.plane)
       (v_letter m.plane) words
-  centre ← vector m.units (not m.is_absolute_centre) (in_plane m.plane place)
-      (offset_letter (u_letter m.plane)) (offset_letter (v_letter m.plane)) words
+  centre ← centre_of m code (in_plane m.plane place) end words (word_length m.units bytes.R words)
   height ← height_of m.units m.is_incremental (height_in m.plane place) (height_letter m.plane) words
   Ok (record {
     units = m.units;
@@ -176,6 +217,7 @@ turning_with m place words code count = do
     count = count;
     last = last_turn (is_among codes.COUNTERCLOCKWISE code) end centre;
     height = height;
+    circle = circle_words m (in_plane m.plane place) centre words;
   })
 
 abbrev pub turning_here : Known → List Code → List Word → Code → ℕ → Result Turning PolarRefusal
@@ -192,7 +234,7 @@ turning_along k line words count (Some code) = accepted (turning_here k line wor
 
 abbrev pub turning_by : Known → List Code → List Word → ℕ → Option Turning
 turning_by k line words count =
-    if is_barred line
+    if bars_turns line
     || not (is_per_minute k.modes.feed_mode (code_in codes.FEED_MODES line)) then None
     else turning_along k line words count (arc_code k line words)
 
@@ -262,8 +304,28 @@ kept_at t made =
     if nat_lt made t.count then (if nat_le made 1 then kept.NotPlaces else kept.Offsets)
     else last_kept t.is_incremental t.height
 
+-- the words of a full circle's centre, which the last turn doesn't have
+abbrev pub circle_at : Turning → ℕ → Option OffsetWords
+circle_at t made = if nat_lt made t.count then t.circle else None
+
+abbrev pub u_word : Option OffsetWords → Option Word
+u_word None = None
+u_word (Some o) = Some o.u
+
+abbrev pub v_word : Option OffsetWords → Option Word
+v_word None = None
+v_word (Some o) = Some o.v
+
+abbrev pub turn_line : Turning → ℕ → Option Word → WordLine
+turn_line t made height = record {
+  first = height;
+  second = u_word (circle_at t made);
+  third = v_word (circle_at t made);
+  kept = kept_at t made;
+}
+
 -- the line of a turn, where some are left with it
 unfoldable pub turn_step : Turning → ℕ → Result WordLine PolarRefusal
 turn_step t left = do
   height ← height_word t (made_with t.count left)
-  Ok (record { first = height; second = None; kept = kept_at t (made_with t.count left) })
+  Ok (turn_line t (made_with t.count left) height)

@@ -12,22 +12,23 @@ pub enum Kept {
     NotPolar,
     /// All but `@`, `^` and L.
     NotPolarOrHoles,
-    /// All but X, Y, Z and P.
+    /// All but X, Y, Z, R and P.
     NotPlaces,
     /// I, J and K.
     Offsets,
-    /// X, Y, Z, I, J and K.
+    /// X, Y, Z, I, J, K and R.
     Places,
     /// The same but one letter.
     PlacesBut(u8),
     Nothing,
 }
 
-/// A line in place of another one: up to two words, and the words of the other line that are kept.
+/// A line in place of another one: up to three words, and the words of the other line that are kept.
 #[derive(Clone, Copy)]
 pub struct WordLine {
     pub first: Option<Word>,
     pub second: Option<Word>,
+    pub third: Option<Word>,
     pub kept: Kept,
 }
 
@@ -52,7 +53,7 @@ fn is_offset(letter: u8) -> bool
 fn is_place(letter: u8) -> bool
     ensures { result ≡ spec.is_place letter }
 {
-    is_axis(letter) || is_offset(letter)
+    is_axis(letter) || is_offset(letter) || letter == b'R'
 }
 
 // Returns whether words with a letter are kept.
@@ -62,7 +63,7 @@ fn keeps(kept: Kept, letter: u8) -> bool
     match kept {
         Kept::NotPolar => !is_polar(letter),
         Kept::NotPolarOrHoles => !(is_polar(letter) || letter == b'L'),
-        Kept::NotPlaces => !(is_axis(letter) || letter == b'P'),
+        Kept::NotPlaces => !(is_axis(letter) || letter == b'R' || letter == b'P'),
         Kept::Offsets => is_offset(letter),
         Kept::Places => is_place(letter),
         Kept::PlacesBut(other) => is_place(letter) && letter != other,
@@ -133,6 +134,10 @@ impl WordLine {
             Err(refused) => return Err(refused),
         }
         match add_one(&self.second, line) {
+            Ok(()) => {}
+            Err(refused) => return Err(refused),
+        }
+        match add_one(&self.third, line) {
             Ok(()) => {}
             Err(refused) => return Err(refused),
         }

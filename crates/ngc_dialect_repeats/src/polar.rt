@@ -4,6 +4,7 @@ ghost use Rattle.std.specs.List.{list_any};
 ghost use Rattle.ngc_dialect_rules.specs.Force as force;
 ghost use Rattle.ngc_dialect_repeats.specs.Polar as spec;
 
+use crate::barred::bars_polar;
 use crate::kept::{Kept, WordLine, is_polar};
 use crate::place::program_place;
 use crate::point::{
@@ -15,7 +16,7 @@ use arrayvec::ArrayVec;
 use ngc_dialect_numbers::Number;
 use ngc_dialect_parameters::Word;
 use ngc_dialect_rules::{
-    Code, Known, add_codes, code_in, codes, has, has_letter, is_among, value_of,
+    Code, Known, add_codes, code_in, codes, has_letter, is_among, value_of,
 };
 use ngc_fixed_length::{Distance, Nm, Plane, Point2, Units};
 
@@ -48,15 +49,6 @@ fn letters(letter: u8, words: &[Word]) -> usize
     words.iter().filter(|word| word.letter == letter).count()
 }
 
-fn is_barred(line: &[Code]) -> bool
-    ensures { result ≡ spec.is_barred line.now }
-{
-    has(&codes::NON_MODAL, line)
-        || has(&codes::WORD_LENGTH, line)
-        || has(&codes::SYSTEMS, line)
-        || has(&codes::STOPS, line)
-}
-
 fn is_xy(before: Plane, code: Option<Code>) -> bool
     ensures { result ≡ spec.is_xy before code }
 {
@@ -75,7 +67,7 @@ fn line_fault(known: &Known, line: &[Code], words: &[Word]) -> Option<PolarRefus
         Some(PolarRefusal::Twice)
     } else if has_letter(b'X', words) || has_letter(b'Y', words) {
         Some(PolarRefusal::AxisBeside)
-    } else if is_barred(line) {
+    } else if bars_polar(line) {
         Some(PolarRefusal::CodeBeside)
     } else if !is_xy(known.modes.plane, code_in(&codes::PLANES, line)) {
         Some(PolarRefusal::OtherPlane)
@@ -197,6 +189,13 @@ fn is_at_origin(here: &PolarPoint) -> bool
     here.distance.trillionths() == 0
 }
 
+// Returns whether the words need the angle of the current point.
+fn needs_angle(is_incremental: bool, words: &[Word]) -> bool
+    ensures { result ≡ spec.needs_angle is_incremental words.now }
+{
+    is_incremental || (has_letter(b'@', words) && !has_letter(b'^', words))
+}
+
 #[tactic(auto, unfolding(crate::specs::Polar::polar_by))]
 fn polar_by(
     known: &Known,
@@ -216,7 +215,7 @@ fn polar_by(
     };
     let seen = seen_from(last, &here);
     let incremental = is_incremental(known.modes.distance, code_in(&codes::DISTANCES, line));
-    if incremental && is_at_origin(&seen) {
+    if is_at_origin(&seen) && needs_angle(incremental, words) {
         return Err(PolarRefusal::AtOrigin);
     }
     let units = units_by(known.modes.units, code_in(&codes::UNITS, line));
@@ -354,6 +353,7 @@ impl PolarLine {
         Ok(WordLine {
             first: Some(length_word(self.units, b'X', difference(to.u, base.u))),
             second: Some(length_word(self.units, b'Y', difference(to.v, base.v))),
+            third: None,
             kept: self.kept(made),
         })
     }

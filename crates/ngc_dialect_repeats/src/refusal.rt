@@ -15,7 +15,7 @@ pub enum PolarRefusal {
     CodeBeside,
     /// The plane isn't XY.
     OtherPlane,
-    /// In G91 the tool is at the origin, which has no angle.
+    /// The tool is at the origin, which has no angle, and the words need it.
     AtOrigin,
     /// The distance is below 0.
     BelowZero,

@@ -1,22 +1,27 @@
 //! Arcs of several turns, as several arcs.
-ghost use Rattle.std.specs.Prelude.{◌≡◌, ◌≢◌, ◌≤◌, ◌*◌, ◌^◌, ◌*ℤ◌, pos, unsigned_abs, IfOk};
+ghost use Rattle.std.specs.Prelude.{◌≡◌, ◌≢◌, ◌≤◌, ◌*◌, ◌^◌, ◌+ℤ◌, ◌*ℤ◌, pos, unsigned_abs, not, IfOk};
+ghost use Rattle.ngc_dialect_arcs.specs.Centre as arc_centres;
 ghost use Rattle.ngc_dialect_arcs.specs.Lines as arcs;
 ghost use Rattle.ngc_dialect_rules.specs.Arcs as rules;
+ghost use Rattle.ngc_dialect_rules.specs.Bytes as bytes;
+ghost use Rattle.ngc_dialect_rules.specs.Lengths.{word_length};
 ghost use Rattle.ngc_dialect_repeats.specs.Turns as spec;
 
+use crate::barred::bars_turns;
 use crate::kept::{Kept, WordLine};
 use crate::place::program_place;
 use crate::point::{difference, direction, length, length_word};
 use crate::polar::{is_count, is_incremental, made_with, units_by};
 use crate::refusal::PolarRefusal;
 use arrayvec::ArrayVec;
+use ngc_dialect_arcs::by_radius;
 use ngc_dialect_names::Dialect;
 use ngc_dialect_numbers::Number;
 use ngc_dialect_parameters::Word;
 use ngc_dialect_rules::{
-    Code, Known, add_codes, code_in, codes, has, has_letter, is_among, value_of, word_length,
+    Code, Known, add_codes, code_in, codes, has_letter, is_among, value_of, word_length,
 };
-use ngc_fixed_length::{FeedMode, Nm, Plane, Point2, Point3, Units, rounded_quotient};
+use ngc_fixed_length::{FeedMode, Nm, Plane, Point2, Point3, Turn, Units, rounded_quotient};
 
 /// The height of a helix: along which axis, where it begins, and by how much it changes.
 #[derive(Clone, Copy)]
@@ -25,6 +30,13 @@ pub struct Height {
     pub letter: u8,
     pub start: Nm,
     pub rise: Nm,
+}
+
+/// The words of a centre: I, J or K along the first and the second axis of the plane.
+#[derive(Clone, Copy)]
+pub struct OffsetWords {
+    pub u: Word,
+    pub v: Word,
 }
 
 /// An arc of several turns: full circles, and then the arc itself.
@@ -38,6 +50,8 @@ pub struct Turning {
     pub last: u32,
     /// `None` if the height stays.
     pub height: Option<Height>,
+    /// The centre of the full circles, or `None` if the line's own words have it.
+    pub circle: Option<OffsetWords>,
 }
 
 fn counts_turns(dialect: Dialect) -> bool
@@ -81,31 +95,28 @@ fn arc_of(code: Option<Code>) -> Option<Code>
     }
 }
 
-// Returns the code of the arc that a line makes by offsets.
+// Returns whether a line has offsets or R, and not both.
+fn has_one_centre(words: &[Word]) -> bool
+    ensures { result ≡ spec.has_one_centre words.now }
+{
+    if has_letter(b'R', words) {
+        !has_offsets(words)
+    } else {
+        has_offsets(words)
+    }
+}
+
+// Returns the code of the arc that a line makes by offsets or by R.
 fn arc_code(known: &Known, line: &[Code], words: &[Word]) -> Option<Code>
     ensures { result ≡ spec.arc_code known.now line.now words.now }
 {
-    if has_letter(b'R', words) || !has_offsets(words) {
+    if !has_one_centre(words) {
         return None;
     }
     match code_in(&codes::MOTIONS, line) {
         Some(code) => arc_of(Some(code)),
         None => arc_of(known.front.motion),
     }
-}
-
-// Returns whether a line has a code beside which turns aren't counted here.
-fn is_barred(line: &[Code]) -> bool
-    ensures { result ≡ spec.is_barred line.now }
-{
-    has(&codes::NON_MODAL, line)
-        || has(&codes::MOTION_END, line)
-        || has(&codes::COMPENSATION, line)
-        || has(&codes::LENGTHS, line)
-        || has(&codes::SYSTEMS, line)
-        || has(&codes::PATHS, line)
-        || has(&codes::STOPS, line)
-        || has(&codes::TOLD, line)
 }
 
 fn is_per_minute(before: FeedMode, code: Option<Code>) -> bool
@@ -294,6 +305,7 @@ fn height_of(
 // The modes of an arc's line.
 #[derive(Clone, Copy)]
 pub(crate) struct ArcModes {
+    pub(crate) dialect: Dialect,
     pub(crate) units: Units,
     pub(crate) plane: Plane,
     pub(crate) is_incremental: bool,
@@ -304,6 +316,7 @@ fn modes_of(known: &Known, line: &[Code]) -> ArcModes
     ensures { result ≡ spec.modes_of known.now line.now }
 {
     ArcModes {
+        dialect: known.dialect,
         units: units_by(known.modes.units, code_in(&codes::UNITS, line)),
         plane: plane_by(known.modes.plane, code_in(&codes::PLANES, line)),
         is_incremental: is_incremental(known.modes.distance, code_in(&codes::DISTANCES, line)),
@@ -311,6 +324,114 @@ fn modes_of(known: &Known, line: &[Code]) -> ArcModes
             known.front.absolute_centres,
             code_in(&codes::CENTRES, line),
         ),
+    }
+}
+
+fn turn_of(code: Code) -> Turn
+    ensures { result ≡ rules.turn_of code }
+{
+    if is_among(&codes::COUNTERCLOCKWISE, code) {
+        Turn::Counterclockwise
+    } else {
+        Turn::Clockwise
+    }
+}
+
+// Returns the vector from the start to the centre of the arc of one turn with R.
+fn radius_centre(
+    modes: &ArcModes,
+    code: Code,
+    end: &Point2,
+    radius: Nm,
+) -> Result<Point2, PolarRefusal>
+    ensures { result ≡ spec.or_refused
+        (arc_centres.by_radius modes.now.dialect modes.now.units (rules.turn_of code) end.now radius) }
+{
+    match by_radius(modes.dialect, modes.units, turn_of(code), end, radius) {
+        Ok(centre) => Ok(centre),
+        Err(_) => Err(PolarRefusal::TooFar),
+    }
+}
+
+// Returns the vector from the start to the centre that the offsets name.
+fn offsets_centre(
+    modes: &ArcModes,
+    start: &Point2,
+    words: &[Word],
+) -> Result<Point2, PolarRefusal>
+    ensures { result ≡ spec.vector modes.now.units (not modes.now.is_absolute_centre) start.now
+        (spec.offset_letter (spec.u_letter modes.now.plane))
+        (spec.offset_letter (spec.v_letter modes.now.plane)) words.now }
+{
+    vector(
+        modes.units,
+        !modes.is_absolute_centre,
+        start,
+        offset_letter(u_letter(modes.plane)),
+        offset_letter(v_letter(modes.plane)),
+        words,
+    )
+}
+
+// Returns the vector from the start to the centre, by R or by the offsets.
+fn centre_of(
+    modes: &ArcModes,
+    code: Code,
+    start: &Point2,
+    end: &Point2,
+    words: &[Word],
+) -> Result<Point2, PolarRefusal>
+    ensures { result ≡ spec.centre_of modes.now code start.now end.now words.now
+        (word_length modes.now.units bytes.R words.now) }
+{
+    match word_length(modes.units, b'R', words) {
+        Ok(None) => offsets_centre(modes, start, words),
+        Ok(Some(radius)) => radius_centre(modes, code, end, radius),
+        Err(_) => Err(PolarRefusal::TooFar),
+    }
+}
+
+fn sum(start: Nm, offset: Nm) -> i64
+    ensures value { result ≡ start +ℤ offset }
+    ensures bound { unsigned_abs result ≤ 200000000000 }
+{
+    start.nanometres() + offset.nanometres()
+}
+
+// Returns the word of a centre along an axis: its offset, or after G90.1 its coordinate.
+fn offset_word(modes: &ArcModes, axis: u8, start: Nm, offset: Nm) -> Word
+    ensures { result ≡ spec.offset_word modes.now axis start offset }
+{
+    let letter = offset_letter(axis);
+    if modes.is_absolute_centre {
+        length_word(modes.units, letter, sum(start, offset))
+    } else {
+        length_word(modes.units, letter, offset.nanometres())
+    }
+}
+
+fn offset_words(modes: &ArcModes, start: &Point2, centre: &Point2) -> OffsetWords
+    ensures { result ≡ spec.offset_words modes.now start.now centre.now }
+{
+    OffsetWords {
+        u: offset_word(modes, u_letter(modes.plane), start.u, centre.u),
+        v: offset_word(modes, v_letter(modes.plane), start.v, centre.v),
+    }
+}
+
+// Returns the words of the centre of the full circles, if the line has R.
+fn circle_words(
+    modes: &ArcModes,
+    start: &Point2,
+    centre: &Point2,
+    words: &[Word],
+) -> Option<OffsetWords>
+    ensures { result ≡ spec.circle_words modes.now start.now centre.now words.now }
+{
+    if has_letter(b'R', words) {
+        Some(offset_words(modes, start, centre))
+    } else {
+        None
     }
 }
 
@@ -328,14 +449,7 @@ fn turning_with(
     let start = place.in_plane(plane);
     let (u, v) = (u_letter(plane), v_letter(plane));
     let end = vector(modes.units, modes.is_incremental, &start, u, v, words)?;
-    let centre = vector(
-        modes.units,
-        !modes.is_absolute_centre,
-        &start,
-        offset_letter(u),
-        offset_letter(v),
-        words,
-    )?;
+    let centre = centre_of(modes, code, &start, &end, words)?;
     let height = height_of(
         modes.units,
         modes.is_incremental,
@@ -350,6 +464,7 @@ fn turning_with(
         count,
         last: last_turn(is_counterclockwise, &end, &centre),
         height,
+        circle: circle_words(modes, &start, &centre, words),
     })
 }
 
@@ -369,7 +484,7 @@ fn turning_here(
 fn turning_by(known: &Known, line: &[Code], words: &[Word], count: u16) -> Option<Turning>
     ensures { result ≡ spec.turning_by known.now line.now words.now count }
 {
-    if is_barred(line) || !is_per_minute(known.modes.feed_mode, code_in(&codes::FEED_MODES, line)) {
+    if bars_turns(line) || !is_per_minute(known.modes.feed_mode, code_in(&codes::FEED_MODES, line)) {
         return None;
     }
     match arc_code(known, line, words) {
@@ -381,7 +496,7 @@ fn turning_by(known: &Known, line: &[Code], words: &[Word], count: u16) -> Optio
     }
 }
 
-/// Returns the turns of a line with an arc of `count` turns by offsets, in G94 and without codes beside
+/// Returns the turns of a line with an arc of `count` turns by offsets or by R, in G94 and without codes beside
 /// it that change the origin, the tool length, the path control or the motion mode. Other lines are left
 /// to the rules.
 pub fn turning_on(known: &Known, words: &[Word], count: u16) -> Option<Turning>
@@ -495,6 +610,17 @@ impl Turning {
         }
     }
 
+    // Returns the words of the centre of a full circle, which the last turn doesn't have.
+    fn circle_at(&self, made: u64) -> Option<OffsetWords>
+        ensures { result ≡ spec.circle_at self.now made }
+    {
+        if made < u64::from(self.count) {
+            self.circle
+        } else {
+            None
+        }
+    }
+
     /// Returns the line of a turn, of which `left` are left with it: a full circle, or the last arc.
     #[tactic(auto, unfolding(crate::specs::Turns::turn_step))]
     pub fn step(&self, left: u32) -> Result<WordLine, PolarRefusal>
@@ -502,10 +628,20 @@ impl Turning {
     {
         let made = made_with(u32::from(self.count), left);
         let height = self.height_word(made)?;
-        Ok(WordLine {
-            first: height,
-            second: None,
-            kept: self.kept(made),
-        })
+        let kept = self.kept(made);
+        match self.circle_at(made) {
+            None => Ok(WordLine {
+                first: height,
+                second: None,
+                third: None,
+                kept,
+            }),
+            Some(centre) => Ok(WordLine {
+                first: height,
+                second: Some(centre.u),
+                third: Some(centre.v),
+                kept,
+            }),
+        }
     }
 }
