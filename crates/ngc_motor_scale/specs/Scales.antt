@@ -34,7 +34,7 @@ scale_by s divisor =
     if is_long s then Err refusals.Long
     else scale_in (s.steps / divisor) (s.nanometres / divisor))
 
--- the greatest common divisor by Euclid's algorithm, in at most so many steps
+-- the greatest common divisor of a and b by Euclid's algorithm, in at most n steps
 unfoldable pub gcd_within : ℕ → ℕ → ℕ → ℕ
 gcd_within zero a b = a
 gcd_within (suc n) a b = if b == 0 then a else gcd_within n b (a % b)

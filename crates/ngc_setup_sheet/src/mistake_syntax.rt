@@ -74,7 +74,7 @@ fn asked(rule: Rule) -> &'static [u8]
             b"It must be three whole numbers from -4,000,000,000 to 4,000,000,000: the upper corner in nm.\n",
         Rule::LowBelowHigh => b"On each axis it must be less than the number that `high` has.\n",
         Rule::ToolsVersion =>
-            b"It must be 1, or 2 where tools have `parts`: the version of this format.\n",
+            b"It must be 1, 2 where tools have `parts`, or 3 where their lengths have a unit: the version of this format.\n",
         Rule::Tools => b"It must be at most 1,000 tables `[[tool]]`.\n",
         Rule::Number => b"It must be a whole number from 1 to 9,999: what T and H call the tool.\n",
         Rule::NumberOnce => b"It must be a number that no other tool has.\n",
