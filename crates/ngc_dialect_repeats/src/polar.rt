@@ -15,9 +15,7 @@ use crate::refusal::{PolarFault, PolarRefusal};
 use arrayvec::ArrayVec;
 use ngc_dialect_numbers::Number;
 use ngc_dialect_parameters::Word;
-use ngc_dialect_rules::{
-    Code, Known, add_codes, code_in, codes, has_letter, is_among, value_of,
-};
+use ngc_dialect_rules::{Code, Known, add_codes, code_in, codes, has_letter, is_among, value_of};
 use ngc_fixed_length::{Distance, Nm, Plane, Point2, Units};
 
 /// What polar words lead to: X and Y of one line, or of several if holes are repeated.

@@ -354,11 +354,7 @@ fn radius_centre(
 }
 
 // Returns the vector from the start to the centre that the offsets name.
-fn offsets_centre(
-    modes: &ArcModes,
-    start: &Point2,
-    words: &[Word],
-) -> Result<Point2, PolarRefusal>
+fn offsets_centre(modes: &ArcModes, start: &Point2, words: &[Word]) -> Result<Point2, PolarRefusal>
     ensures { result ≡ spec.vector modes.now.units (not modes.now.is_absolute_centre) start.now
         (spec.offset_letter (spec.u_letter modes.now.plane))
         (spec.offset_letter (spec.v_letter modes.now.plane)) words.now }
@@ -484,7 +480,9 @@ fn turning_here(
 fn turning_by(known: &Known, line: &[Code], words: &[Word], count: u16) -> Option<Turning>
     ensures { result ≡ spec.turning_by known.now line.now words.now count }
 {
-    if bars_turns(line) || !is_per_minute(known.modes.feed_mode, code_in(&codes::FEED_MODES, line)) {
+    if bars_turns(line)
+        || !is_per_minute(known.modes.feed_mode, code_in(&codes::FEED_MODES, line))
+    {
         return None;
     }
     match arc_code(known, line, words) {
