@@ -852,7 +852,7 @@ def material(checks, page):
     checks.equal("which has a note", page.value("document.querySelector('.row.warned[data-line=\"10\"] .note').textContent"), "rapid may touch material, at most 3 mm deep")
     checks.has("the report has both", page.text("report"), "Material", "line 10", "line 13", "Rapids count no cuts along arcs of G18 and G19.")
     page.value("ngc.parts.setupSheet.build(); 0")
-    checks.has("so has the setup sheet, with the block", page.text("sheet"), "Warning: the rapid may touch material", "Material, mm, G54", "Of the workpiece only rapids, tool changes and the depth of feeds are tested.")
+    checks.has("so has the setup sheet, with the block", page.text("sheet"), "Warning: the rapid may touch material", "Material, mm, G54", "Of the workpiece only rapids, tool changes, the depth of feeds, and shanks and holders on straight feeds are tested.")
     checks.equal("the block is where its coordinates say", page.value("(it => [it.low, it.high])(ngc.stockIn(ngc.sceneNow(ngc.store.state)))"), [[50, 60, -90], [150, 120, -70]])
     page.do("ngc.actions.setOrigins({ G54: [51e6, 60e6, -70e6] })")
     checks.equal("it moves with the zero", page.value("ngc.stockIn(ngc.sceneNow(ngc.store.state)).low"), [51, 60, -90])

@@ -2,6 +2,10 @@
 pub mod Tips
 -- The deepest of the cells in the way of a traverse, found part by part.
 pub mod Deepest
+-- The parts of a tool, tested one after another from the lowest up.
+pub mod Uppers
+-- No cell gets higher than the stock was.
+pub mod Within
 -- What a walk reports, command by command, and what that means.
 pub mod Reports
 -- A line that passes the tests on its ends follows the arc at each of its points.

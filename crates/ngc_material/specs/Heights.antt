@@ -1,5 +1,5 @@
 -- The heights of a stock's cells, and which lines are near enough to it. Our own.
-use Rattle.std.specs.Prelude.{◌≡◌, ℕ, ◌*◌, List, [], ◌∷◌, length, Bool, true, ◌&&◌}
+use Rattle.std.specs.Prelude.{◌≡◌, ℕ, ◌*◌, ◌<◌, ◌≤◌, List, [], ◌∷◌, length, slice_index, Bool, true, ◌&&◌}
 use Rattle.ngc_fixed_length.specs.Signed.{is_within}
 use Rattle.ngc_fixed_length.specs.declared.points.Point3.{Point3}
 use Rattle.ngc_commands.specs.declared.command.Action.{Action}
@@ -15,6 +15,10 @@ use Rattle.ngc_stock.specs.declared.stock.Stock.{Stock}
 pub record AreHeights (s : Stock) (heights : List ℕ) : Type 0 where
   pub grid : IsGrid s.grid
   pub count : length heights ≡ s.grid.columns * s.grid.rows
+
+-- no cell is higher than the stock was
+abbrev pub AreWithin : Stock → List ℕ → Type 0
+AreWithin s heights = (k : ℕ) → k < length heights → slice_index heights k ≤ s.height
 
 -- a point within two metres of the machine's zero, in the plane
 abbrev pub is_reached : Point3 → Bool

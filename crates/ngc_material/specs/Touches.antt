@@ -7,7 +7,8 @@ use Rattle.ngc_cells.specs.declared.stretch.Stretch.{Stretch}
 use Rattle.ngc_cells.specs.Stretches.{IsNear}
 use Rattle.ngc_cells.specs.Grids.{centre}
 use Rattle.ngc_stock.specs.declared.stock.Stock.{Stock}
-use Rattle.ngc_stock.specs.Stocks.{reduction, tolerance, radius, rise, pieces, piece, point_at, lowest_tip, level_of}
+use Rattle.ngc_stock.specs.Stocks.{reduction, tolerance, radius, rise, pieces, piece, point_at, lowest_tip, level_of, from_part}
+use Rattle.ngc_stock.specs.Walk.{IsClear}
 use Rattle.ngc_material.specs.declared.touch.Touch.{Touch}
 
 -- cell k is near a stretch and higher than a limit, and a tip is d deep in it
@@ -34,7 +35,8 @@ abbrev pub IsAtFirst : Stock → Tool → Point3 → Point3 → ℕ → List ℕ
 IsAtFirst s t a b n heights k d =
     IsAtEnd s t b heights k d ⊎ ((i : ℕ) × (i < n) × IsAtPiece s t a b i heights k d)
 
--- cell k is in the way of a traverse; a cutter thinner than the reduction isn't tested
+-- cell k is in the way of a traverse with the lowest part of a tool, which isn't tested if it is thinner
+-- than the reduction
 pub record IsInWay (s : Stock) (t : Tool) (a b : Point3) (heights : List ℕ) (k d : ℕ) : Type 0 where
   pub thick : reduction s.grid ≤ radius t
   pub part : IsAtFirst s t a b (pieces a b) heights k d
@@ -45,6 +47,14 @@ pub record IsDeepest (g : Grid) (In : ℕ → ℕ → Type 0) (touch : Touch) : 
   pub found : In cell touch.depth
   pub place : touch.place ≡ centre g cell
   pub greatest : (k d : ℕ) → In k d → d ≤ touch.depth
+
+-- the lowest part of a tool, from the one with this number up, that may touch material along a line, and
+-- where it is deepest
+pub record IsFirstTouch (s : Stock) (t : Tool) (first : ℕ) (a b : Point3) (heights : List ℕ) (part : ℕ) (touch : Touch) : Type 0 where
+  pub from : first ≤ part
+  pub within : part < length t.parts
+  pub lower : (p : ℕ) → first ≤ p → p < part → IsClear s (from_part t p) a b heights
+  pub deepest : IsDeepest s.grid (IsInWay s (from_part t part) a b heights) touch
 
 -- the deeper of two touches; of equal ones the first
 abbrev pub deeper : Option Touch → Option Touch → Option Touch

@@ -1,10 +1,12 @@
-ghost use Rattle.std.specs.Prelude.{◌≡◌, ◌≤◌, nat_lt};
+ghost use Rattle.std.specs.Prelude.{◌≡◌, ◌≤◌, ◌<◌, nat_lt, length, pos, unsigned_abs, ◌+ℤ◌};
+ghost use Rattle.std.specs.Int.{int_min};
+ghost use Rattle.ngc_fixed_length.specs.Limits.{LENGTH_LIMIT};
 ghost use Rattle.ngc_cells.specs.Stretches.{REACH, RADIUS_LIMIT};
-ghost use Rattle.ngc_stock.specs.Stocks.{kappa, sigma, margin, radius, reduction, level_of};
+ghost use Rattle.ngc_stock.specs.Stocks.{above, first_part, kappa, sigma, margin, radius, reduction, level_of};
 
 use ngc_cells::Grid;
-use ngc_fixed_length::root_ceil;
-use ngc_machine_files::Tool;
+use ngc_fixed_length::{Nm, root_ceil};
+use ngc_machine_files::{Parts, Tool};
 use ngc_stock::Stock;
 
 /// Returns the radius of a tool's cutter, which is its lowest part.
@@ -14,6 +16,48 @@ pub(crate) fn radius(tool: &Tool) -> u32
 {
     let part = tool.parts.as_slice()[0];
     1_000_000_000.min(part.radius.nanometres().unsigned_abs()) as u32
+}
+
+fn length(nanometres: i64) -> Nm
+    requires { unsigned_abs nanometres ≤ LENGTH_LIMIT }
+    ensures { result ≡ nanometres }
+{
+    Nm::from_nanometres(i128::from(nanometres)).unwrap()
+}
+
+// Returns how long the lowest part of a tool is.
+fn lowest_length(tool: &Tool) -> i64
+    ensures value { result ≡ pos (unsigned_abs (first_part tool.now.parts).length) }
+    ensures bound { unsigned_abs result ≤ LENGTH_LIMIT }
+{
+    let part = tool.parts.as_slice()[0];
+    part.length.nanometres().unsigned_abs() as i64
+}
+
+// Returns the height of the foot of the part above a tool's lowest one.
+fn foot_above(tool: &Tool) -> Nm
+    ensures { result ≡ int_min (pos LENGTH_LIMIT)
+        (tool.now.bottom +ℤ pos (unsigned_abs (first_part tool.now.parts).length)) }
+{
+    let foot = tool.bottom.nanometres() + lowest_length(tool);
+    length(100_000_000_000.min(foot))
+}
+
+/// Returns a tool without its lowest part, or the same tool if it has one part.
+pub(crate) fn above(tool: &Tool) -> Tool
+    ensures { 1 < length tool.now.parts → result ≡ above tool.now }
+{
+    let parts = tool.parts.as_slice();
+    match Parts::of(&parts[1..]) {
+        Some(parts) => Tool {
+            number: tool.number,
+            offset: tool.offset,
+            bottom: foot_above(tool),
+            parts,
+            name: tool.name,
+        },
+        None => *tool,
+    }
 }
 
 /// Returns half the diagonal of a cell, rounded up.

@@ -1,19 +1,27 @@
 //! Laws about what a walk reports.
-ghost use Rattle.ngc_material.specs.Silences.{Clearness, Nothing, Unreported};
+ghost use Rattle.ngc_material.specs.Silences.{ClearFeeds, Clearness, Nothing, Unreported};
 
-/// States that a traverse may touch no material exactly if no cell is in its way.
+/// States that the lowest part of a tool may touch no material in a traverse exactly if no cell is in
+/// its way.
 pub fn clearness()
     ensures { Clearness }
 {}
 
-/// States that a program about which a walk reports nothing is silent, as the law of silence needs it.
+/// States that a program of which a walk reports no traverse is silent, as the law of silence needs it.
 pub fn nothing()
     ensures { Nothing }
 {}
 
 /// States that each straight traverse that a walk doesn't report meets no material that the feeds and
-/// the reported traverses before it have left, for a cutter smaller by a margin and raised by a
-/// tolerance.
+/// the reported traverses before it have left, for each part of the tool, smaller by a margin and
+/// raised by a tolerance.
 pub fn unreported()
     ensures { Unreported }
+{}
+
+/// States that if a walk reports no feed, no part above the cutter, smaller by a margin and raised by a
+/// tolerance, meets along a straight feed material that the feeds up to this one, and the reported
+/// traverses before it, have left.
+pub fn clear_feeds()
+    ensures { ClearFeeds }
 {}

@@ -1,6 +1,6 @@
 //! A walk over the commands of a machine that keeps the heights of the material that feeds leave, and
-//! finds straight traverses that may touch it; tool changes below the top of a stock, and feeds below
-//! its bottom.
+//! finds straight traverses that may touch it, and straight feeds whose shank or holder may; tool changes
+//! below the top of a stock, and feeds below its bottom.
 #![tactic(auto)]
 
 mod below;
@@ -21,4 +21,4 @@ pub use below::find_below;
 pub use change::change_at;
 pub use cutter::{is_thin, margin};
 pub use touch::Touch;
-pub use walk::{Found, WalkFault, find_touches};
+pub use walk::{Found, Touches, WalkFault, find_touches};

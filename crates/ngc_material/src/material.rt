@@ -1,10 +1,10 @@
 //! The material that is left of a stock.
-ghost use Rattle.ngc_material.specs.Heights.{AreHeights};
+ghost use Rattle.ngc_material.specs.Heights.{AreHeights, AreWithin};
 
 use crate::cutting::cut;
 use crate::line::Line;
 use crate::sweep::cut_arc;
-use crate::touch::{Touch, deepest_touch};
+use crate::touch::{PartTouch, first_touch};
 use ngc_arc_geometry::Arc;
 use ngc_commands::{Action, Motion, Pace, Way};
 use ngc_machine_files::Tool;
@@ -17,15 +17,17 @@ pub(crate) struct Material<A: Allocator> {
     stock: Stock,
     heights: Vec<u32, A>,
     ghost fits: { AreHeights stock heights.items },
+    ghost within: { AreWithin stock heights.items },
 }
 
 impl<A: Allocator> Material<A> {
     ghost use Rattle.std.specs.Prelude.{◌≡◌, IfNone, IfSome, IfOk, IsTrue};
     ghost use Rattle.ngc_commands.specs.declared.movement.Feed.{Feed};
     ghost use Rattle.ngc_cells.specs.Grids.{IsGrid};
+    ghost use Rattle.ngc_stock.specs.Feeds.{IsFeedClear, IsFeedClearOn};
     ghost use Rattle.ngc_stock.specs.Walk.{IsStep, IsMotion, AreCut, IsArcCut, uncut};
     ghost use Rattle.ngc_material.specs.Heights.{is_action_reached, is_way_reached, is_reached};
-    ghost use Rattle.ngc_material.specs.Walks.{IsTouched, IsTouchedOn};
+    ghost use Rattle.ngc_material.specs.Walks.{IsRubbed, IsRubbedOn, IsTouched, IsTouchedOn};
 
     /// Returns an uncut stock. It fails if memory is refused.
     pub(crate) fn new(alloc: A, stock: &Stock) -> Result<Material<A>, AllocError>
@@ -40,16 +42,16 @@ impl<A: Allocator> Material<A> {
         })
     }
 
-    /// Follows an action with a mounted tool, and returns where it may touch material if it is a
-    /// straight traverse. A feed lowers the material, and so does a traverse that may touch it.
+    /// Follows an action with a mounted tool, and returns where a part of it may touch material if it is
+    /// a straight traverse. A feed lowers the material, and so does a traverse that may touch it.
     /// Motions without a tool change nothing.
-    pub(crate) fn follow(&mut self, tool: &Option<Tool>, action: &Action) -> Option<Touch>
+    pub(crate) fn follow(&mut self, tool: &Option<Tool>, action: &Action) -> Option<PartTouch>
         requires { IsTrue (is_action_reached action.now) }
         ensures stock { self.new.stock ≡ self.old.stock }
         ensures none { IfNone result
             (IsStep self.old.stock tool.now action.now self.old.heights.items self.new.heights.items) }
         ensures some { IfSome result
-            (IsTouched self.old.stock tool.now action.now self.old.heights.items self.new.heights.items) }
+            (λ f. IsTouched self.old.stock tool.now action.now self.old.heights.items self.new.heights.items f.part f.touch) }
     {
         match (tool, action) {
             (Some(tool), Action::Move(motion)) => self.follow_motion(tool, motion),
@@ -57,13 +59,13 @@ impl<A: Allocator> Material<A> {
         }
     }
 
-    fn follow_motion(&mut self, tool: &Tool, motion: &Motion) -> Option<Touch>
+    fn follow_motion(&mut self, tool: &Tool, motion: &Motion) -> Option<PartTouch>
         requires { IsTrue (is_way_reached motion.now.way) }
         ensures stock { self.new.stock ≡ self.old.stock }
         ensures none { IfNone result
             (IsMotion self.old.stock tool.now motion.now.way motion.now.pace self.old.heights.items self.new.heights.items) }
         ensures some { IfSome result
-            (IsTouchedOn self.old.stock tool.now motion.now.way motion.now.pace self.old.heights.items self.new.heights.items) }
+            (λ f. IsTouchedOn self.old.stock tool.now motion.now.way motion.now.pace self.old.heights.items self.new.heights.items f.part f.touch) }
     {
         match motion.pace {
             Pace::Rapid => self.follow_rapid(tool, &motion.way),
@@ -74,13 +76,13 @@ impl<A: Allocator> Material<A> {
         }
     }
 
-    fn follow_rapid(&mut self, tool: &Tool, way: &Way) -> Option<Touch>
+    fn follow_rapid(&mut self, tool: &Tool, way: &Way) -> Option<PartTouch>
         requires { IsTrue (is_way_reached way.now) }
         ensures stock { self.new.stock ≡ self.old.stock }
         ensures none { IfNone result
             (IsMotion self.old.stock tool.now way.now Pace.Rapid self.old.heights.items self.new.heights.items) }
         ensures some { IfSome result
-            (IsTouchedOn self.old.stock tool.now way.now Pace.Rapid self.old.heights.items self.new.heights.items) }
+            (λ f. IsTouchedOn self.old.stock tool.now way.now Pace.Rapid self.old.heights.items self.new.heights.items f.part f.touch) }
     {
         match way {
             Way::Line { start, end } => {
@@ -106,16 +108,16 @@ impl<A: Allocator> Material<A> {
         }
     }
 
-    fn traverse(&mut self, tool: &Tool, line: &Line) -> Option<Touch>
+    fn traverse(&mut self, tool: &Tool, line: &Line) -> Option<PartTouch>
         requires start { IsTrue (is_reached line.now.start) }
         requires end { IsTrue (is_reached line.now.end) }
         ensures stock { self.new.stock ≡ self.old.stock }
         ensures none { IfNone result
             (IsMotion self.old.stock tool.now (Way.Line line.now.start line.now.end) Pace.Rapid self.old.heights.items self.new.heights.items) }
         ensures some { IfSome result
-            (IsTouchedOn self.old.stock tool.now (Way.Line line.now.start line.now.end) Pace.Rapid self.old.heights.items self.new.heights.items) }
+            (λ f. IsTouchedOn self.old.stock tool.now (Way.Line line.now.start line.now.end) Pace.Rapid self.old.heights.items self.new.heights.items f.part f.touch) }
     {
-        let touch = deepest_touch(&self.stock, self.heights.as_slice(), tool, line);
+        let touch = first_touch(&self.stock, self.heights.as_slice(), tool, 0, line);
         if touch.is_some() {
             self.feed(tool, line);
         }
@@ -137,5 +139,49 @@ impl<A: Allocator> Material<A> {
         ensures cut { IsArcCut self.old.stock tool.now arc.now self.old.heights.items self.new.heights.items }
     {
         cut_arc(&self.stock, self.heights.as_mut_slice(), tool, arc);
+    }
+
+    /// Returns where a part of the mounted tool above the cutter may touch the material, if an action is
+    /// a straight feed. The material is that which the feed leaves.
+    pub(crate) fn test(&self, tool: &Option<Tool>, action: &Action) -> Option<PartTouch>
+        requires { IsTrue (is_action_reached action.now) }
+        ensures none { IfNone result (IsFeedClear self.now.stock tool.now action.now self.now.heights.items) }
+        ensures some { IfSome result
+            (λ f. IsRubbed self.now.stock tool.now action.now self.now.heights.items f.part f.touch) }
+    {
+        match (tool, action) {
+            (Some(tool), Action::Move(motion)) => self.test_motion(tool, motion),
+            _ => None,
+        }
+    }
+
+    fn test_motion(&self, tool: &Tool, motion: &Motion) -> Option<PartTouch>
+        requires { IsTrue (is_way_reached motion.now.way) }
+        ensures none { IfNone result
+            (IsFeedClearOn self.now.stock tool.now motion.now.way motion.now.pace self.now.heights.items) }
+        ensures some { IfSome result
+            (λ f. IsRubbedOn self.now.stock tool.now motion.now.way motion.now.pace self.now.heights.items f.part f.touch) }
+    {
+        match motion.pace {
+            Pace::Rapid => None,
+            Pace::Feed(_) => self.test_feed(tool, &motion.way),
+        }
+    }
+
+    fn test_feed(&self, tool: &Tool, way: &Way) -> Option<PartTouch>
+        requires { IsTrue (is_way_reached way.now) }
+        ensures none { (f : Feed) → IfNone result
+            (IsFeedClearOn self.now.stock tool.now way.now (Pace.Feed f) self.now.heights.items) }
+        ensures some { (f : Feed) → IfSome result
+            (λ g. IsRubbedOn self.now.stock tool.now way.now (Pace.Feed f) self.now.heights.items g.part g.touch) }
+    {
+        match way {
+            Way::Line { start, end } => {
+                let (start, end) = (*start, *end);
+                let line = Line { start, end };
+                first_touch(&self.stock, self.heights.as_slice(), tool, 1, &line)
+            }
+            Way::Arc(_) => None,
+        }
     }
 }

@@ -1,24 +1,31 @@
-//! Where a traverse may touch material.
+//! Where a traverse may touch material, and with which part of a tool.
 ghost use Rattle.std.specs.Prelude.{◌≡◌, ◌≤◌, ◌<◌, ◌+◌, ◌*◌, ◌-◌, pos, ◌+ℤ◌, IfNone, IfSome, IsTrue, length, unsigned_abs};
 ghost use Rattle.ngc_cells.specs.Stretches.{RADIUS_LIMIT, IsStretch};
 ghost use Rattle.ngc_cells.specs.Grids.{IsGrid, AreBelow};
 ghost use Rattle.ngc_stock.specs.Stocks.{level_of, lowest_tip, piece, point_at, radius, reduction, rise, tolerance};
-ghost use Rattle.ngc_stock.specs.Walk.{IsClear};
-ghost use Rattle.ngc_material.specs.Heights.{AreHeights, is_reached};
-ghost use Rattle.ngc_material.specs.Touches.{IsDeep, IsDeepest, IsInWay, deeper};
+ghost use Rattle.ngc_stock.specs.Walk.{AreClear, IsClear};
+ghost use Rattle.ngc_material.specs.Heights.{AreHeights, AreWithin, is_reached};
+ghost use Rattle.ngc_material.specs.Touches.{IsDeep, IsDeepest, IsFirstTouch, IsInWay, deeper};
 
-use crate::cutter::{level_of, radius, reduction, sigma};
+use crate::cutter::{above, level_of, radius, reduction, sigma};
 use crate::line::Line;
 use ngc_cells::{Grid, Spot, Stretch, highest_above};
 use ngc_machine_files::Tool;
 use ngc_stock::Stock;
 
-/// Where a traverse may touch material: the centre of a cell, and how far below its height the tool's
-/// tip is at most, in nanometres.
+/// Where a part of a tool may touch material: the centre of a cell, and how far below its height the
+/// part's foot is at most, in nanometres.
 #[derive(Clone, Copy)]
 pub struct Touch {
     pub place: Spot,
     pub depth: u32,
+}
+
+/// Which part of a tool may touch material, counted from 0, the lowest, and where.
+#[derive(Clone, Copy)]
+pub(crate) struct PartTouch {
+    pub(crate) part: usize,
+    pub(crate) touch: Touch,
 }
 
 /// What is tested at once: the cells near a stretch that are higher than a limit, and the height of
@@ -49,15 +56,20 @@ fn deeper(first: Option<Touch>, second: Option<Touch>) -> Option<Touch>
 }
 
 /// Returns a deepest cell of those that a probe finds, or `None` if it finds none.
-fn touch_at(grid: &Grid, heights: &[u32], probe: &Probe) -> Option<Touch>
-    requires grid { IsGrid grid.now }
-    requires count { length heights.now ≡ grid.now.columns * grid.now.rows }
+fn touch_at(stock: &Stock, heights: &[u32], probe: &Probe) -> Option<Touch>
+    requires heights { AreHeights stock.now heights.now }
+    requires within { AreWithin stock.now heights.now }
     requires stretch { IsStretch probe.now.stretch }
     requires radius { probe.now.radius ≤ RADIUS_LIMIT }
-    ensures none { IfNone result (AreBelow grid.now probe.now.stretch probe.now.radius probe.now.limit heights.now) }
-    ensures some { IfSome result (IsDeepest grid.now
-        (IsDeep grid.now probe.now.stretch probe.now.radius probe.now.limit probe.now.tip heights.now)) }
+    ensures none { IfNone result (AreBelow stock.now.grid probe.now.stretch probe.now.radius probe.now.limit heights.now) }
+    ensures some { IfSome result (IsDeepest stock.now.grid
+        (IsDeep stock.now.grid probe.now.stretch probe.now.radius probe.now.limit probe.now.tip heights.now)) }
 {
+    // A holder is mostly above the stock, and is so wide that its cells would take long.
+    if stock.height <= probe.limit {
+        return None;
+    }
+    let grid = &stock.grid;
     match highest_above(grid, heights, &probe.stretch, probe.radius, probe.limit) {
         Some(peak) => Some(Touch {
             place: grid.centre(peak.cell),
@@ -146,29 +158,58 @@ fn piece_probe(stock: &Stock, tool: &Tool, line: &Line, part: u32, tested: u32) 
     }
 }
 
-/// Returns where a traverse may touch material deepest, or `None` if it touches none.
-pub(crate) fn deepest_touch(
+/// Returns where the lowest part of a tool may touch material deepest, or `None` if it touches none.
+fn deepest_touch(
     stock: &Stock,
     heights: &[u32],
     tool: &Tool,
     line: &Line,
 ) -> Option<Touch>
     requires heights { AreHeights stock.now heights.now }
+    requires within { AreWithin stock.now heights.now }
     requires start { IsTrue (is_reached line.now.start) }
     requires end { IsTrue (is_reached line.now.end) }
     ensures none { IfNone result (IsClear stock.now tool.now line.now.start line.now.end heights.now) }
     ensures some { IfSome result (IsDeepest stock.now.grid
         (IsInWay stock.now tool.now line.now.start line.now.end heights.now)) }
 {
-    let grid = &stock.grid;
-    let Some(tested) = tested_radius(grid, tool) else {
+    let Some(tested) = tested_radius(&stock.grid, tool) else {
         return None;
     };
     let probe = end_probe(stock, tool, line, tested);
-    let mut deepest = touch_at(grid, heights, &probe);
+    let mut deepest = touch_at(stock, heights, &probe);
     for part in 0..line.pieces() {
         let probe = piece_probe(stock, tool, line, part, tested);
-        deepest = deeper(deepest, touch_at(grid, heights, &probe));
+        deepest = deeper(deepest, touch_at(stock, heights, &probe));
     }
     deepest
+}
+
+/// Returns the lowest part of a tool, from the one with this number up, that may touch material along a
+/// line, and where it is deepest, or `None` if none of them may touch any.
+pub(crate) fn first_touch(
+    stock: &Stock,
+    heights: &[u32],
+    tool: &Tool,
+    first: usize,
+    line: &Line,
+) -> Option<PartTouch>
+    requires heights { AreHeights stock.now heights.now }
+    requires within { AreWithin stock.now heights.now }
+    requires start { IsTrue (is_reached line.now.start) }
+    requires end { IsTrue (is_reached line.now.end) }
+    ensures none { IfNone result (AreClear stock.now tool.now first line.now.start line.now.end heights.now) }
+    ensures some { IfSome result (λ f.
+        IsFirstTouch stock.now tool.now first line.now.start line.now.end heights.now f.part f.touch) }
+{
+    let mut upper = *tool;
+    for part in 0..tool.parts.as_slice().len() {
+        if first <= part {
+            if let Some(touch) = deepest_touch(stock, heights, &upper, line) {
+                return Some(PartTouch { part, touch });
+            }
+        }
+        upper = above(&upper);
+    }
+    None
 }

@@ -3,18 +3,18 @@ ghost use Rattle.std.specs.Prelude.{◌≡◌, ◌↔◌, IfOk, IfErr, OnOk, IsT
 ghost use Rattle.ngc_cells.specs.Grids.{IsGrid};
 ghost use Rattle.ngc_stock.specs.Walk.{uncut};
 ghost use Rattle.ngc_material.specs.Heights.{are_reached, is_action_reached};
-ghost use Rattle.ngc_material.specs.Walks.{AreFound, IsFollowed};
+ghost use Rattle.ngc_material.specs.Walks.{AreFound, IsFollowed, IsTested};
 
 use crate::change::tool_number;
 use crate::material::Material;
 use crate::reach::are_reached;
-use crate::touch::Touch;
+use crate::touch::{PartTouch, Touch};
 use ngc_commands::{Command, Reached};
 use ngc_machine_files::Tool;
 use ngc_stock::Stock;
 use std::alloc::{AllocError, Allocator};
 
-/// A straight traverse that may touch material.
+/// A straight motion that may touch material.
 #[derive(Clone, Copy)]
 pub struct Found {
     /// The index of its command.
@@ -23,7 +23,18 @@ pub struct Found {
     pub line: u32,
     /// The number of the mounted tool.
     pub tool: u32,
+    /// The part of the tool, counted from 0, the lowest.
+    pub part: usize,
     pub touch: Touch,
+}
+
+/// The straight motions of a program that may touch material, in order.
+#[derive(Drop)]
+pub struct Touches<A: Allocator> {
+    /// Traverses, with any part of a tool.
+    pub traverses: Vec<Found, A>,
+    /// Feeds, with a part above the cutter.
+    pub feeds: Vec<Found, A>,
 }
 
 /// Why a walk isn't made.
@@ -35,11 +46,11 @@ pub enum WalkFault {
     Far,
 }
 
-// Follows a command with its index and the mounted tool. If it may touch material, it is added to what
-// is found.
+// Follows a command with its index and the mounted tool. If it is a traverse that may touch material, it
+// is added to those.
 fn follow<A: Allocator>(
     material: &mut Material<A>,
-    found: &mut Vec<Found, A>,
+    traverses: &mut Vec<Found, A>,
     tool: &Option<Tool>,
     index: usize,
     command: &Command,
@@ -47,23 +58,50 @@ fn follow<A: Allocator>(
     requires { IsTrue (is_action_reached command.now.action) }
     ensures stock { OnOk result (material.new.stock ≡ material.old.stock) }
     ensures found { OnOk result (IsFollowed material.old.stock tool.now index command.now
-        material.old.heights.items material.new.heights.items found.old.items found.new.items) }
+        material.old.heights.items material.new.heights.items traverses.old.items traverses.new.items) }
 {
-    if let Some(touch) = material.follow(tool, &command.action) {
-        found.push(Found {
+    if let Some(PartTouch { part, touch }) = material.follow(tool, &command.action) {
+        traverses.push(Found {
             command: index,
             line: command.line,
             tool: tool_number(tool),
+            part,
             touch,
         })?;
     }
     Ok(())
 }
 
-/// Returns the straight traverses of a program that may touch material, in order: `commands` are the
-/// program's commands at a setting of block delete, from a state with the material uncut. A traverse
-/// that is found then counts as a feed. An arc isn't tested, but cuts. Motions without a tool are left
-/// out.
+// Tests a command with its index and the mounted tool in the material that it leaves. If it is a feed that
+// may touch it, it is added to those.
+fn test<A: Allocator>(
+    material: &Material<A>,
+    feeds: &mut Vec<Found, A>,
+    tool: &Option<Tool>,
+    index: usize,
+    command: &Command,
+) -> Result<(), AllocError>
+    requires { IsTrue (is_action_reached command.now.action) }
+    ensures { OnOk result (IsTested material.now.stock tool.now index command.now
+        material.now.heights.items feeds.old.items feeds.new.items) }
+{
+    if let Some(PartTouch { part, touch }) = material.test(tool, &command.action) {
+        feeds.push(Found {
+            command: index,
+            line: command.line,
+            tool: tool_number(tool),
+            part,
+            touch,
+        })?;
+    }
+    Ok(())
+}
+
+/// Returns the straight motions of a program that may touch material: `commands` are the program's
+/// commands at a setting of block delete, from a state with the material uncut. A traverse is tested
+/// with each part of the tool; if it is found, it then counts as a feed. A feed is tested with the parts
+/// above the cutter in the material that it leaves. An arc isn't tested, but cuts. Motions without a tool
+/// are left out.
 ///
 /// It fails if memory is refused, or if the end of a motion is far from the machine's zero.
 pub fn find_touches<A: Allocator + Copy>(
@@ -71,9 +109,9 @@ pub fn find_touches<A: Allocator + Copy>(
     stock: &Stock,
     start: &Reached,
     commands: &[Command],
-) -> Result<Vec<Found, A>, WalkFault>
+) -> Result<Touches<A>, WalkFault>
     requires { IsGrid stock.now.grid }
-    ensures found { IfOk result (λ v. AreFound stock.now start.now (uncut stock.now) 0 commands.now v.items) }
+    ensures found { IfOk result (λ v. AreFound stock.now start.now (uncut stock.now) 0 commands.now v.traverses.items v.feeds.items) }
     ensures near { IfOk result (λ v. IsTrue (are_reached commands.now)) }
     ensures far { IfErr result (λ e. (e ≡ WalkFault.Far) ↔ ¬ (IsTrue (are_reached commands.now))) }
 {
@@ -83,17 +121,22 @@ pub fn find_touches<A: Allocator + Copy>(
     let Ok(mut material) = Material::new(alloc, stock) else {
         return Err(WalkFault::Memory);
     };
-    let mut found = Vec::new(alloc);
+    let mut traverses = Vec::new(alloc);
+    let mut feeds = Vec::new(alloc);
     let mut reached = *start;
     let mut left = commands;
     while let Some((command, later)) = left.split_first() {
         let index = commands.len() - left.len();
-        match follow(&mut material, &mut found, &reached.tool, index, command) {
+        match follow(&mut material, &mut traverses, &reached.tool, index, command) {
+            Ok(()) => {}
+            Err(_) => return Err(WalkFault::Memory),
+        }
+        match test(&material, &mut feeds, &reached.tool, index, command) {
             Ok(()) => {}
             Err(_) => return Err(WalkFault::Memory),
         }
         reached = reached.after(&command.action);
         left = later;
     }
-    Ok(found)
+    Ok(Touches { traverses, feeds })
 }

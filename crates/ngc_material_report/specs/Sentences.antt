@@ -1,5 +1,5 @@
--- How traverses that may touch material, tool changes in it and feeds below its bottom are written, in
--- words and as facts of a JSON document. Our own.
+-- How traverses and feeds that may touch material, tool changes in it and feeds below its bottom are
+-- written, in words and as facts of a JSON document. Our own.
 use Rattle.std.specs.Prelude.{ℕ, ◌+◌, ◌-◌, ◌*◌, ◌/◌, ◌==◌, nat_lt, ◌-ℤ◌, unsigned_abs, List, [], ◌++◌, codes, decimal, length, take, slice_get, flat_map, Option, Some, None, if◌then◌else◌}
 use Rattle.ngc_text.specs.Millimetres.{sign_text, size_text}
 use Rattle.ngc_machine_files.specs.declared.tools.Tool.{Tool}
@@ -14,15 +14,41 @@ use Rattle.ngc_stock.specs.Below.{all_below}
 use Rattle.ngc_stock.specs.Changes.{changes}
 use Rattle.ngc_stock.specs.Stocks.{margin, radius, reduction}
 use Rattle.ngc_material.specs.declared.walk.Found.{Found}
+use Rattle.ngc_material_report.specs.declared.touches.Kind.{Kind}
+use Rattle.ngc_material_report.specs.declared.touches.Kind.TheVariants.{Traverse, Feed}
 use Rattle.ngc_report.specs.declared.form.Form.{Form}
 use Rattle.ngc_report.specs.declared.form.Form.TheVariants.{Words, Json}
 
--- ---- a traverse
+-- ---- a motion
 
-unfoldable pub deep_words : Found → List ℕ
-deep_words f =
-    codes "Line " ++ decimal f.line ++ codes " may touch material at traverse: tool " ++ decimal f.tool
-    ++ codes " is at most " ++ size_text f.touch.depth ++ codes " mm deep at X "
+-- a traverse, or a feed that is named for the holder
+abbrev pub motion_words : Kind → List ℕ
+motion_words Traverse = codes "traverse"
+motion_words Feed = codes "feed"
+
+abbrev pub kind_words : Kind → List ℕ
+kind_words Traverse = codes "traverse"
+kind_words Feed = codes "holder"
+
+unfoldable pub motion_line : Kind → Found → List ℕ
+motion_line kind f =
+    codes "Line " ++ decimal f.line ++ codes " may touch material at " ++ motion_words kind ++ codes ": "
+
+unfoldable pub cutter_words : Found → List ℕ
+cutter_words f = codes "tool " ++ decimal f.tool
+
+unfoldable pub upper_words : Found → List ℕ
+upper_words f = codes "part " ++ decimal f.part ++ codes " of tool " ++ decimal f.tool ++ codes ", counted from 0,"
+
+-- the lowest part is the tool itself
+abbrev pub part_words : Found → List ℕ
+part_words f = if f.part == 0 then cutter_words f else upper_words f
+
+unfoldable pub depth_words : Found → List ℕ
+depth_words f = codes " is at most " ++ size_text f.touch.depth ++ codes " mm deep at X "
+
+abbrev pub deep_words : Kind → Found → List ℕ
+deep_words kind f = motion_line kind f ++ (part_words f ++ depth_words f)
 
 -- from an origin to a place, in millimetres
 unfoldable pub place_words : Spot → Spot → List ℕ
@@ -30,14 +56,18 @@ place_words origin p =
     sign_text (p.x -ℤ origin.x) ++ size_text (unsigned_abs (p.x -ℤ origin.x)) ++ codes " mm, Y "
     ++ sign_text (p.y -ℤ origin.y) ++ size_text (unsigned_abs (p.y -ℤ origin.y)) ++ codes " mm.\n"
 
-unfoldable pub touch_words : Spot → Found → List ℕ
-touch_words origin f = deep_words f ++ place_words origin f.touch.place
+unfoldable pub touch_words : Spot → Kind → Found → List ℕ
+touch_words origin kind f = deep_words kind f ++ place_words origin f.touch.place
 
-unfoldable pub deep_fact : Found → List ℕ
-deep_fact f =
-    codes ",\n{\"fact\":\"material\",\"kind\":\"traverse\",\"certain\":false,\"line\":" ++ decimal f.line
-    ++ codes ",\"command\":" ++ decimal f.command ++ codes ",\"tool\":" ++ decimal f.tool
-    ++ codes ",\"part\":0,\"depth\":" ++ decimal f.touch.depth ++ codes ",\"at\":["
+unfoldable pub kind_fact : Kind → Found → List ℕ
+kind_fact kind f =
+    codes ",\n{\"fact\":\"material\",\"kind\":\"" ++ kind_words kind ++ codes "\",\"certain\":false,\"line\":"
+    ++ decimal f.line ++ codes ",\"command\":" ++ decimal f.command
+
+unfoldable pub depth_fact : Found → List ℕ
+depth_fact f =
+    codes ",\"tool\":" ++ decimal f.tool ++ codes ",\"part\":" ++ decimal f.part
+    ++ codes ",\"depth\":" ++ decimal f.touch.depth ++ codes ",\"at\":["
 
 -- the same in nanometres
 unfoldable pub place_fact : Spot → Spot → List ℕ
@@ -45,8 +75,8 @@ place_fact origin p =
     sign_text (p.x -ℤ origin.x) ++ decimal (unsigned_abs (p.x -ℤ origin.x)) ++ codes ","
     ++ sign_text (p.y -ℤ origin.y) ++ decimal (unsigned_abs (p.y -ℤ origin.y)) ++ codes "]}"
 
-unfoldable pub touch_fact : Spot → Found → List ℕ
-touch_fact origin f = deep_fact f ++ place_fact origin f.touch.place
+unfoldable pub touch_fact : Spot → Kind → Found → List ℕ
+touch_fact origin kind f = kind_fact kind f ++ (depth_fact f ++ place_fact origin f.touch.place)
 
 -- ---- all of them
 
@@ -58,20 +88,25 @@ line_of (Some f) = f.line
 abbrev pub last_line : List Found → ℕ
 last_line found = line_of (slice_get found (length found - 1))
 
-unfoldable pub number_words : List Found → List ℕ
-number_words found =
-    codes "There are " ++ decimal (length found) ++ codes " such traverses, the last in line "
+unfoldable pub number_words : Kind → List Found → List ℕ
+number_words kind found =
+    codes "There are " ++ decimal (length found) ++ codes " such " ++ motion_words kind ++ codes "s, the last in line "
     ++ decimal (last_line found) ++ codes ".\n"
 
 -- their number, if not each has a line
-abbrev pub count_words : ℕ → List Found → List ℕ
-count_words most found = if nat_lt most (length found) then number_words found else []
+abbrev pub count_words : ℕ → Kind → List Found → List ℕ
+count_words most kind found = if nat_lt most (length found) then number_words kind found else []
 
 -- in words the first ones and their number, as facts all of them
-abbrev pub touches_text : Form → ℕ → Spot → List Found → List ℕ
-touches_text Words most origin found =
-    flat_map (touch_words origin) (take most found) ++ count_words most found
-touches_text Json most origin found = flat_map (touch_fact origin) found
+abbrev pub motions_text : Form → ℕ → Spot → Kind → List Found → List ℕ
+motions_text Words most origin kind found =
+    flat_map (touch_words origin kind) (take most found) ++ count_words most kind found
+motions_text Json most origin kind found = flat_map (touch_fact origin kind) found
+
+-- the traverses and then the feeds
+abbrev pub touches_text : Form → ℕ → Spot → List Found → List Found → List ℕ
+touches_text form most origin found feeds =
+    motions_text form most origin Traverse found ++ motions_text form most origin Feed feeds
 
 -- ---- a tool change below the stock's top
 

@@ -1,9 +1,10 @@
-//! Sentences about traverses that may touch material, about tool changes in it and about feeds below its
-//! bottom, or facts of a JSON document.
+//! Sentences about traverses and feeds that may touch material, about tool changes in it and about feeds
+//! below its bottom, or facts of a JSON document.
 //!
 //! ```text
 //! Line 22 may touch material at traverse: tool 1 is at most 0.4 mm deep at X 30.5 mm, Y 7.5 mm.
 //! There are 13 such traverses, the last in line 40.
+//! Line 9 may touch material at feed: part 1 of tool 2, counted from 0, is at most 1 mm deep at X 30.5 mm, Y 7.5 mm.
 //! Line 31 changes the tool below the stock's top: tool 2 is 2 mm below it at X 30.5 mm, Y 7.5 mm.
 //! Line 50 feeds below the stock's bottom: tool 2 is at most 0.2 mm below it.
 //! Traverses were tested for each tool less 0.29 mm of its radius.

@@ -1,4 +1,4 @@
-//! How traverses that may touch material are said.
+//! How traverses and feeds that may touch material are said.
 ghost use Rattle.std.specs.Prelude.{◌≡◌, ◌-ℤ◌, unsigned_abs, decimal, length, OnOk, OnErr, take, flat_map};
 ghost use Rattle.std.specs.Io.KnownBytes.{Appends};
 ghost use Rattle.ngc_text.specs.Failures.{CountsFailure};
@@ -6,13 +6,53 @@ ghost use Rattle.ngc_text.specs.Millimetres.{sign_text, size_text};
 ghost use Rattle.ngc_text.specs.Written.{AppendsPrefix};
 ghost use Rattle.ngc_sentences.specs.Parts.{part_text};
 ghost use Rattle.ngc_sentences.specs.Saying.{Says};
-ghost use Rattle.ngc_material_report.specs.Sentences.{deep_words, place_words, touch_words, deep_fact, place_fact, touch_fact, last_line, number_words, count_words, touches_text};
+ghost use Rattle.ngc_material_report.specs.Sentences.{motion_words, kind_words, motion_line, cutter_words, upper_words, part_words, depth_words, deep_words, place_words, touch_words};
+ghost use Rattle.ngc_material_report.specs.Sentences.{kind_fact, depth_fact, place_fact, touch_fact, last_line, number_words, count_words, motions_text, touches_text};
 
 use ngc_cells::Spot;
 use ngc_material::Found;
 use ngc_report::Form;
 use ngc_sentences::{Page, Part, say};
 use ngc_text::{Sink, WriteFault};
+
+/// Which motions are said.
+#[derive(Clone, Copy)]
+pub(crate) enum Kind {
+    /// Traverses, with any part of a tool.
+    Traverse,
+    /// Feeds, with a part above the cutter.
+    Feed,
+}
+
+fn motion_words(kind: Kind) -> &'static [u8]
+    ensures { result.now ≡ motion_words kind }
+{
+    match kind {
+        Kind::Traverse => b"traverse",
+        Kind::Feed => b"feed",
+    }
+}
+
+fn kind_words(kind: Kind) -> &'static [u8]
+    ensures { result.now ≡ kind_words kind }
+{
+    match kind {
+        Kind::Traverse => b"traverse",
+        Kind::Feed => b"holder",
+    }
+}
+
+fn motion(kind: Kind) -> Part<'static>
+    ensures { part_text result ≡ motion_words kind }
+{
+    Part::Text(motion_words(kind))
+}
+
+fn kind_part(kind: Kind) -> Part<'static>
+    ensures { part_text result ≡ kind_words kind }
+{
+    Part::Text(kind_words(kind))
+}
 
 fn sign(from: &i64, to: &i64) -> &'static [u8]
     ensures { result.now ≡ sign_text (to.now -ℤ from.now) }
@@ -50,11 +90,58 @@ fn size(size: u32) -> Part<'static>
     Part::Size(u128::from(size))
 }
 
-fn say_deep_words<W: Sink>(found: &Found, page: &mut Page, output: &mut W)
-    ensures { Says (W.written output.old) (W.written output.new)
-        (W.failures output.old) (W.failures output.new) page.old page.new (deep_words found.now) }
+fn index(index: usize) -> Part<'static>
+    ensures { part_text result ≡ decimal index }
 {
-    say!(page, output; b"Line ", number(found.line), b" may touch material at traverse: tool ", number(found.tool), b" is at most ", size(found.touch.depth), b" mm deep at X ");
+    Part::Number(index as u128)
+}
+
+fn say_motion_line<W: Sink>(kind: Kind, found: &Found, page: &mut Page, output: &mut W)
+    ensures { Says (W.written output.old) (W.written output.new)
+        (W.failures output.old) (W.failures output.new) page.old page.new (motion_line kind found.now) }
+{
+    say!(page, output; b"Line ", number(found.line), b" may touch material at ", motion(kind), b": ");
+}
+
+fn say_cutter_words<W: Sink>(found: &Found, page: &mut Page, output: &mut W)
+    ensures { Says (W.written output.old) (W.written output.new)
+        (W.failures output.old) (W.failures output.new) page.old page.new (cutter_words found.now) }
+{
+    say!(page, output; b"tool ", number(found.tool));
+}
+
+fn say_upper_words<W: Sink>(found: &Found, page: &mut Page, output: &mut W)
+    ensures { Says (W.written output.old) (W.written output.new)
+        (W.failures output.old) (W.failures output.new) page.old page.new (upper_words found.now) }
+{
+    say!(page, output; b"part ", index(found.part), b" of tool ", number(found.tool), b", counted from 0,");
+}
+
+fn say_part_words<W: Sink>(found: &Found, page: &mut Page, output: &mut W)
+    ensures { Says (W.written output.old) (W.written output.new)
+        (W.failures output.old) (W.failures output.new) page.old page.new (part_words found.now) }
+{
+    if found.part == 0 {
+        say_cutter_words(found, page, output);
+    } else {
+        say_upper_words(found, page, output);
+    }
+}
+
+fn say_depth_words<W: Sink>(found: &Found, page: &mut Page, output: &mut W)
+    ensures { Says (W.written output.old) (W.written output.new)
+        (W.failures output.old) (W.failures output.new) page.old page.new (depth_words found.now) }
+{
+    say!(page, output; b" is at most ", size(found.touch.depth), b" mm deep at X ");
+}
+
+fn say_deep_words<W: Sink>(kind: Kind, found: &Found, page: &mut Page, output: &mut W)
+    ensures { Says (W.written output.old) (W.written output.new)
+        (W.failures output.old) (W.failures output.new) page.old page.new (deep_words kind found.now) }
+{
+    say_motion_line(kind, found, page, output);
+    say_part_words(found, page, output);
+    say_depth_words(found, page, output);
 }
 
 pub(crate) fn say_place_words<W: Sink>(origin: &Spot, place: &Spot, page: &mut Page, output: &mut W)
@@ -64,19 +151,32 @@ pub(crate) fn say_place_words<W: Sink>(origin: &Spot, place: &Spot, page: &mut P
     say!(page, output; signed(&origin.x, &place.x), millimetres(&origin.x, &place.x), b" mm, Y ", signed(&origin.y, &place.y), millimetres(&origin.y, &place.y), b" mm.\n");
 }
 
-fn say_words<W: Sink>(origin: &Spot, found: &Found, page: &mut Page, output: &mut W)
+fn say_words<W: Sink>(
+    origin: &Spot,
+    kind: Kind,
+    found: &Found,
+    page: &mut Page,
+    output: &mut W,
+)
     ensures { Says (W.written output.old) (W.written output.new)
-        (W.failures output.old) (W.failures output.new) page.old page.new (touch_words origin.now found.now) }
+        (W.failures output.old) (W.failures output.new) page.old page.new (touch_words origin.now kind found.now) }
 {
-    say_deep_words(found, page, output);
+    say_deep_words(kind, found, page, output);
     say_place_words(origin, &found.touch.place, page, output);
 }
 
-fn say_deep_fact<W: Sink>(found: &Found, page: &mut Page, output: &mut W)
+fn say_kind_fact<W: Sink>(kind: Kind, found: &Found, page: &mut Page, output: &mut W)
     ensures { Says (W.written output.old) (W.written output.new)
-        (W.failures output.old) (W.failures output.new) page.old page.new (deep_fact found.now) }
+        (W.failures output.old) (W.failures output.new) page.old page.new (kind_fact kind found.now) }
 {
-    say!(page, output; b",\n{\"fact\":\"material\",\"kind\":\"traverse\",\"certain\":false,\"line\":", number(found.line), b",\"command\":", Part::Number(found.command as u128), b",\"tool\":", number(found.tool), b",\"part\":0,\"depth\":", number(found.touch.depth), b",\"at\":[");
+    say!(page, output; b",\n{\"fact\":\"material\",\"kind\":\"", kind_part(kind), b"\",\"certain\":false,\"line\":", number(found.line), b",\"command\":", index(found.command));
+}
+
+fn say_depth_fact<W: Sink>(found: &Found, page: &mut Page, output: &mut W)
+    ensures { Says (W.written output.old) (W.written output.new)
+        (W.failures output.old) (W.failures output.new) page.old page.new (depth_fact found.now) }
+{
+    say!(page, output; b",\"tool\":", number(found.tool), b",\"part\":", index(found.part), b",\"depth\":", number(found.touch.depth), b",\"at\":[");
 }
 
 pub(crate) fn say_place_fact<W: Sink>(origin: &Spot, place: &Spot, page: &mut Page, output: &mut W)
@@ -86,29 +186,48 @@ pub(crate) fn say_place_fact<W: Sink>(origin: &Spot, place: &Spot, page: &mut Pa
     say!(page, output; signed(&origin.x, &place.x), nanometres(&origin.x, &place.x), b",", signed(&origin.y, &place.y), nanometres(&origin.y, &place.y), b"]}");
 }
 
-fn say_fact<W: Sink>(origin: &Spot, found: &Found, page: &mut Page, output: &mut W)
+fn say_fact<W: Sink>(
+    origin: &Spot,
+    kind: Kind,
+    found: &Found,
+    page: &mut Page,
+    output: &mut W,
+)
     ensures { Says (W.written output.old) (W.written output.new)
-        (W.failures output.old) (W.failures output.new) page.old page.new (touch_fact origin.now found.now) }
+        (W.failures output.old) (W.failures output.new) page.old page.new (touch_fact origin.now kind found.now) }
 {
-    say_deep_fact(found, page, output);
+    say_kind_fact(kind, found, page, output);
+    say_depth_fact(found, page, output);
     say_place_fact(origin, &found.touch.place, page, output);
 }
 
-fn say_all_words<W: Sink>(origin: &Spot, all: &[Found], page: &mut Page, output: &mut W)
+fn say_all_words<W: Sink>(
+    origin: &Spot,
+    kind: Kind,
+    all: &[Found],
+    page: &mut Page,
+    output: &mut W,
+)
     ensures { Says (W.written output.old) (W.written output.new)
-        (W.failures output.old) (W.failures output.new) page.old page.new (flat_map (touch_words origin.now) all.now) }
+        (W.failures output.old) (W.failures output.new) page.old page.new (flat_map (touch_words origin.now kind) all.now) }
 {
     for found in all {
-        say_words(origin, found, page, output);
+        say_words(origin, kind, found, page, output);
     }
 }
 
-fn say_all_facts<W: Sink>(origin: &Spot, all: &[Found], page: &mut Page, output: &mut W)
+fn say_all_facts<W: Sink>(
+    origin: &Spot,
+    kind: Kind,
+    all: &[Found],
+    page: &mut Page,
+    output: &mut W,
+)
     ensures { Says (W.written output.old) (W.written output.new)
-        (W.failures output.old) (W.failures output.new) page.old page.new (flat_map (touch_fact origin.now) all.now) }
+        (W.failures output.old) (W.failures output.new) page.old page.new (flat_map (touch_fact origin.now kind) all.now) }
 {
     for found in all {
-        say_fact(origin, found, page, output);
+        say_fact(origin, kind, found, page, output);
     }
 }
 
@@ -133,45 +252,52 @@ fn length(all: &[Found]) -> Part<'static>
     Part::Number(all.len() as u128)
 }
 
-fn say_number<W: Sink>(all: &[Found], page: &mut Page, output: &mut W)
+fn say_number<W: Sink>(kind: Kind, all: &[Found], page: &mut Page, output: &mut W)
     ensures { Says (W.written output.old) (W.written output.new)
-        (W.failures output.old) (W.failures output.new) page.old page.new (number_words all.now) }
+        (W.failures output.old) (W.failures output.new) page.old page.new (number_words kind all.now) }
 {
-    say!(page, output; b"There are ", length(all), b" such traverses, the last in line ", number(last_line(all)), b".\n");
+    say!(page, output; b"There are ", length(all), b" such ", motion(kind), b"s, the last in line ", number(last_line(all)), b".\n");
 }
 
-fn say_count<W: Sink>(most: usize, all: &[Found], page: &mut Page, output: &mut W)
-    ensures { Says (W.written output.old) (W.written output.new)
-        (W.failures output.old) (W.failures output.new) page.old page.new (count_words most all.now) }
-{
-    if most < all.len() {
-        say_number(all, page, output);
-    }
-}
-
-fn say_touches<W: Sink>(
-    form: Form,
+fn say_count<W: Sink>(
     most: usize,
-    origin: &Spot,
+    kind: Kind,
     all: &[Found],
     page: &mut Page,
     output: &mut W,
 )
     ensures { Says (W.written output.old) (W.written output.new)
-        (W.failures output.old) (W.failures output.new) page.old page.new (touches_text form most origin.now all.now) }
+        (W.failures output.old) (W.failures output.new) page.old page.new (count_words most kind all.now) }
 {
-    match form {
-        Form::Words => {
-            say_all_words(origin, first(most, all), page, output);
-            say_count(most, all, page, output);
-        }
-        Form::Json => say_all_facts(origin, all, page, output),
+    if most < all.len() {
+        say_number(kind, all, page, output);
     }
 }
 
-/// Writes the traverses that a walk has found: in words the first `most` of them, and their number if
-/// there are more; as facts all of them. Places count from `origin`, which is in nanometres of the
-/// machine.
+fn say_motions<W: Sink>(
+    form: Form,
+    most: usize,
+    origin: &Spot,
+    kind: Kind,
+    all: &[Found],
+    page: &mut Page,
+    output: &mut W,
+)
+    ensures { Says (W.written output.old) (W.written output.new)
+        (W.failures output.old) (W.failures output.new) page.old page.new (motions_text form most origin.now kind all.now) }
+{
+    match form {
+        Form::Words => {
+            say_all_words(origin, kind, first(most, all), page, output);
+            say_count(most, kind, all, page, output);
+        }
+        Form::Json => say_all_facts(origin, kind, all, page, output),
+    }
+}
+
+/// Writes the traverses and the feeds that a walk has found: in words the first `most` of each, and their
+/// number if there are more; as facts all of them. Places count from `origin`, which is in nanometres of
+/// the machine.
 ///
 /// The function allocates no memory. After a fault (902, only if the sink failed) a prefix of the
 /// text is written.
@@ -179,16 +305,18 @@ pub fn write_touches<W: Sink>(
     form: Form,
     most: usize,
     origin: &Spot,
-    all: &[Found],
+    traverses: &[Found],
+    feeds: &[Found],
     output: &mut W,
 ) -> Result<(), WriteFault>
-    ensures ok { OnOk result
-        (Appends (W.written output.old) (W.written output.new) (touches_text form most origin.now all.now)) }
-    ensures fault { OnErr result
-        (AppendsPrefix (W.written output.old) (W.written output.new) (touches_text form most origin.now all.now)) }
+    ensures ok { OnOk result (Appends (W.written output.old) (W.written output.new)
+        (touches_text form most origin.now traverses.now feeds.now)) }
+    ensures fault { OnErr result (AppendsPrefix (W.written output.old) (W.written output.new)
+        (touches_text form most origin.now traverses.now feeds.now)) }
     ensures counts { CountsFailure (W.failures output.old) (W.failures output.new) result }
 {
     let mut page = Page::new();
-    say_touches(form, most, origin, all, &mut page, output);
+    say_motions(form, most, origin, Kind::Traverse, traverses, &mut page, output);
+    say_motions(form, most, origin, Kind::Feed, feeds, &mut page, output);
     page.finish(output)
 }

@@ -1,4 +1,5 @@
-//! Prints where the traverses of programs may touch material, in words the first two, and as facts all.
+//! Prints where the traverses and feeds of programs may touch material, in words the first two of each, and
+//! as facts all.
 //! A line of standard input begins with `program` and a name; the program begins at 0 0 0 in an uncut
 //! stock without a tool. Its lines are `stock` with the number of a stock, `tool` with a number, of which
 //! 0 is none, and `traverse` or `feed` with the coordinates of an end, in nanometres of the machine. The
@@ -15,7 +16,7 @@ use ngc_cells::Spot;
 use ngc_commands::{Action, Command, Feed, Motion, Pace, Reached, Way};
 use ngc_fixed_length::{Nm, Plane, Point3, Turn, Units};
 use ngc_machine_files::Tool;
-use ngc_material::{Found, WalkFault, find_touches};
+use ngc_material::{Touches, WalkFault, find_touches};
 use ngc_material_report::{write_touches, write_untested};
 use ngc_report::Form;
 use ngc_text::{Device, Sink, WriteFault, write_all};
@@ -180,7 +181,7 @@ impl Program {
         }
         let stock = numbered(self.stock);
         match find_touches(alloc, &stock, &start, self.commands.as_slice()) {
-            Ok(found) => write_found(&origin_of(self.stock), found.as_slice(), output),
+            Ok(touches) => write_found(&origin_of(self.stock), &touches, output),
             Err(WalkFault::Memory) => write_all(output, b"  no memory\n"),
             Err(WalkFault::Far) => write_all(output, b"  far from zero\n"),
         }
@@ -195,12 +196,20 @@ fn end_line<W: Sink>(outcome: Result<(), WriteFault>, output: &mut W) -> Result<
     }
 }
 
-fn write_found<W: Sink>(origin: &Spot, all: &[Found], output: &mut W) -> Result<(), WriteFault> {
-    if all.is_empty() {
+fn write_found<W: Sink>(
+    origin: &Spot,
+    touches: &Touches<Global>,
+    output: &mut W,
+) -> Result<(), WriteFault> {
+    let (found, feeds) = (touches.traverses.as_slice(), touches.feeds.as_slice());
+    if found.is_empty() && feeds.is_empty() {
         return Ok(());
     }
-    match write_touches(Form::Words, 2, origin, all, output) {
-        Ok(()) => end_line(write_touches(Form::Json, 2, origin, all, output), output),
+    match write_touches(Form::Words, 2, origin, found, feeds, output) {
+        Ok(()) => end_line(
+            write_touches(Form::Json, 2, origin, found, feeds, output),
+            output,
+        ),
         Err(fault) => Err(fault),
     }
 }

@@ -10,9 +10,12 @@ const TOOLS: &str = "version = 2\n
 [[tool]]\nnumber = 1\noffset = 0\nbottom = 0\nparts = [{ length = 20000000, radius = 3000000 }]\n
 [[tool]]\nnumber = 2\noffset = 0\nbottom = -20000000\nparts = [{ length = 20000000, radius = 1500000 }, { length = 9000000, radius = 9000000 }]\n
 [[tool]]\nnumber = 3\noffset = 0\nbottom = 0\nparts = [{ length = 20000000, radius = 500000 }]\n
-[[tool]]\nnumber = 4\noffset = 0\nbottom = -3\nparts = [{ length = 20000000, radius = 700007 }]\n";
+[[tool]]\nnumber = 4\noffset = 0\nbottom = -3\nparts = [{ length = 20000000, radius = 700007 }]\n
+[[tool]]\nnumber = 5\noffset = 0\nbottom = 0\nparts = [{ length = 3000000, radius = 3000000 }, { length = 17000000, radius = 10000000 }]\n
+[[tool]]\nnumber = 6\noffset = 0\nbottom = 0\nparts = [{ length = 3000000, radius = 3000000 }, { length = 17000000, radius = 3000000 }, { length = 10000000, radius = 10000000 }]\n";
 
-/// Returns four tools: 6 mm wide; 3 mm wide, 20 mm long and with a holder; 1 mm wide; 1.4 mm wide.
+/// Returns six tools: 6 mm wide; 3 mm wide, 20 mm long and with a holder; 1 mm wide; 1.4 mm wide; two of 6 mm
+/// whose cutter is 3 mm long, the first with a holder on it, the second with a shank between.
 pub(crate) fn tools(alloc: Global) -> Option<Tools<Global>> {
     Tools::read(alloc, TOOLS.as_bytes()).ok()
 }

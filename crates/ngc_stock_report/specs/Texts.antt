@@ -29,7 +29,7 @@ abbrev pub block_origin : MachineFile → Option StockBox → Spot
 block_origin m None = spot_of (origin_at m 0)
 block_origin m (Some b) = spot_of (origin_at m b.system)
 
--- at most this number of traverses have a line
+-- at most this number of traverses have a line, and of feeds
 abbrev pub MOST_LINES : ℕ
 MOST_LINES = 10
 
@@ -50,7 +50,7 @@ abbrev pub has_other_arcs : List Command → Bool
 has_other_arcs [] = false
 has_other_arcs (c ∷ cs) = is_other_arc c.action || has_other_arcs cs
 
--- such arcs count at their ends only: a traverse that is reported may go where one has cut
+-- such arcs count at their ends only: a motion that is reported may go where one has cut
 unfoldable pub arcs_words : List ℕ
 arcs_words = codes "Cuts along arcs of G18 and G19 are not counted: the material may be gone there.\n"
 
@@ -58,6 +58,11 @@ abbrev pub arcs_line : Form → List Command → List Found → List ℕ
 arcs_line Words commands [] = []
 arcs_line Words commands (f ∷ fs) = if has_other_arcs commands then arcs_words else []
 arcs_line Json commands found = []
+
+-- the traverses that are found, or else the feeds
+abbrev pub found_or : List Found → List Found → List Found
+found_or [] feeds = feeds
+found_or (f ∷ fs) feeds = f ∷ fs
 
 -- the block, or the end of a motion, is too far from the machine's zero
 unfoldable pub far_words : List ℕ
@@ -83,10 +88,10 @@ rest_text form m tools commands w =
 
 abbrev pub walk_text : Form → MachineFile → List Tool → List Command → WalkData → List ℕ
 walk_text form m tools commands w =
-    touches_text form MOST_LINES (block_origin m m.stock) w.found
-    ++ (arcs_line form commands w.found ++ rest_text form m tools commands w)
+    touches_text form MOST_LINES (block_origin m m.stock) w.found w.feeds
+    ++ (arcs_line form commands (found_or w.found w.feeds) ++ rest_text form m tools commands w)
 
--- the traverses that may touch material, the tool changes in it, the feeds below it, and what isn't tested
+-- the motions that may touch material, the tool changes in it, the feeds below it, and what isn't tested
 abbrev pub material_text : Form → MachineFile → List Tool → List Command → Option WalkData → List ℕ
 material_text form m tools commands None = unwalked_text form m.stock
 material_text form m tools commands (Some w) = walk_text form m tools commands w

@@ -1,4 +1,4 @@
--- What the traverses of a program may touch of a machine's material. Our own.
+-- What the traverses and the feeds of a program may touch of a machine's material. Our own.
 use Rattle.std.specs.Prelude.{◌≡◌, ◌⊎◌, List, Option, Some, None, IsTrue}
 use Rattle.ngc_machine_files.specs.Machine.{MachineFile}
 use Rattle.ngc_commands.specs.declared.command.Command.{Command}
@@ -11,10 +11,11 @@ use Rattle.ngc_material.specs.Heights.{are_reached}
 use Rattle.ngc_material.specs.Walks.{AreFound}
 use Rattle.ngc_stock_report.specs.Placed.{IsPlaced}
 
--- the material in the machine, and the straight traverses that may touch it
+-- the material in the machine, and the straight traverses and the feeds that may touch it
 pub record WalkData : Type 0 where
   pub stock : Stock
   pub found : List Found
+  pub feeds : List Found
 
 -- some of the cells, or the end of a motion, is more than two metres from the machine's zero
 abbrev pub IsFar : Stock → List Command → Type 0
@@ -30,7 +31,7 @@ pub record IsWalk (m : MachineFile) (commands : List Command) (w : WalkData) : T
   pub placed : IsPlaced m w.stock
   pub grid : IsGrid w.stock.grid
   pub near : IsTrue (are_reached commands)
-  pub found : AreFound w.stock (at_start m) (uncut w.stock) 0 commands w.found
+  pub found : AreFound w.stock (at_start m) (uncut w.stock) 0 commands w.found w.feeds
 
 -- no walk without a block of material, and none where it or a motion is far
 abbrev pub IsWalked : MachineFile → List Command → Option WalkData → Type 0

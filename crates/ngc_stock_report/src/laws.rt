@@ -1,9 +1,15 @@
 //! The law of a report that says nothing of material.
-ghost use Rattle.ngc_stock_report.specs.Silent.{SilentReport};
+ghost use Rattle.ngc_stock_report.specs.Silent.{SilentFeeds, SilentReport};
 
-/// States that if a walk over a program's commands finds nothing, no straight traverse meets material
-/// that the feeds before it have left, for a cutter smaller by a margin and raised by a
+/// States that if a walk over a program's commands finds no traverse, no straight traverse meets material
+/// that the feeds before it have left, for each part of the tool, smaller by a margin and raised by a
 /// tolerance.
 pub fn silent_report()
     ensures { SilentReport }
+{}
+
+/// States that if it finds no feed, no part above the cutter meets along a straight feed material that
+/// the feeds up to this one, and the reported traverses before it, have left.
+pub fn silent_feeds()
+    ensures { SilentFeeds }
 {}

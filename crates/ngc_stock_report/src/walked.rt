@@ -8,16 +8,16 @@ use crate::grids::is_grid;
 use crate::placed::stock_in;
 use ngc_commands::{Command, Reached};
 use ngc_machine_files::Machine;
-use ngc_material::{Found, WalkFault, find_touches};
+use ngc_material::{Touches, WalkFault, find_touches};
 use ngc_stock::Stock;
 use std::alloc::{AllocError, Allocator};
 use std::marker::Model;
 
-/// The material of a machine, and the straight traverses of a program that may touch it.
+/// The material of a machine, and the straight traverses and feeds of a program that may touch it.
 #[derive(Drop)]
 pub struct Walk<A: Allocator> {
     pub(crate) stock: Stock,
-    pub(crate) found: Vec<Found, A>,
+    pub(crate) touches: Touches<A>,
     ghost holds: { IsGrid stock.grid },
 }
 
@@ -26,14 +26,15 @@ impl<A: Allocator> Model for Walk<A> {
 
     ghost Value = { WalkData };
 
-    ghost view = { λ w. record { stock = w.stock; found = w.found.items } };
+    ghost view = { λ w. record { stock = w.stock; found = w.touches.traverses.items; feeds = w.touches.feeds.items } };
 
     ghost invariant = { λ w. Unit {0} };
 }
 
-/// Returns the straight traverses of a program that may touch the material of its machine: `commands`
-/// are its commands at a setting of block delete. It returns `None` if the machine has no block of
-/// material, or if some of it, or the end of a motion, is more than two metres from the machine's zero.
+/// Returns the straight traverses of a program that may touch the material of its machine, and the
+/// straight feeds whose shank or holder may: `commands` are its commands at a setting of block delete.
+/// It returns `None` if the machine has no block of material, or if some of it, or the end of a motion,
+/// is more than two metres from the machine's zero.
 ///
 /// It fails if memory is refused.
 pub fn find_walk<A: Allocator + Copy, B: Allocator>(
@@ -50,7 +51,7 @@ pub fn find_walk<A: Allocator + Copy, B: Allocator>(
         return Ok(None);
     }
     match find_touches(alloc, &stock, &Reached::at_start(machine), commands) {
-        Ok(found) => Ok(Some(Walk { stock, found })),
+        Ok(touches) => Ok(Some(Walk { stock, touches })),
         Err(WalkFault::Far) => Ok(None),
         Err(WalkFault::Memory) => Err(AllocError),
     }

@@ -4,7 +4,7 @@ ghost use Rattle.std.specs.Io.KnownBytes.{Appends};
 ghost use Rattle.ngc_text.specs.Failures.{CountsFailure};
 ghost use Rattle.ngc_text.specs.Written.{AppendsPrefix};
 ghost use Rattle.ngc_machine_files.specs.Machine.{file_of};
-ghost use Rattle.ngc_stock_report.specs.Texts.{block_origin, arcs_words, arcs_line, far_words, far_fact, far_line};
+ghost use Rattle.ngc_stock_report.specs.Texts.{block_origin, arcs_words, arcs_line, found_or, far_words, far_fact, far_line};
 ghost use Rattle.ngc_stock_report.specs.Texts.{unwalked_text, rest_text, walk_text, material_text};
 
 use crate::arcs::has_other_arcs;
@@ -19,7 +19,7 @@ use ngc_report::Form;
 use ngc_text::{Sink, WriteFault, write_all};
 use std::alloc::Allocator;
 
-/// At most this number of traverses have a line.
+/// At most this number of traverses have a line, and of feeds.
 const MOST_LINES: usize = 10;
 
 // Returns the origin of the block's coordinate system.
@@ -56,6 +56,13 @@ fn arcs_line(form: Form, commands: &[Command], found: &[Found]) -> &'static [u8]
         }
         Form::Json => b"",
     }
+}
+
+// Returns the traverses that are found, or else the feeds.
+fn found_or<'a>(found: &'a [Found], feeds: &'a [Found]) -> &'a [Found]
+    ensures { result.now ≡ found_or found.now feeds.now }
+{
+    if found.is_empty() { feeds } else { found }
 }
 
 #[tactic(auto, unfolding(crate::specs::Texts::far_words, crate::specs::Texts::far_fact))]
@@ -114,14 +121,17 @@ fn write_walk<A: Allocator, B: Allocator, W: Sink>(
         (walk_text form (file_of machine.now) tools.now commands.now walk.now)) }
     ensures counts { CountsFailure (W.failures output.old) (W.failures output.new) result }
 {
-    let found = walk.found.as_slice();
-    write_touches(form, MOST_LINES, &block_origin(machine), found, output)?;
-    write_all(output, arcs_line(form, commands, found))?;
+    let found = walk.touches.traverses.as_slice();
+    let feeds = walk.touches.feeds.as_slice();
+    let origin = block_origin(machine);
+    write_touches(form, MOST_LINES, &origin, found, feeds, output)?;
+    let touches = found_or(found, feeds);
+    write_all(output, arcs_line(form, commands, touches))?;
     write_rest(form, machine, tools, commands, walk, output)
 }
 
-/// Writes what a walk has found: the straight traverses that may touch material, the tool changes below
-/// its top, the feeds below its bottom, and what isn't tested. `commands` are those of the walk. Without
+/// Writes what a walk has found: the straight traverses and feeds that may touch material, the tool changes
+/// below its top, the feeds below its bottom, and what isn't tested. `commands` are those of the walk. Without
 /// a block of material nothing is written; if the walk wasn't made because of a distance, one line says
 /// so.
 ///

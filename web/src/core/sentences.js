@@ -108,16 +108,19 @@ function refusalSentence({ refusal, dialect, explanation }) {
 }
 
 export const isRapid = ({ kind }) => kind === 'traverse';
-// What the report says about a rapid that may go through material that no feed before it has removed, about a tool change below the top
-// of the block, or about feeds below its bottom: the words of its card, and the note beside its line.
-export function materialSentence({ kind, tool, depth, at, line, first, last }, unit) {
-  const most = enough(depth, unit);
+export const isHolder = ({ kind }) => kind === 'holder';
+// What the report says about a rapid that may go through material that no feed before it has removed, about a feed whose shank or holder
+// may touch what it leaves, about a tool change below the top of the block, or about feeds below its bottom: the words of its card, and
+// the note beside its line. Parts of a tool count from 0, the cutter.
+export function materialSentence({ kind, tool, part, depth, at, line, first, last }, unit) {
+  const most = enough(depth, unit), who = part ? `part ${part} of ${toolName(tool)}, counted from 0,` : toolName(tool);
   if (kind === 'change') return { line, text: `the tool is changed below the top of the material: ${toolName(tool)} is ${length(depth, unit)} below it at X ${length(at[0], unit)}, Y ${length(at[1], unit)}`, note: `tool change ${length(depth, unit)} below the top of the material` };
   if (kind === 'bottom') {
     const others = first === last ? '' : `; the first such feed is in line ${first}, the last in line ${last}`;
     return { line, text: `the feed goes below the bottom of the material: ${toolName(tool)} is at most ${most} below it${others}`, note: `feed at most ${most} below the bottom of the material` };
   }
-  return { line, text: `the rapid may touch material: ${toolName(tool)} is at most ${most} deep at X ${length(at[0], unit)}, Y ${length(at[1], unit)}`, note: `rapid may touch material, at most ${most} deep` };
+  const motion = kind === 'holder' ? 'feed' : 'rapid', upper = part ? ` with part ${part} of the tool` : '';
+  return { line, text: `the ${motion} may touch material: ${who} is at most ${most} deep at X ${length(at[0], unit)}, Y ${length(at[1], unit)}`, note: `${motion} may touch material${upper}, at most ${most} deep` };
 }
 const ROUND = 10_000;   // nanometres: the margin of the test is shown to a hundredth of a millimetre, rounded up
 // What is known about rapids and the block of material of the machine file.
@@ -126,7 +129,8 @@ export function materialWords({ material, untestedTools, materialMargin, isMater
   if (materialMargin === null) return '';
   const less = `tested with each tool ${enough(Math.ceil(materialMargin / ROUND) * ROUND, unit)} smaller in radius and a little higher`, thin = untestedTools.map(it => it.tool);
   const rapids = material.filter(isRapid).length, found = rapids ? `${plural(rapids, 'rapid')} may touch material, ${less}.` : `No rapid touches material that the feeds before it have left, ${less}.`;
-  return `${found}${thin.length ? ` Too thin to be tested: tool ${thin.join(', ')}.` : ''}`;
+  const feeds = material.filter(isHolder).length, rubbing = feeds ? ` With a shank or a holder ${plural(feeds, 'feed')} may touch what the feeds have left.` : '';
+  return `${found}${rubbing}${thin.length ? ` Too thin to be tested: tool ${thin.join(', ')}.` : ''}`;
 }
 
 // The side of the travel with the least left, without the sides where the machine starts: there nothing is left by definition.

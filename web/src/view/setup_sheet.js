@@ -49,7 +49,7 @@ export function makeSetupSheet(store, picture) {
       group ? firstRows('Tools in the order of use', TOOL_HEADS, toolRows(group, scene, unit), MOST.uses) : null,
       group ? firstRows('Figures of each tool', FIGURE_HEADS, figureRows(group, unit), MOST.figures) : null,
       warnings.length ? h('ul', {}, warnings.slice(0, MOST.warnings).map(it => h('li', {}, `Warning: ${it.text}${it.line ? `, line ${it.line}` : ''}`)), warnings.length > MOST.warnings ? h('li', {}, `${warnings.length - MOST.warnings} more warnings`) : null) : null,
-      h('footer', {}, `${group?.time ? `Run time ${duration(group.time.seconds)}. ` : ''}Checked by ngc: travel, fixtures and tool holders as the machine file and the tool table describe them. ${group?.materialMargin !== null && group?.materialMargin !== undefined ? 'Of the workpiece only rapids, tool changes and the depth of feeds are tested.' : "The workpiece isn't checked."}`));
+      h('footer', {}, `${group?.time ? `Run time ${duration(group.time.seconds)}. ` : ''}Checked by ngc: travel, fixtures and tool holders as the machine file and the tool table describe them. ${group?.materialMargin !== null && group?.materialMargin !== undefined ? 'Of the workpiece only rapids, tool changes, the depth of feeds, and shanks and holders on straight feeds are tested.' : "The workpiece isn't checked."}`));
   }
   window.addEventListener('beforeprint', build);
   return { build, print() { build(); window.print(); } };

@@ -5,7 +5,7 @@ import { asksNow, everyGroupsNow, everyNow, groupNow, groupsNow, keptNow, sceneN
 import { CUTS, MOST_CUTS } from '../core/changes.js';
 import { isRefusal } from '../core/controls.js';
 import { withRemarks } from '../core/facts.js';
-import { causeOf, certificateSentence, isRapid, materialSentence, moreCutsMayHelp, obstacleSentence, verdictOf } from '../core/sentences.js';
+import { causeOf, certificateSentence, isHolder, isRapid, materialSentence, moreCutsMayHelp, obstacleSentence, verdictOf } from '../core/sentences.js';
 import { sentenceOfFailure } from '../core/jobs.js';
 import { duration, inUnit, length, plural } from '../core/units.js';
 import { fill, h, id } from './dom.js';
@@ -32,14 +32,15 @@ function cardOf({ text, count = 1, line = null, isNote = false, act = null }, ac
   return h('button', { class: `card${isNote ? ' told' : ''}`, type: 'button', disabled: !line && !act, onclick: act ?? (() => actions.goTo(line, 'verdict')) }, h('span', { class: 'sign', 'aria-hidden': 'true' }, isNote ? 'i' : '!'),
     h('span', {}, h('span', { class: 'sr' }, isNote ? 'Note: ' : 'Warning: '), capital(text), count > 1 ? ` (${count}\u00d7)` : '', line ? h('b', {}, ` line ${line}`) : null));
 }
-// What the cards say: a refused certificate, warnings, rapids that may touch material, tool changes in it, and notes about what controls do differently.
+// What the cards say: a refused certificate, warnings, rapids and feeds that may touch material, tool changes in it, and notes about what controls do differently.
 function cardsOf(group, remarks, refusedCertificate, unit, actions) {
   const { material = [] } = group ?? {}, [warnings, notes] = ['warning', 'note'].map(kind => withRemarks(group, kind, remarks));
-  const rapids = material.filter(isRapid), changes = material.filter(it => !isRapid(it)), more = rapids.length - MOST_RAPIDS;
+  const rapids = material.filter(isRapid), feeds = material.filter(isHolder), changes = material.filter(it => !isRapid(it) && !isHolder(it));
+  const more = (all, name) => (all.length > MOST_RAPIDS ? [{ text: `${plural(all.length - MOST_RAPIDS, `more ${name}`)} may touch material`, act: () => actions.tab('report') }] : []);
   return [
     ...(refusedCertificate ? [{ text: certificateSentence(...refusedCertificate) }] : []),
     ...warnings.slice(0, MOST_WARNINGS).map(it => ({ ...it, text: it.words })), ...[...changes.slice(0, MOST_RAPIDS), ...rapids.slice(0, MOST_RAPIDS)].map(it => materialSentence(it, unit)),
-    ...(more > 0 ? [{ text: `${plural(more, 'more rapid')} may touch material`, act: () => actions.tab('report') }] : []),
+    ...more(rapids, 'rapid'), ...feeds.slice(0, MOST_RAPIDS).map(it => materialSentence(it, unit)), ...more(feeds, 'feed'),
     ...notes.filter(it => it.class === 'chosen').map(it => ({ ...it, text: it.words, isNote: true })),
   ];
 }

@@ -10,12 +10,13 @@ loop-command-preserved g c =
       near = later_reached c.loop-command.left.now c.in-Some.later.now c.in-Some.command.now e v.near;
       few = omega (arith, v.few, c.in-Some.ensures.cases.1);
       found = kept_found c.args.stock.now c.args.start.now c.loop-command.reached c.after-reached.result c.args.commands.now c.loop-command.left.now c.in-Some.later.now c.in-Some.command.now
-          c.loop-command.material.heights.items c.follow.new.material.heights.items c.loop-command.found.items c.follow.new.found.items
-          e v.few c.after-reached.ensures (rw v.stock at c.in-Ok-follow.ensures.found) v.found;
+          c.loop-command.material.heights.items c.follow.new.material.heights.items c.loop-command.traverses.items c.follow.new.traverses.items
+          c.loop-command.feeds.items c.test.new.feeds.items
+          e v.few c.after-reached.ensures (rw v.stock at c.in-Ok-follow.ensures.found) (rw (c.in-Ok-follow.ensures.stock ∙ v.stock) at c.in-Ok-test.ensures) v.found;
     }
 
 pub returns-clause-found : goal.returns-clause-found
 returns-clause-found g c =
     let v = c.loop-command.invariant in
     all_found c.args.stock.now c.args.start.now c.loop-command.reached c.args.commands.now c.loop-command.left.now c.loop-command.material.heights.items
-    (length c.args.commands.now - length c.loop-command.left.now) c.loop-command.found.items c.in_default-split_first.ensures.cases v.found
+    (length c.args.commands.now - length c.loop-command.left.now) c.loop-command.traverses.items c.loop-command.feeds.items c.in_default-split_first.ensures.cases v.found

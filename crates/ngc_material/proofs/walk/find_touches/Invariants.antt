@@ -11,8 +11,8 @@ invariant-loop-command g l = record {
   stock : l.material.stock ≡ l.stock;
   near : are_reached l.left ≡ true;
   few : length l.left ≤ length l.commands;
-  found : (rest : List Found) → AreFound l.stock l.reached l.material.heights.items (length l.commands - length l.left) l.left rest →
-      AreFound l.stock l.start (uncut l.stock) 0 l.commands (l.found.items ++ rest);
+  found : (rest others : List Found) → AreFound l.stock l.reached l.material.heights.items (length l.commands - length l.left) l.left rest others →
+      AreFound l.stock l.start (uncut l.stock) 0 l.commands (l.traverses.items ++ rest) (l.feeds.items ++ others);
 }
 
 abbrev pub decreases-loop-command : goal.decreases-loop-command

@@ -1,6 +1,5 @@
-use Rattle.ngc_material_report.specs.Sentences.{deep_words}
+use Rattle.ngc_sentences.proofs.Said.{then}
 use Rattle.ngc_material_report.proofs.touches.say_deep_words.Goals as goal
 
 pub returns : goal.returns
-unfolding deep_words
-returns g c = rw (← c.number.ensures, ← c.number-2.ensures, ← c.size.ensures) c.say.ensures
+returns g c = then c.say_motion_line.ensures (then c.say_part_words.ensures c.say_depth_words.ensures)
