@@ -159,12 +159,7 @@ fn piece_probe(stock: &Stock, tool: &Tool, line: &Line, part: u32, tested: u32) 
 }
 
 /// Returns where the lowest part of a tool may touch material deepest, or `None` if it touches none.
-fn deepest_touch(
-    stock: &Stock,
-    heights: &[u32],
-    tool: &Tool,
-    line: &Line,
-) -> Option<Touch>
+fn deepest_touch(stock: &Stock, heights: &[u32], tool: &Tool, line: &Line) -> Option<Touch>
     requires heights { AreHeights stock.now heights.now }
     requires within { AreWithin stock.now heights.now }
     requires start { IsTrue (is_reached line.now.start) }

@@ -151,13 +151,7 @@ pub(crate) fn say_place_words<W: Sink>(origin: &Spot, place: &Spot, page: &mut P
     say!(page, output; signed(&origin.x, &place.x), millimetres(&origin.x, &place.x), b" mm, Y ", signed(&origin.y, &place.y), millimetres(&origin.y, &place.y), b" mm.\n");
 }
 
-fn say_words<W: Sink>(
-    origin: &Spot,
-    kind: Kind,
-    found: &Found,
-    page: &mut Page,
-    output: &mut W,
-)
+fn say_words<W: Sink>(origin: &Spot, kind: Kind, found: &Found, page: &mut Page, output: &mut W)
     ensures { Says (W.written output.old) (W.written output.new)
         (W.failures output.old) (W.failures output.new) page.old page.new (touch_words origin.now kind found.now) }
 {
@@ -186,13 +180,7 @@ pub(crate) fn say_place_fact<W: Sink>(origin: &Spot, place: &Spot, page: &mut Pa
     say!(page, output; signed(&origin.x, &place.x), nanometres(&origin.x, &place.x), b",", signed(&origin.y, &place.y), nanometres(&origin.y, &place.y), b"]}");
 }
 
-fn say_fact<W: Sink>(
-    origin: &Spot,
-    kind: Kind,
-    found: &Found,
-    page: &mut Page,
-    output: &mut W,
-)
+fn say_fact<W: Sink>(origin: &Spot, kind: Kind, found: &Found, page: &mut Page, output: &mut W)
     ensures { Says (W.written output.old) (W.written output.new)
         (W.failures output.old) (W.failures output.new) page.old page.new (touch_fact origin.now kind found.now) }
 {
@@ -201,13 +189,7 @@ fn say_fact<W: Sink>(
     say_place_fact(origin, &found.touch.place, page, output);
 }
 
-fn say_all_words<W: Sink>(
-    origin: &Spot,
-    kind: Kind,
-    all: &[Found],
-    page: &mut Page,
-    output: &mut W,
-)
+fn say_all_words<W: Sink>(origin: &Spot, kind: Kind, all: &[Found], page: &mut Page, output: &mut W)
     ensures { Says (W.written output.old) (W.written output.new)
         (W.failures output.old) (W.failures output.new) page.old page.new (flat_map (touch_words origin.now kind) all.now) }
 {
@@ -216,13 +198,7 @@ fn say_all_words<W: Sink>(
     }
 }
 
-fn say_all_facts<W: Sink>(
-    origin: &Spot,
-    kind: Kind,
-    all: &[Found],
-    page: &mut Page,
-    output: &mut W,
-)
+fn say_all_facts<W: Sink>(origin: &Spot, kind: Kind, all: &[Found], page: &mut Page, output: &mut W)
     ensures { Says (W.written output.old) (W.written output.new)
         (W.failures output.old) (W.failures output.new) page.old page.new (flat_map (touch_fact origin.now kind) all.now) }
 {
@@ -259,13 +235,7 @@ fn say_number<W: Sink>(kind: Kind, all: &[Found], page: &mut Page, output: &mut 
     say!(page, output; b"There are ", length(all), b" such ", motion(kind), b"s, the last in line ", number(last_line(all)), b".\n");
 }
 
-fn say_count<W: Sink>(
-    most: usize,
-    kind: Kind,
-    all: &[Found],
-    page: &mut Page,
-    output: &mut W,
-)
+fn say_count<W: Sink>(most: usize, kind: Kind, all: &[Found], page: &mut Page, output: &mut W)
     ensures { Says (W.written output.old) (W.written output.new)
         (W.failures output.old) (W.failures output.new) page.old page.new (count_words most kind all.now) }
 {
@@ -316,7 +286,15 @@ pub fn write_touches<W: Sink>(
     ensures counts { CountsFailure (W.failures output.old) (W.failures output.new) result }
 {
     let mut page = Page::new();
-    say_motions(form, most, origin, Kind::Traverse, traverses, &mut page, output);
+    say_motions(
+        form,
+        most,
+        origin,
+        Kind::Traverse,
+        traverses,
+        &mut page,
+        output,
+    );
     say_motions(form, most, origin, Kind::Feed, feeds, &mut page, output);
     page.finish(output)
 }
