@@ -4,3 +4,5 @@ pub mod Ends
 pub mod Anys
 -- What is after a prefix.
 pub mod Prefixes
+-- The words before a place, and one word more.
+pub mod Steps

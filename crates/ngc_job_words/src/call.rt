@@ -1,7 +1,9 @@
 //! The words of a call without `--job FILE`, and with the program as an option.
-ghost use Rattle.std.specs.Prelude.{◌≡◌, IfOk, OnOk, false, map, option_map};
+ghost use Rattle.std.specs.Prelude.{◌≡◌, IfOk, Ok, OnOk, map, option_map};
+ghost use Rattle.ngc_machine_figures.specs.Reading.{ok_map};
 ghost use Rattle.ngc_job_words.specs.Asked as spec;
-ghost use Rattle.ngc_job_words.specs.Asked.{words_in};
+ghost use Rattle.ngc_job_words.specs.Seen as parts;
+ghost use Rattle.ngc_job_words.specs.Seen.{words_in};
 
 use crate::command::{Family, family_of};
 use crate::values::values_of;
@@ -32,7 +34,9 @@ pub enum AskedFault {
 
 impl AskedFault {
     /// Returns the text of the fault, as one for the other options, with its last line feed.
-    pub fn text(self) -> &'static str {
+    pub fn text(self) -> &'static str
+        ensures { result.now ≡ spec.fault_text self }
+    {
         match self {
             AskedFault::Twice =>
                 "error: the argument '--job <FILE>' cannot be used multiple times\n\nFor more information, try '--help'.\n",
@@ -64,7 +68,7 @@ struct Seen<'a> {
 }
 
 fn keep<'a>(seen: &mut Seen<'a>, word: &'a str, next: Next) -> Result<(), AllocError>
-    ensures { OnOk result (words_in seen.new ≡ spec.kept (words_in seen.old) word.entry.now next) }
+    ensures { OnOk result (words_in seen.new ≡ parts.kept (words_in seen.old) word.entry.now next) }
 {
     seen.words.push(word)?;
     seen.named.push(word)?;
@@ -73,7 +77,7 @@ fn keep<'a>(seen: &mut Seen<'a>, word: &'a str, next: Next) -> Result<(), AllocE
 }
 
 fn keep_plain<'a>(seen: &mut Seen<'a>, word: &'a str) -> Result<(), AllocError>
-    ensures { OnOk result (words_in seen.new ≡ spec.with_plain (words_in seen.old) word.entry.now) }
+    ensures { OnOk result (words_in seen.new ≡ parts.with_plain (words_in seen.old) word.entry.now) }
 {
     seen.words.push(word)?;
     seen.named.push("--program")?;
@@ -84,7 +88,7 @@ fn keep_plain<'a>(seen: &mut Seen<'a>, word: &'a str) -> Result<(), AllocError>
 }
 
 fn add_file<'a>(seen: &mut Seen<'a>, file: &'a str) -> Result<(), AllocError>
-    ensures { OnOk result (words_in seen.new ≡ spec.with_file (words_in seen.old) file.entry.now) }
+    ensures { OnOk result (words_in seen.new ≡ parts.with_file (words_in seen.old) file.entry.now) }
 {
     seen.files.push(file)?;
     seen.next = Next::Any;
@@ -92,7 +96,7 @@ fn add_file<'a>(seen: &mut Seen<'a>, file: &'a str) -> Result<(), AllocError>
 }
 
 fn next_after(word: &str) -> Next
-    ensures { result ≡ spec.next_after word.now }
+    ensures { result ≡ parts.next_after word.now }
 {
     if takes_value(word) {
         Next::Value
@@ -103,7 +107,7 @@ fn next_after(word: &str) -> Next
 
 // Reads a word that isn't the value of the one before it.
 fn see_any<'a>(seen: &mut Seen<'a>, word: &'a str) -> Result<(), AllocError>
-    ensures { OnOk result (words_in seen.new ≡ spec.with_any (words_in seen.old) word.entry.now) }
+    ensures { OnOk result (words_in seen.new ≡ parts.with_any (words_in seen.old) word.entry.now) }
 {
     if word == "--job" {
         seen.next = Next::File;
@@ -119,7 +123,7 @@ fn see_any<'a>(seen: &mut Seen<'a>, word: &'a str) -> Result<(), AllocError>
 }
 
 fn see<'a>(seen: &mut Seen<'a>, word: &'a str) -> Result<(), AllocError>
-    ensures { OnOk result (words_in seen.new ≡ spec.with_word (words_in seen.old) word.entry.now) }
+    ensures { OnOk result (words_in seen.new ≡ parts.with_word (words_in seen.old) word.entry.now) }
 {
     match seen.next {
         Next::Any => see_any(seen, word),
@@ -129,7 +133,7 @@ fn see<'a>(seen: &mut Seen<'a>, word: &'a str) -> Result<(), AllocError>
 }
 
 fn see_first<'a>(alloc: Global, command: &'a str) -> Result<Seen<'a>, AllocError>
-    ensures { IfOk result (λ seen. words_in seen ≡ spec.begun command.entry.now) }
+    ensures { IfOk result (λ seen. words_in seen ≡ parts.begun command.entry.now) }
 {
     let mut seen = Seen {
         words: Vec::new(alloc),
@@ -144,7 +148,7 @@ fn see_first<'a>(alloc: Global, command: &'a str) -> Result<Seen<'a>, AllocError
 
 // Reads the words after the command.
 fn see_all<'a>(alloc: Global, command: &'a str, rest: &[&'a str]) -> Result<Seen<'a>, AllocError>
-    ensures { IfOk result (λ seen. words_in seen ≡ spec.seen_of command.entry.now (map (λ w. w.now) rest.now)) }
+    ensures { IfOk result (λ seen. words_in seen ≡ parts.seen_of command.entry.now (map (λ w. w.now) rest.now)) }
 {
     let mut seen = see_first(alloc, command)?;
     for word in rest {
@@ -164,7 +168,7 @@ fn is_one(plain: &[&str]) -> bool
 
 // Returns whether the plain word is the program.
 fn is_program(family: Family, seen: &Seen<'_>) -> bool
-    ensures { result ≡ spec.is_program family (words_in seen.now) }
+    ensures { result ≡ parts.is_program family (words_in seen.now) }
 {
     family.has_program()
         && is_one(seen.plain.as_slice())
@@ -172,7 +176,7 @@ fn is_program(family: Family, seen: &Seen<'_>) -> bool
 }
 
 fn words_asked<'a>(family: Family, seen: Seen<'a>) -> Vec<&'a str>
-    ensures { map (λ w. w.now) result.items ≡ spec.words_asked family (words_in seen.entry) }
+    ensures { map (λ w. w.now) result.items ≡ parts.words_asked family (words_in seen.entry) }
 {
     if is_program(family, &seen) {
         seen.named
@@ -183,7 +187,7 @@ fn words_asked<'a>(family: Family, seen: Seen<'a>) -> Vec<&'a str>
 
 // Returns the file that `--job` names.
 fn file_of<'a>(files: &[&'a str], next: Next) -> Result<Option<&'a str>, AskedFault>
-    ensures { IfOk result (λ file. spec.IsFile (map (λ w. w.now) files.now) next (option_map (λ f. f.now) file)) }
+    ensures { ok_map (option_map (λ f. f.now)) result ≡ parts.named_file next (map (λ w. w.now) files.now) }
 {
     match (next, files) {
         (Next::File, _) => Err(AskedFault::NoFile),
@@ -220,12 +224,9 @@ fn asked_by<'a>(
     command: &'a str,
     rest: &[&'a str],
 ) -> Result<Asked<'a>, AskedFault>
-    ensures words { IfOk result (λ asked. map (λ w. w.now) asked.words.items
-        ≡ spec.words_asked family (spec.seen_of command.entry.now (map (λ w. w.now) rest.now))) }
-    ensures job { IfOk result (λ asked. spec.IsJob
-        (spec.seen_of command.entry.now (map (λ w. w.now) rest.now)) (option_map (λ j. j.now) asked.job)) }
-    ensures program { IfOk result (λ asked. option_map (λ p. p.now) asked.program
-        ≡ spec.program_in (map (λ w. w.now) asked.words.items)) }
+    ensures { spec.AskedIs result (spec.asked_with
+        (spec.words_for family command.entry.now (map (λ w. w.now) rest.now))
+        (spec.file_asked (map (λ w. w.now) rest.now))) }
 {
     let seen = match see_all(alloc, command, rest) {
         Ok(seen) => seen,
@@ -244,7 +245,7 @@ fn asked_by<'a>(
 }
 
 fn unasked<'a>(alloc: Global, all: &[&'a str]) -> Result<Asked<'a>, AskedFault>
-    ensures { IfOk result (λ asked. spec.asked_values asked ≡ spec.unasked (map (λ w. w.now) all.now)) }
+    ensures { spec.AskedIs result (Ok (spec.unasked (map (λ w. w.now) all.now))) }
 {
     match Vec::from_slice(alloc, all) {
         Ok(words) => Ok(Asked {
@@ -260,13 +261,9 @@ fn unasked<'a>(alloc: Global, all: &[&'a str]) -> Result<Asked<'a>, AskedFault>
 /// and writes `--program` before the only plain word of a command that reads a program. `--job` is
 /// refused if it is there twice, or without a file or with an empty name. The words of a command that
 /// no job file changes stay as they are.
+#[tactic(auto, unfolding(crate::specs::Asked::asked_of))]
 pub fn read_call<'a>(alloc: Global, all: &[&'a str]) -> Result<Asked<'a>, AskedFault>
-    ensures words { IfOk result (λ asked. map (λ w. w.now) asked.words.items
-        ≡ spec.asked_words (map (λ w. w.now) all.now)) }
-    ensures job { IfOk result (λ asked. spec.IsAskedJob (map (λ w. w.now) all.now)
-        (option_map (λ j. j.now) asked.job)) }
-    ensures program { IfOk result (λ asked. option_map (λ p. p.now) asked.program
-        ≡ spec.asked_program (map (λ w. w.now) all.now)) }
+    ensures { spec.AskedIs result (spec.asked_of (map (λ w. w.now) all.now)) }
 {
     let family = family_of(all);
     match all {

@@ -1,9 +1,7 @@
-use Rattle.std.proofs.Common.{◌≡◌, drop, map}
-use Rattle.std.specs.Prelude.{fold}
-use Rattle.ngc_job_words.specs.Asked.{seen_of, with_word, words_in}
+use Rattle.std.proofs.Common.{◌≡◌, map}
+use Rattle.ngc_job_words.specs.Seen.{seen_before, words_in}
 use Rattle.ngc_job_words.proofs.call.see_all.Given as goal
 
 abbrev pub invariant-loop-word : goal.invariant-loop-word
 invariant-loop-word l =
-    seen_of l.command (map (λ w. w.now) l.rest)
-    ≡ fold with_word (words_in l.seen) (map (λ w. w.now) (drop l.word-index l.rest))
+    words_in l.seen ≡ seen_before l.command (map (λ w. w.now) l.rest) l.word-index
