@@ -1,2 +1,4 @@
 -- The line of a job file that added something.
 pub mod Noted
+-- What a call with its job file returns.
+pub mod Outcomes

@@ -1,4 +1,5 @@
 pub mod Refused
 pub mod Said
 pub mod Notes
+pub mod Faults
 pub mod Calls

@@ -1,7 +1,9 @@
 //! A call with its job file.
-ghost use Rattle.std.specs.Prelude.{◌≡◌, IfOk, IfSome, Some, map, option_map, string_bytes};
+ghost use Rattle.std.specs.Prelude.{◌≡◌, IfOk, map, option_map};
+ghost use Rattle.ngc_inputs.specs.Setups.{KeepsFiles};
+ghost use Rattle.ngc_inputs.specs.Unread.{SourceFails};
 ghost use Rattle.ngc_job_calls.specs.Calls as spec;
-ghost use Rattle.ngc_job_words.specs.Asked.{asked_words};
+ghost use Rattle.ngc_machine_figures.specs.Reading.{ok_map};
 ghost use Rattle.ngc_job_words.specs.Folders.{file_in};
 
 use crate::fault::CallFault;
@@ -40,6 +42,15 @@ impl JobCall<'_> {
     }
 }
 
+fn read_fault(fault: InputFault) -> CallFault
+    ensures { result ≡ spec.read_fault fault }
+{
+    match fault {
+        InputFault::Memory => CallFault::Memory,
+        InputFault::Device | InputFault::TooLong => CallFault::Unread,
+    }
+}
+
 // Returns the bytes of a job file. There are none of one that the words don't name, if it can't be
 // opened.
 fn bytes_of<F: Files>(
@@ -47,8 +58,10 @@ fn bytes_of<F: Files>(
     file: &JobFile,
     files: &mut F,
 ) -> Result<Option<Vec<u8>>, CallFault>
-    ensures { IfOk result (λ bytes. spec.AreBytes (F.bytes files.old) (file_in file.now)
-        (option_map (λ v. v.items) bytes)) }
+    ensures text { spec.TextIs (SourceFails F.R.remaining F.R.failures) (F.bytes files.old)
+        (record { old = F.failures files.old; new = F.failures files.new }) (file_in file.now)
+        (ok_map (option_map (λ v. v.items)) result) }
+    ensures keeps { KeepsFiles (F.bytes files.old) (F.bytes files.new) }
 {
     let mut source = match files.source(Some(file.name.as_str())) {
         Ok(source) => source,
@@ -57,12 +70,13 @@ fn bytes_of<F: Files>(
     };
     match read_whole(alloc, &mut source, FILE_LIMIT) {
         Ok(bytes) => Ok(Some(bytes)),
-        Err(InputFault::Memory) => Err(CallFault::Memory),
-        Err(InputFault::Device | InputFault::TooLong) => Err(CallFault::Unread),
+        Err(fault) => Err(read_fault(fault)),
     }
 }
 
-fn usage(fault: AskedFault) -> CallFault {
+fn usage(fault: AskedFault) -> CallFault
+    ensures { spec.IsUsageBy fault result }
+{
     match fault {
         AskedFault::Memory => CallFault::Memory,
         AskedFault::Twice | AskedFault::NoFile => CallFault::Usage(fault.text()),
@@ -86,10 +100,12 @@ fn with_words<'a>(
     bytes: &[u8],
     words: Vec<&'a str>,
 ) -> Result<JobCall<'a>, CallFault>
-    ensures { IfOk result (λ call. spec.IsCallBy name.now bytes.now (map (λ w. w.now) words.entry.items)
-        (spec.call_in call)) }
+    ensures { spec.IsWithText name.now bytes.now (map (λ w. w.now) words.entry.items) result }
 {
-    let added = job_words(alloc, name, bytes, words.as_slice())?;
+    let added = match job_words(alloc, name, bytes, words.as_slice()) {
+        Ok(added) => added,
+        Err(fault) => return Err(fault),
+    };
     match note_of(alloc, name.as_bytes(), added.as_slice()) {
         Ok(note) => Ok(JobCall { words, added, note }),
         Err(_) => Err(CallFault::Memory),
@@ -102,12 +118,15 @@ fn with_file<'a, F: Files>(
     words: Vec<&'a str>,
     files: &mut F,
 ) -> Result<JobCall<'a>, CallFault>
-    ensures { IfOk result (λ call. spec.IsCallOf (F.bytes files.old) (file_in file.now)
-        (map (λ w. w.now) words.entry.items) (spec.call_in call)) }
+    ensures call { spec.IsWithFile (SourceFails F.R.remaining F.R.failures) (F.bytes files.old)
+        (record { old = F.failures files.old; new = F.failures files.new }) (file_in file.now)
+        (map (λ w. w.now) words.entry.items) result }
+    ensures keeps { KeepsFiles (F.bytes files.old) (F.bytes files.new) }
 {
-    match bytes_of(alloc, file, files)? {
-        Some(bytes) => with_words(alloc, file.name.as_str(), bytes.as_slice(), words),
-        None => Ok(without_job(alloc, words)),
+    match bytes_of(alloc, file, files) {
+        Ok(Some(bytes)) => with_words(alloc, file.name.as_str(), bytes.as_slice(), words),
+        Ok(None) => Ok(without_job(alloc, words)),
+        Err(fault) => Err(fault),
     }
 }
 
@@ -121,8 +140,10 @@ pub fn with_job<'a, F: Files>(
     all: &[&'a str],
     files: &mut F,
 ) -> Result<JobCall<'a>, CallFault>
-    ensures { IfOk result (λ call. spec.IsCall (F.bytes files.old) (map (λ w. w.now) all.now)
-        (spec.call_in call)) }
+    ensures call { spec.IsCall (SourceFails F.R.remaining F.R.failures) (F.bytes files.old)
+        (record { old = F.failures files.old; new = F.failures files.new }) (map (λ w. w.now) all.now)
+        result }
+    ensures keeps { KeepsFiles (F.bytes files.old) (F.bytes files.new) }
 {
     let asked = match read_call(alloc, all) {
         Ok(asked) => asked,

@@ -1,4 +1,6 @@
 //! Why a call isn't begun.
+ghost use Rattle.std.specs.Prelude.{◌≡◌};
+ghost use Rattle.ngc_job_calls.specs.Faults as spec;
 
 /// The reason why a call isn't begun.
 #[derive(Drop)]
@@ -15,7 +17,9 @@ pub enum CallFault {
 
 impl CallFault {
     /// Returns the lines for standard error.
-    pub fn text(&self) -> &[u8] {
+    pub fn text(&self) -> &[u8]
+        ensures { result.now ≡ spec.text_of self.now }
+    {
         match self {
             CallFault::Usage(text) => text.as_bytes(),
             CallFault::Memory => b"ngc: fault 900\n",
@@ -26,7 +30,9 @@ impl CallFault {
 
     /// Returns the exit status: 1 for memory and files that aren't read, 2 for the words, 3 for a job
     /// file that is refused.
-    pub fn status(&self) -> u8 {
+    pub fn status(&self) -> u8
+        ensures { result ≡ spec.status_of self.now }
+    {
         match self {
             CallFault::Usage(_) => 2,
             CallFault::Memory | CallFault::Unread => 1,
