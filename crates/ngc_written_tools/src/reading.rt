@@ -92,12 +92,8 @@ pub fn read_tools(alloc: Global, bytes: &[u8]) -> Result<Tools<Global>, FileFaul
         Ok(tree) => tree,
         Err(_) => return Err(FileFault::Memory),
     };
-    if let Some(tree) = &tree {
-        if is_written(tree) {
-            return written_table(alloc, tree);
-        }
+    match &tree {
+        Some(tree) if is_written(tree) => written_table(alloc, tree),
+        _ => Tools::read(alloc, bytes),
     }
-    // A table of version 1 or 2 is read by its own rules: two trees at once would take twice the memory.
-    drop(tree);
-    Tools::read(alloc, bytes)
 }
