@@ -8,7 +8,7 @@ use Rattle.ngc_fixed_length.specs.Length.{IsStep}
 use Rattle.ngc_machine_files.specs.Machine.{MachineFile}
 use Rattle.ngc_machine_files.specs.declared.tools.Tool.{Tool}
 use Rattle.ngc_collision.specs.Body.{IsSafe, is_below, nanometres_of}
-use Rattle.ngc_machine_model.specs.State.{State}
+use Rattle.ngc_machine_model.specs.State.{State, opening}
 use Rattle.ngc_machine_model.specs.Safety.{AreSafe}
 use Rattle.ngc_margins.specs.Laws.{IsNear}
 use Rattle.ngc_margins.specs.Margins.{with_margins, lowered, raised}
@@ -47,7 +47,7 @@ within_high : (t a b : ℤ) → pos 0 ≤ℤ t → IsTrue (int_le a (b -ℤ t)) 
 within_high t a b least h = let j = le_of a (b -ℤ t) h in omega (arith, ints, least, j)
 
 -- the commanded position, by the machine's own grid
-at_grid : MachineFile → MotorData → StepPos → Point3
+abbrev at_grid : MachineFile → MotorData → StepPos → Point3
 at_grid machine motors p = commanded (record { grid = machine.step; steps = motors.steps }) p
 
 safe_at : (machine : MachineFile) (motors : MotorData) (tool : Option Tool) (p : StepPos) → FitsMachine machine motors
@@ -90,4 +90,5 @@ all_safe machine motors (s ∷ states) fits safe = (safe_law machine motors s.to
 
 pub run_law : CommandedRunsSafely
 run_law job machine motors is fits runs events outcomes states run =
-    all_safe machine motors _ fits (subst (λ (m : MachineFile). AreSafe m _) is (runs events outcomes states run).safe)
+    let all : List State = opening job.machine ∷ states in
+    all_safe machine motors all fits (subst (λ (m : MachineFile). AreSafe m all) is (runs events outcomes states run).safe)
