@@ -37,25 +37,13 @@ pub(crate) fn place_on_grid(step: u32, place: Place) -> Coordinates
     }
 }
 
-fn lesser(a: i64, b: i64) -> i64
-    ensures { result ≡ spec.lesser a b }
-{
-    if b < a { b } else { a }
-}
-
-fn greater(a: i64, b: i64) -> i64
-    ensures { result ≡ spec.greater a b }
-{
-    if a < b { b } else { a }
-}
-
 fn low_of(corners: &BoxSheet) -> Coordinates
     ensures { result ≡ spec.low_of corners.now }
 {
     Coordinates {
-        x: lesser(corners.from.x, corners.to.x),
-        y: lesser(corners.from.y, corners.to.y),
-        z: lesser(corners.from.z, corners.to.z),
+        x: corners.from.x.min(corners.to.x),
+        y: corners.from.y.min(corners.to.y),
+        z: corners.from.z.min(corners.to.z),
     }
 }
 
@@ -63,9 +51,9 @@ fn high_of(corners: &BoxSheet) -> Coordinates
     ensures { result ≡ spec.high_of corners.now }
 {
     Coordinates {
-        x: greater(corners.from.x, corners.to.x),
-        y: greater(corners.from.y, corners.to.y),
-        z: greater(corners.from.z, corners.to.z),
+        x: corners.from.x.max(corners.to.x),
+        y: corners.from.y.max(corners.to.y),
+        z: corners.from.z.max(corners.to.z),
     }
 }
 
