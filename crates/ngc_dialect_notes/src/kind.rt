@@ -189,10 +189,8 @@ impl Kind {
             | Kind::PeckClearance
             | Kind::ChipBreaking
             | Kind::KeptWords => Class::Chosen,
-            Kind::PolarWords
-            | Kind::SeveralTurns
-            | Kind::CutterRadius
-            | Kind::MovedCentre => Class::Bound,
+            Kind::PolarWords | Kind::SeveralTurns | Kind::CutterRadius | Kind::MovedCentre =>
+                Class::Bound,
         }
     }
 

@@ -140,14 +140,7 @@ impl Notes {
         }
     }
 
-    fn add_other_by(
-        &mut self,
-        line: u32,
-        known: &Known,
-        codes: &[Code],
-        words: &[Word],
-        code: Code,
-    )
+    fn add_other_by(&mut self, line: u32, known: &Known, codes: &[Code], words: &[Word], code: Code)
         ensures { self.new ≡ spec.other_by line known.now codes.now words.now code self.old }
     {
         if is_linuxcnc(known.dialect) {

@@ -52,12 +52,7 @@ fn is_moved(known: &Known, line: &[Code], words: &[Word], code: Code) -> Result<
 }
 
 /// Returns whether a motion is an arc whose centre is moved.
-pub(crate) fn has_moved_centre(
-    known: &Known,
-    line: &[Code],
-    words: &[Word],
-    code: Code,
-) -> bool
+pub(crate) fn has_moved_centre(known: &Known, line: &[Code], words: &[Word], code: Code) -> bool
     ensures { result ≡ spec.has_moved_centre known.now line.now words.now code }
 {
     if !is_among(&codes::ARCS, code) {
