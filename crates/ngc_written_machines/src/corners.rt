@@ -1,5 +1,6 @@
 //! Places and boxes as the contents of a machine file have them.
 ghost use Rattle.std.specs.Prelude.{◌≡◌, ◌<◌};
+ghost use Rattle.std.specs.Int.{int_min, int_max};
 ghost use Rattle.ngc_written_machines.specs.Corners as spec;
 
 use ngc_machine_figures::{BoxSheet, FixtureSheet, StockSheet, System};
@@ -37,13 +38,25 @@ pub(crate) fn place_on_grid(step: u32, place: Place) -> Coordinates
     }
 }
 
+fn lesser(a: i64, b: i64) -> i64
+    ensures { result ≡ int_min a b }
+{
+    if b < a { b } else { a }
+}
+
+fn greater(a: i64, b: i64) -> i64
+    ensures { result ≡ int_max a b }
+{
+    if b < a { a } else { b }
+}
+
 fn low_of(corners: &BoxSheet) -> Coordinates
     ensures { result ≡ spec.low_of corners.now }
 {
     Coordinates {
-        x: corners.from.x.min(corners.to.x),
-        y: corners.from.y.min(corners.to.y),
-        z: corners.from.z.min(corners.to.z),
+        x: lesser(corners.from.x, corners.to.x),
+        y: lesser(corners.from.y, corners.to.y),
+        z: lesser(corners.from.z, corners.to.z),
     }
 }
 
@@ -51,9 +64,9 @@ fn high_of(corners: &BoxSheet) -> Coordinates
     ensures { result ≡ spec.high_of corners.now }
 {
     Coordinates {
-        x: corners.from.x.max(corners.to.x),
-        y: corners.from.y.max(corners.to.y),
-        z: corners.from.z.max(corners.to.z),
+        x: greater(corners.from.x, corners.to.x),
+        y: greater(corners.from.y, corners.to.y),
+        z: greater(corners.from.z, corners.to.z),
     }
 }
 
