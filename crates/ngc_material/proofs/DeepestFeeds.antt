@@ -1,9 +1,9 @@
 -- The deepest feeds of a walk, one of each tool, and what that means.
-use Rattle.std.proofs.Common.{◌≡◌, ℕ, suc, ◌+◌, ◌-◌, ◌<◌, ◌≤◌, inl, inr, sym, subst, refl, ap, ◌∙◌, append_assoc, append-nil, arith, max, List, [], ◌∷◌, ◌++◌, Option, Some, None, Bool, true, false, cond, eq-eqb, length}
+use Rattle.std.proofs.Common.{◌≡◌, ℕ, suc, ◌+◌, ◌-◌, ◌<◌, ◌≤◌, inl, inr, sym, subst, refl, ap, ◌∙◌, append_assoc, append-nil, arith, max, List, [], ◌∷◌, ◌++◌, Option, Some, None, Bool, true, false, not, cond, eq-eqb, length}
 use Rattle.std.specs.Prelude.{◌==◌, if◌then◌else◌}
 use Rattle.std.specs.List.{position_or_len}
 use Rattle.std.proofs.Math.Dec.{ltb}
-use Rattle.std.proofs.lemmas.Bool.{eqb-eq}
+use Rattle.std.proofs.lemmas.Bool.{eqb-true}
 use Rattle.std.proofs.lemmas.Int.{ints}
 use Rattle.ngc_fixed_length.specs.declared.points.Point3.{Point3}
 use Rattle.ngc_machine_files.specs.declared.tools.Tool.{Tool}
@@ -37,11 +37,16 @@ at_later : (b : Bool) (x : Cut) (xs : List Cut) (m : ℕ) (c : Cut) → with_cut
 at_later true x xs m c = refl
 at_later false x xs m c = refl
 
-first_or_later : (v : Bool) (x : Cut) (xs : List Cut) (c : Cut) → (x.tool == c.tool) ≡ v → with_cut (x ∷ xs) c ≡ (if v then deeper_cut x c ∷ xs else x ∷ with_cut xs c)
-first_or_later true x xs c e = rw e refl
-first_or_later false x xs c e =
+first_or_later : (v : Bool) (x : Cut) (xs : List Cut) (c : Cut) →
+    with_cut_at (cond (ltb (cond (not v) (suc (position_or_len (is_with c.tool) xs)) 0) (suc (length xs))) (Some (cond (not v) (suc (position_or_len (is_with c.tool) xs)) 0)) None) (x ∷ xs) c
+    ≡ (if v then deeper_cut x c ∷ xs else x ∷ with_cut xs c)
+first_or_later true x xs c = refl
+first_or_later false x xs c =
     let m = position_or_len (is_with c.tool) xs in
-    rw e (at_later (ltb m (length xs)) x xs m c)
+    at_later (ltb m (length xs)) x xs m c
+
+cut_at_head : (x : Cut) (xs : List Cut) (c : Cut) → with_cut (x ∷ xs) c ≡ (if x.tool == c.tool then deeper_cut x c ∷ xs else x ∷ with_cut xs c)
+cut_at_head x xs c = first_or_later (x.tool == c.tool) x xs c
 
 deeper_by : (v : Bool) (x c : Cut) → (v ≡ true → x.depth ≤ c.depth) → (v ≡ false → c.depth ≤ x.depth) →
     (x.depth ≤ (if v then c else x).depth) × (c.depth ≤ (if v then c else x).depth)
@@ -94,8 +99,8 @@ kept_by false x xs c tool same rest = tail_more x xs (with_cut xs c) tool rest
 kept_cut : (xs : List Cut) (c : Cut) (tool : ℕ) → depth_for xs tool ≤ depth_for (with_cut xs c) tool
 kept_cut [] c tool = omega arith
 kept_cut (x ∷ xs) c tool =
-    subst (λ (ys : List Cut). depth_for (x ∷ xs) tool ≤ depth_for ys tool) (sym (first_or_later (x.tool == c.tool) x xs c refl))
-    (kept_by (x.tool == c.tool) x xs c tool (eqb-eq x.tool c.tool) (kept_cut xs c tool))
+    subst (λ (ys : List Cut). depth_for (x ∷ xs) tool ≤ depth_for ys tool) (sym (cut_at_head x xs c))
+    (kept_by (x.tool == c.tool) x xs c tool (eqb-true x.tool c.tool) (kept_cut xs c tool))
 
 new_by : (v : Bool) (x : Cut) (xs : List Cut) (c : Cut) → (v ≡ true → x.tool ≡ c.tool) → c.depth ≤ depth_for (with_cut xs c) c.tool →
     c.depth ≤ depth_for (if v then deeper_cut x c ∷ xs else x ∷ with_cut xs c) c.tool
@@ -108,8 +113,8 @@ new_by false x xs c same rest = let h = in_tail x (with_cut xs c) c.tool in omeg
 new_cut : (xs : List Cut) (c : Cut) → c.depth ≤ depth_for (with_cut xs c) c.tool
 new_cut [] c = in_head c [] c.tool refl
 new_cut (x ∷ xs) c =
-    subst (λ (ys : List Cut). c.depth ≤ depth_for ys c.tool) (sym (first_or_later (x.tool == c.tool) x xs c refl))
-    (new_by (x.tool == c.tool) x xs c (eqb-eq x.tool c.tool) (new_cut xs c))
+    subst (λ (ys : List Cut). c.depth ≤ depth_for ys c.tool) (sym (cut_at_head x xs c))
+    (new_by (x.tool == c.tool) x xs c (eqb-true x.tool c.tool) (new_cut xs c))
 
 kept_depth_by : (v : Bool) (xs : List Cut) (c : Cut) (tool : ℕ) → depth_for xs tool ≤ depth_for (if v then with_cut xs c else xs) tool
 kept_depth_by true xs c tool = kept_cut xs c tool
@@ -162,7 +167,7 @@ IsMet s r heights before tool c cuts =
 
 further : (s : Stock) (r : Reached) (heights next : List ℕ) (b : Command) (before : List Command) (tool : Option Tool) (c : Command) (cuts : List Cut) →
     IsStep s r.tool b.action heights next → IsMet s (after r b.action) next before tool c cuts → IsMet s r heights (b ∷ before) tool c cuts
-further s r heights next b before tool c cuts step (last, d, after, depth, most) = (last, d, (next, step, after), depth, most)
+further s r heights next b before tool c cuts step (last, d, walk, depth, most) = (last, d, (next, step, walk), depth, most)
 
 met_first : (s : Stock) (r : Reached) (heights next : List ℕ) (index : ℕ) (c : Command) (later : List Command) (rest : List Found) (early between cuts : List Cut) →
     IsCutNext s r.tool index c heights early between → AreCuts s (after r c.action) next (index + 1) later rest between cuts → IsMet s r heights [] r.tool c cuts
@@ -219,9 +224,9 @@ shallow_more s Left (Some t) End d e h shallow = tt
 
 met_shallow : (s : Stock) (r : Reached) (before : List Command) (c : Command) (cuts : List Cut) (tool : Option Tool) → IsGrid s.grid → tool ≡ (after_all r before).tool →
     IsMet s r (uncut s) before tool c cuts → IsShallow s (IsLeft s r before) tool c.action (depth_for cuts (tool_number tool))
-met_shallow s r before c cuts tool grid e (last, d, after, depth, most) =
+met_shallow s r before c cuts tool grid e (last, d, walk, depth, most) =
     let own = subst (λ (x : Option Tool). IsDepthOf s x c.action last d) e depth in
-    let shallow = cut_depth s r before c last d grid after own in
+    let shallow = cut_depth s r before c last d grid walk own in
     shallow_more s (IsLeft s r before) tool c.action d (depth_for cuts (tool_number tool)) most
     (subst (λ (x : Option Tool). IsShallow s (IsLeft s r before) x c.action d) (sym e) shallow)
 

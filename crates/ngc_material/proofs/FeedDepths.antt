@@ -73,11 +73,14 @@ some_depth s t a b heights r level d touch thick e f deepest is =
           ] in
           let p = deeper_of_two s tip (slice_index heights k) (level + touch.depth) most in
           omega (arith, p, cut.depth, is));
-      some = λ h. (deepest.cell, record {
-        thick = thick;
-        within = deepest.found.within;
-        near = subst (λ (n : ℕ). IsNear (whole a b) n (centre s.grid deepest.cell)) e deepest.found.near;
-        left = omega (arith, deepest.found.above);
-        depth = subst (λ (n : ℕ). d ≡ natural_of ((s.bottom +ℤ pos n) -ℤ tip)) (sym top) is;
-      });
+      some = λ h. (
+        deepest.cell,
+        record {
+          thick = thick;
+          within = deepest.found.within;
+          near = subst (λ (n : ℕ). IsNear (whole a b) n (centre s.grid deepest.cell)) e deepest.found.near;
+          left = omega (arith, deepest.found.above);
+          depth = subst (λ (n : ℕ). d ≡ natural_of ((s.bottom +ℤ pos n) -ℤ tip)) (sym top) is;
+        },
+      );
     }

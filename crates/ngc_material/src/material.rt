@@ -216,7 +216,12 @@ impl<A: Allocator> Material<A> {
         match way {
             Way::Line { start, end } => {
                 let (start, end) = (*start, *end);
-                depth_of(&self.stock, self.heights.as_slice(), tool, &Line { start, end })
+                depth_of(
+                    &self.stock,
+                    self.heights.as_slice(),
+                    tool,
+                    &Line { start, end },
+                )
             }
             Way::Arc(_) => 0,
         }
