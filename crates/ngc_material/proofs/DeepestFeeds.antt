@@ -3,7 +3,7 @@ use Rattle.std.proofs.Common.{◌≡◌, ℕ, suc, ◌+◌, ◌-◌, ◌<◌, �
 use Rattle.std.specs.Prelude.{◌==◌, if◌then◌else◌}
 use Rattle.std.specs.List.{position_or_len}
 use Rattle.std.proofs.Math.Dec.{ltb}
-use Rattle.std.proofs.lemmas.Bool.{eqb-true}
+use Rattle.std.proofs.lemmas.Bool.{eqb-true, ltb-true, lt-ltb}
 use Rattle.std.proofs.lemmas.Int.{ints}
 use Rattle.ngc_fixed_length.specs.declared.points.Point3.{Point3}
 use Rattle.ngc_machine_files.specs.declared.tools.Tool.{Tool}
@@ -37,13 +37,23 @@ at_later : (b : Bool) (x : Cut) (xs : List Cut) (m : ℕ) (c : Cut) → with_cut
 at_later true x xs m c = refl
 at_later false x xs m c = refl
 
+same_truth : (v w : Bool) → (v ≡ true → w ≡ true) → (w ≡ true → v ≡ true) → v ≡ w
+same_truth true w f g = sym (f refl)
+same_truth false true f g = g refl
+same_truth false false f g = refl
+
+one_less : (m n : ℕ) → ltb (suc m) (suc n) ≡ ltb m n
+one_less m n = same_truth (ltb (suc m) (suc n)) (ltb m n)
+    (λ e. let p = ltb-true (suc m) (suc n) e in lt-ltb m n (omega (arith, p)))
+    (λ e. let p = ltb-true m n e in lt-ltb (suc m) (suc n) (omega (arith, p)))
+
 first_or_later : (v : Bool) (x : Cut) (xs : List Cut) (c : Cut) →
     with_cut_at (cond (ltb (cond (not v) (suc (position_or_len (is_with c.tool) xs)) 0) (suc (length xs))) (Some (cond (not v) (suc (position_or_len (is_with c.tool) xs)) 0)) None) (x ∷ xs) c
     ≡ (if v then deeper_cut x c ∷ xs else x ∷ with_cut xs c)
 first_or_later true x xs c = refl
 first_or_later false x xs c =
     let m = position_or_len (is_with c.tool) xs in
-    at_later (ltb m (length xs)) x xs m c
+    ap (λ (b : Bool). with_cut_at (cond b (Some (suc m)) None) (x ∷ xs) c) (one_less m (length xs)) ∙ at_later (ltb m (length xs)) x xs m c
 
 cut_at_head : (x : Cut) (xs : List Cut) (c : Cut) → with_cut (x ∷ xs) c ≡ (if x.tool == c.tool then deeper_cut x c ∷ xs else x ∷ with_cut xs c)
 cut_at_head x xs c = first_or_later (x.tool == c.tool) x xs c

@@ -13,13 +13,6 @@ use Rattle.ngc_stock.specs.Stocks.{radius, reduction, natural_of, level_of}
 use Rattle.ngc_material.specs.Touches.{IsDeep, IsDeepest}
 use Rattle.ngc_material.specs.declared.touch.Touch.{Touch}
 
--- a cutter that is too thin passes no cell
-pub thin_depth : (s : Stock) (t : Tool) (a b : Point3) (heights : List ℕ) → radius t < reduction s.grid → IsDepth s t a b heights 0
-thin_depth s t a b heights thin = record {
-  greatest = λ k e cut. absurd (omega (arith, cut.thick, thin));
-  some = λ h. absurd (omega (arith, h));
-}
-
 none_above : (z : ℤ) → z ≤ℤ pos 0 → natural_of z ≡ 0
 none_above (pos n) h = omega (arith, ints, h)
 none_above (negsuc n) h = refl
