@@ -47,16 +47,24 @@ one_less m n = same_truth (ltb (suc m) (suc n)) (ltb m n)
     (λ e. let p = ltb-true (suc m) (suc n) e in lt-ltb m n (omega (arith, p)))
     (λ e. let p = ltb-true m n e in lt-ltb (suc m) (suc n) (omega (arith, p)))
 
-first_or_later : (v : Bool) (x : Cut) (xs : List Cut) (c : Cut) →
+first_by : (v : Bool) (x : Cut) (xs : List Cut) (c : Cut) →
     with_cut_at (cond (ltb (cond (not v) (suc (position_or_len (is_with c.tool) xs)) 0) (suc (length xs))) (Some (cond (not v) (suc (position_or_len (is_with c.tool) xs)) 0)) None) (x ∷ xs) c
     ≡ (if v then deeper_cut x c ∷ xs else x ∷ with_cut xs c)
-first_or_later true x xs c = refl
-first_or_later false x xs c =
+first_by true x xs c =
+    ap (λ (b : Bool). with_cut_at (cond b (Some 0) None) (x ∷ xs) c) (lt-ltb 0 (suc (length xs)) (omega arith))
+first_by false x xs c =
     let m = position_or_len (is_with c.tool) xs in
     ap (λ (b : Bool). with_cut_at (cond b (Some (suc m)) None) (x ∷ xs) c) (one_less m (length xs)) ∙ at_later (ltb m (length xs)) x xs m c
 
+first_or_later : (v : Bool) (x : Cut) (xs : List Cut) (c : Cut) (n k : ℕ) → n ≡ suc (position_or_len (is_with c.tool) xs) → k ≡ suc (length xs) →
+    with_cut_at (cond (ltb (cond (not v) n 0) k) (Some (cond (not v) n 0)) None) (x ∷ xs) c ≡ (if v then deeper_cut x c ∷ xs else x ∷ with_cut xs c)
+first_or_later v x xs c n k e f =
+    subst (λ (a : ℕ). with_cut_at (cond (ltb (cond (not v) a 0) k) (Some (cond (not v) a 0)) None) (x ∷ xs) c ≡ (if v then deeper_cut x c ∷ xs else x ∷ with_cut xs c)) (sym e)
+    (subst (λ (l : ℕ). with_cut_at (cond (ltb (cond (not v) (suc (position_or_len (is_with c.tool) xs)) 0) l) (Some (cond (not v) (suc (position_or_len (is_with c.tool) xs)) 0)) None) (x ∷ xs) c
+    ≡ (if v then deeper_cut x c ∷ xs else x ∷ with_cut xs c)) (sym f) (first_by v x xs c))
+
 cut_at_head : (x : Cut) (xs : List Cut) (c : Cut) → with_cut (x ∷ xs) c ≡ (if x.tool == c.tool then deeper_cut x c ∷ xs else x ∷ with_cut xs c)
-cut_at_head x xs c = first_or_later (x.tool == c.tool) x xs c
+cut_at_head x xs c = first_or_later (x.tool == c.tool) x xs c (1 + position_or_len (is_with c.tool) xs) (length (x ∷ xs)) (omega arith) (omega arith)
 
 deeper_by : (v : Bool) (x c : Cut) → (v ≡ true → x.depth ≤ c.depth) → (v ≡ false → c.depth ≤ x.depth) →
     (x.depth ≤ (if v then c else x).depth) × (c.depth ≤ (if v then c else x).depth)
