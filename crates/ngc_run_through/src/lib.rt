@@ -2,6 +2,7 @@
 //! which is a log, or the pulses as a dump or as samples.
 #![tactic(auto)]
 
+mod counting;
 mod log_line;
 mod recorder;
 mod report;
