@@ -70,7 +70,7 @@ all_below p q h =
     let (x, y, z) = three (int_lt p.x q.x) (int_lt p.y q.y) (int_lt p.z q.z) h in
     record { x = below _ _ x; y = below _ _ y; z = below _ _ z }
 
-zero_of : (z : ℤ) → is_zero z ≡ true → z ≡ pos 0
+pub zero_of : (z : ℤ) → is_zero z ≡ true → z ≡ pos 0
 zero_of (pos n) h = ap pos (eqb-true n 0 h)
 zero_of (negsuc n) h = let e : suc n ≡ 0 = eqb-true _ 0 h in absurd (omega arith)
 
@@ -178,6 +178,19 @@ IsGood-from_ranges m h =
       travel_margin = from _ _ _ travel_margin;
       stock = a_stock m.options.stock block;
     }
+
+-- where a motor's step isn't the grid's, the ends of the travel are whole
+pub ends-from_ranges : (m : MachineValues) → machine_ranges m ≡ Ok tt → good_axis_ends m.numbers.step m.motor_steps m.points ≡ true
+ends-from_ranges m h =
+    let (_, h1) = passes _ _ _ h in
+    let (_, h2) = passes _ _ _ h1 in
+    let (_, h3) = passes (good_motors m.numbers.step m.motor_steps) _ _ h2 in
+    let (_, h4) = passes _ _ _ h3 in
+    let (_, h5) = passes _ _ _ h4 in
+    let (travels, _) = passes _ _ _ h5 in
+    let (_, _, ends) = three (good_limits m.numbers.step m.points) (good_margin m.numbers.optional.travel_margin)
+    (good_axis_ends m.numbers.step m.motor_steps m.points) travels in
+    ends
 
 a_part : (p : PartEntry) → good_part p ≡ true → IsPartEntry p
 a_part p h =
