@@ -102,10 +102,12 @@ fn count(grid: Nm, step: Nm, place: i32) -> i32
     requires motor { IsTrue (spec.is_motor grid step) }
     ensures { result ≡ spec.count step (place *ℤ grid) }
 {
+    let unit = grid.nanometres();
+    let motor = step.nanometres();
     // Most machines have such motors, and there are millions of steps.
-    if step == grid {
+    if motor == unit {
         return place;
     }
-    let place = i64::from(place) * grid.nanometres();
-    count_at(step.nanometres(), place) as i32
+    let place = i64::from(place) * unit;
+    count_at(motor, place) as i32
 }
