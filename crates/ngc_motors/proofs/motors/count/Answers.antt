@@ -6,8 +6,8 @@ use Rattle.ngc_motors.proofs.Sizes.{IsPlace, count_place, count_same, place_smal
 use Rattle.ngc_motors.proofs.motors.count.Goals.{After-count_at}
 use Rattle.ngc_motors.proofs.motors.count.Goals as goal
 
-pub returns-then-motor-equnit : goal.returns-then-motor-equnit
-returns-then-motor-equnit c =
+pub returns-then-motor-unit : goal.returns-then-motor-unit
+returns-then-motor-unit c =
     let same : c.args.step ≡ c.args.grid = omega (arith, ints) in
     let back : to_z w32 (of_z w32 c.args.place) ≡ c.args.place = omega (arith, ints) in
     let C : ℤ → ℤ = λ s. spec.count s (c.args.place *ℤ c.args.grid) in
