@@ -130,7 +130,7 @@ each_passes p P tells xs h = All-weaker (λ x. p x ≡ true) P tells xs (AllPass
 some_motors : (step : ℤ) (motors : Coordinates) → IsStep step → good_motors step motors ≡ true → AreMotors (record { grid = step; steps = place_of motors })
 some_motors step motors is h =
     let (x, y, z) = three (is_motor step motors.x) (is_motor step motors.y) (is_motor step motors.z) h in
-    record { grid = is; x = T_from_true _ x; y = T_from_true _ y; z = T_from_true _ z }
+    record { grid = is; x = x; y = y; z = z }
 
 pub IsGood-from_ranges : (m : MachineValues) → machine_ranges m ≡ Ok tt → IsGood m
 IsGood-from_ranges m h =

@@ -1,7 +1,7 @@
 -- The machine of a call is fit for its motors.
 use Rattle.std.proofs.Common.{◌≡◌, ◌≤ℤ◌, ◌+ℤ◌, ◌*ℤ◌, ◌∙◌, ◌⊎◌, inl, inr, ℕ, ℤ, pos, List, Bool, true, false, Option, Some, None, Result, Ok, Err, arith, ap, refl, subst, sym}
-use Rattle.std.specs.Prelude.{◌<ℤ◌, ◌||◌, ◌&&◌, IfSome, int_rem, unwrap_or}
-use Rattle.std.specs.Int.{int_div}
+use Rattle.std.specs.Prelude.{◌<ℤ◌, ◌||◌, ◌&&◌, IfSome, if◌then◌else◌, int_rem, unwrap_or}
+use Rattle.std.specs.Int.{int_div, int_max}
 use Rattle.std.specs.Ordering.{int_eq}
 use Rattle.std.proofs.lemmas.Bool.{and_parts}
 use Rattle.std.proofs.lemmas.Bool.Decides.{Decides-int_eq}
@@ -26,8 +26,7 @@ use Rattle.ngc_margins.specs.Changes.{and_demanded, changed}
 use Rattle.ngc_margins.specs.Demands.{AreDemands, Demand, fixture_margin, set_in}
 use Rattle.ngc_margins.specs.Margins.{demanded, fits, in_range, starts_inside, with_margins}
 use Rattle.ngc_margins.specs.declared.changes.Changes.{Changes}
-use Rattle.ngc_written_machines.specs.Machines.{machine_by, motors_of as written_motors, ranged, rates_with, refused_as, written_machine}
-use Rattle.ngc_written_machines.specs.Machines as written
+use Rattle.ngc_written_machines.specs.Machines.{◌>>=◌, machine_by, motors_of as written_motors, ranged, rates_with, refused_as, written_machine}
 use Rattle.ngc_written_machines.specs.Contents.{values_by}
 use Rattle.ngc_written_machines.specs.Reading.{any_machine, as_fault, machine_in, written_file}
 use Rattle.ngc_written_machines.specs.declared.refusal.WrittenRefusal.{WrittenRefusal}
@@ -73,8 +72,8 @@ read_values v h =
     let grid = v.numbers.step in
     let m = v.motor_steps in
     let p = v.points in
-    let (x, yz) = and_parts (good_ends grid m.x p.low.x p.high.x) _ (ends-from_ranges v h) in
-    let (y, z) = and_parts (good_ends grid m.y p.low.y p.high.y) (good_ends grid m.z p.low.z p.high.z) yz in
+    let (xy, z) = and_parts _ (good_ends grid m.z p.low.z p.high.z) (ends-from_ranges v h) in
+    let (x, y) = and_parts (good_ends grid m.x p.low.x p.high.x) (good_ends grid m.y p.low.y p.high.y) xy in
     record {
       are = good.motors;
       margin = good.margin.least;
@@ -94,7 +93,7 @@ read_checked : (o : Option MachineValues) (m : MachineFile) → checked_machine 
 read_checked None m h = cc
 read_checked (Some v) m h = let (ranges, is) = taken (machine_ranges v) (machine_from v) m h in subst IsRead is (read_values v ranges)
 
-bound : {A B : Type 0} (r : Result A WrittenRefusal) (f : A → Result B WrittenRefusal) (y : B) → (r written.>>= f) ≡ Ok y → (x : A) × (f x ≡ Ok y)
+bound : {A B : Type 0} (r : Result A WrittenRefusal) (f : A → Result B WrittenRefusal) (y : B) → (r >>= f) ≡ Ok y → (x : A) × (f x ≡ Ok y)
 bound (Ok x) f y h = (x, h)
 bound (Err e) f y h = cc
 
@@ -110,7 +109,7 @@ read_sheet sheet m h =
 
 read_written : (tree : Data) (m : MachineFile) → written_machine tree ≡ Ok m → IsRead m
 unfolding written_machine
-read_written tree m h = let sheet = bound (refused_as _ (sheet_of tree)) machine_by m h in read_sheet sheet.0 m sheet.1
+read_written tree m h = let sheet = bound _ machine_by m h in read_sheet sheet.0 m sheet.1
 
 as_ok : (r : Result MachineFile WrittenRefusal) (m : MachineFile) → as_fault r ≡ Ok m → r ≡ Ok m
 as_ok (Ok x) m h = h
@@ -130,7 +129,7 @@ read_any bytes m h = read_in bytes (tree_of bytes) m h
 
 built_in_read : IsRead built_in_machine
 built_in_read = record {
-  are = record { grid = record { least = omega (arith, ints); greatest = omega (arith, ints) }; x = tt; y = tt; z = tt };
+  are = record { grid = record { least = omega (arith, ints); greatest = omega (arith, ints) }; x = refl; y = refl; z = refl };
   margin = omega (arith, ints);
   travel_margin = omega (arith, ints);
   x = inl refl;
@@ -139,6 +138,9 @@ built_in_read = record {
 }
 
 -- ---- the options of a call
+
+not_less : (a b : ℤ) → pos 0 ≤ℤ a → a ≤ℤ b → pos 0 ≤ℤ b
+not_less a b least more = omega (arith, ints, least, more)
 
 fits_axis : (grid margin step low high : ℤ) (s : ℤ) → s ≤ℤ margin → (step ≡ grid) ⊎ (step ≤ℤ (s +ℤ s)) → EndsFit grid step low high →
     FitsAxis grid margin step low high
@@ -154,22 +156,30 @@ least_or : (o : Option ℤ) (own : ℤ) → IfSome o (IsFrom (pos 0) MARGIN_LIMI
 least_or None own h least = least
 least_or (Some margin) own h least = h.least
 
+first_at_most : (a b : ℤ) → a ≤ℤ int_max a b
+first_at_most a b = omega (arith, ints, clamps)
+
+second_at_most : (a b : ℤ) → b ≤ℤ int_max a b
+second_at_most a b = omega (arith, ints, clamps)
+
 set_fits : (d : Demand) (m : MachineFile) → AreDemands d → IsRead m → FitsMotors (set_in d m)
 set_fits d m ok read =
     let motors = motors_of m in
     let s = slack motors in
     let margin = fixture_margin d m in
-    let more : s ≤ℤ margin = omega (arith, ints, clamps) in
+    let demanded_margin = unwrap_or d.margin m.margins.fixtures in
+    let more : s ≤ℤ margin = first_at_most s demanded_margin in
     let own = least_or d.margin m.margins.fixtures ok.margin read.margin in
     record {
       are = read.are;
-      margin = omega (arith, ints, clamps, own);
+      margin = not_less demanded_margin margin own (second_at_most s demanded_margin);
       travel_margin = least_or d.travel_margin m.margins.travel ok.travel_margin read.travel_margin;
       x = fits_axis m.step margin m.motor_steps.x m.low.x m.high.x s more (enough_x motors read.are) read.x;
       y = fits_axis m.step margin m.motor_steps.y m.low.y m.high.y s more (enough_y motors read.are) read.y;
       z = fits_axis m.step margin m.motor_steps.z m.low.z m.high.z s more (enough_z motors read.are) read.z;
     }
 
+-- the rest of a chain of checks
 skipped : {A : Type 0} (r : Result (Unit {0}) FileFault) (q : Result A FileFault) (m : A) → (r >> q) ≡ Ok m → q ≡ Ok m
 skipped (Ok tt) q m h = h
 skipped (Err e) q m h = cc

@@ -1,5 +1,5 @@
 -- The record of ticks without an output.
-use Rattle.std.proofs.Common.{◌≡◌, ◌+◌, ℕ, zero, suc, List, [], ◌∷◌, ◌++◌, length, replicate, count_by, Option, None, Ok, refl, ap, sym, subst, ◌∙◌, arith}
+use Rattle.std.proofs.Common.{◌≡◌, ◌+◌, ℕ, zero, suc, List, [], ◌∷◌, ◌++◌, length, replicate, count_by, Option, None, Ok, Err, Result, OnOk, refl, ap, sym, subst, ◌∙◌, arith}
 use Rattle.std.specs.List.{AllByRecursion}
 use Rattle.std.proofs.KnownBytes.{Appends-nil}
 use Rattle.std.proofs.lemmas.List.{append-nil}
@@ -152,6 +152,10 @@ one_told e o told a b x y counts motors is traced wrote = record {
     splits = ap (λ (k : Outcome). a.chunk ++ trace_text a.trace (k ∷ [])) (sym is) ∙ wrote.2;
   };
 }
+
+pub on_ok_both : {T E : Type 0} {P Q R : Type 0} (r : Result T E) → (P → Q → R) → OnOk r P → OnOk r Q → OnOk r R
+on_ok_both (Ok x) f p q = f p q
+on_ok_both (Err e) f p q = tt
 
 -- and one whose text couldn't be written
 pub one_unwritten : (o told : Outcome) (a : Recorder) (x y : Option (List ℕ)) → told ≡ counted_outcome a.motors a.report.position o →
