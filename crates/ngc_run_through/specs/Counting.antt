@@ -1,8 +1,9 @@
 -- A run by the counts of its motors. A motor whose step is longer than the grid's has a pulse only
 -- where its count changes. Our own.
-use Rattle.std.specs.Prelude.{List, [], ◌∷◌, map, Option, Some, None, Ok, Err, Bool, ◌&&◌}
-use Rattle.std.specs.Prelude.{if◌then◌else◌}
+use Rattle.std.specs.Prelude.{◌≡◌, ℤ, List, [], ◌∷◌, map, Option, Some, None, Ok, Err, Bool, false}
+use Rattle.std.specs.Prelude.{◌&&◌, if◌then◌else◌}
 use Rattle.std.specs.Ordering.{int_eq}
+use Rattle.ngc_fixed_length.specs.Length.{IsStep}
 use Rattle.ngc_fixed_length.specs.declared.points.StepPos.{StepPos}
 use Rattle.ngc_motors.specs.Counts.{MotorData, counts}
 use Rattle.ngc_machine_files.specs.Machine.{motors_of}
@@ -56,3 +57,20 @@ abbrev pub motor_pulses : Job → List Event → List State → List StepPos
 motor_pulses job events states =
     pulses (counts (motors_of job.machine) (start_of_job job)) events
     (map (counted_state (motors_of job.machine)) states)
+
+-- ---- motors that all have the grid's step
+
+abbrev pub equal_motors : ℤ → MotorData
+equal_motors step = record { grid = step; steps = record { x = step; y = step; z = step } }
+
+-- each position that is reported differs from the one before it, the first from p
+abbrev pub Moves : StepPos → List Outcome → Type 0
+Moves p [] = Unit {0}
+Moves p (o ∷ outcomes) =
+    ((q : StepPos) → position_in o ≡ q ∷ [] → is_same p q ≡ false) ×
+    Moves (last_position p (position_in o)) outcomes
+
+-- with such motors nothing changes
+abbrev pub EqualMotorsKeep : Type 0
+EqualMotorsKeep = (step : ℤ) (p : StepPos) (outcomes : List Outcome) → IsStep step →
+    Moves p outcomes → counted (equal_motors step) p outcomes ≡ outcomes

@@ -3,6 +3,7 @@
 #![tactic(auto)]
 
 mod counting;
+pub mod laws;
 mod log_line;
 mod recorder;
 mod report;
