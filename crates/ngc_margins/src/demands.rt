@@ -42,7 +42,10 @@ fn margin_or(demanded: Option<Nm>, own: Nm) -> Nm
 }
 
 fn greater(a: Nm, b: Nm) -> Nm
-    ensures { result ≡ int_max a b }
+    requires a { IsFrom (pos 0) MARGIN_LIMIT a }
+    requires b { IsFrom (pos 0) MARGIN_LIMIT b }
+    ensures value { result ≡ int_max a b }
+    ensures range { IsFrom (pos 0) MARGIN_LIMIT result }
 {
     if b < a { a } else { b }
 }
