@@ -14,7 +14,7 @@ use Rattle.ngc_motors.specs.Counts.{AreMotors, is_motor}
 use Rattle.ngc_machine_files.specs.Ranges.{PLACE_LIMIT, CORNER_LIMIT, IsFrom, IsSized, IsAtMost, IsBelow, IsOnGrid, IsTravel, IsFixture}
 use Rattle.ngc_machine_files.specs.Numbers.{from_to}
 use Rattle.ngc_machine_files.specs.Refusals.{◌>>◌, refuse_unless}
-use Rattle.ngc_machine_files.specs.MachineText.{MachineValues, is_sized, is_at_most, is_below, is_multiple, is_on_grid, is_rate, good_axis_rates, good_jump, good_ring, good_arc_feed, good_changer, good_margin, good_limits, good_motors, good_axis_ends}
+use Rattle.ngc_machine_files.specs.MachineText.{MachineValues, is_sized, is_at_most, is_below, is_multiple, is_on_grid, is_rate, good_axis_rates, good_jump, good_ring, good_arc_feed, good_changer, good_margin, good_limits, good_motors, good_axis_ends, good_rates, good_travel, good_version}
 use Rattle.ngc_machine_files.specs.MachineText.{good_fixture, good_fixtures, machine_ranges, place_of, fixture_of, good_block, good_stock, AreFrom, IsBlock, IsGood}
 use Rattle.ngc_machine_files.specs.ToolText.{ToolNumbers, TableValues, good_part, good_parts, good_tool, good_tools, table_ranges, IsPartEntry, ArePartEntries}
 use Rattle.ngc_machine_files.specs.ToolText.{IsEntry, AreEntries}
@@ -182,12 +182,12 @@ IsGood-from_ranges m h =
 -- where a motor's step isn't the grid's, the ends of the travel are whole
 pub ends-from_ranges : (m : MachineValues) → machine_ranges m ≡ Ok tt → good_axis_ends m.numbers.step m.motor_steps m.points ≡ true
 ends-from_ranges m h =
-    let (_, h1) = passes _ _ _ h in
-    let (_, h2) = passes _ _ _ h1 in
+    let (_, h1) = passes (good_version m.numbers.version) _ _ h in
+    let (_, h2) = passes (from_to (pos 500) (pos 50000) m.numbers.step) _ _ h1 in
     let (_, h3) = passes (good_motors m.numbers.step m.motor_steps) _ _ h2 in
-    let (_, h4) = passes _ _ _ h3 in
-    let (_, h5) = passes _ _ _ h4 in
-    let (travels, _) = passes _ _ _ h5 in
+    let (_, h4) = passes (is_rate m.numbers.ticks_per_second) _ _ h3 in
+    let (_, h5) = passes (good_rates m) _ _ h4 in
+    let (travels, _) = passes (good_travel m) _ _ h5 in
     let (_, _, ends) = three (good_limits m.numbers.step m.points) (good_margin m.numbers.optional.travel_margin)
     (good_axis_ends m.numbers.step m.motor_steps m.points) travels in
     ends
