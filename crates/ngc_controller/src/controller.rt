@@ -1,6 +1,7 @@
 ghost use Rattle.std.specs.Prelude.{◌≡◌, ◌≤◌, ◌++◌, ◌∷◌, [], replicate, true, false, None, Ok};
 ghost use Rattle.std.specs.Prelude.{IfOk, IfErr, IfSome, IsSome, OnErr, ◌↔◌};
 ghost use Rattle.circular_buffer.specs.Buffer.{keep_last};
+ghost use Rattle.ngc_machine_files.specs.Machine.{motors_of};
 ghost use Rattle.ngc_machine_model.specs.Headline.{job_of};
 ghost use Rattle.ngc_machine_model.specs.Progress.{GoesOn, TravelsAtLeast, is_free};
 ghost use Rattle.ngc_machine_model.specs.State.{opening, command_at, loaded};
@@ -28,6 +29,7 @@ use ngc_commands::{Action, Command};
 use ngc_events::{Ending, Event, EventFault, Reply};
 use ngc_fixed_length::StepPos;
 use ngc_machine_files::Tool;
+use ngc_motors::Motors;
 use ngc_step_kernel::ArcKernel;
 use std::alloc::Allocator;
 use std::marker::Model;
@@ -470,6 +472,13 @@ impl<K: ArcKernel + Drop, A: Allocator + Copy> Controller<K, A> {
         ensures { result.now ≡ self.now.job.commands }
     {
         self.accepted.commands(self.block_delete)
+    }
+
+    /// Returns the machine's motors.
+    pub fn motors(&self) -> Motors
+        ensures { result ≡ motors_of self.now.job.machine }
+    {
+        self.accepted.machine().motors()
     }
 
     /// Returns the machine's position, in steps.

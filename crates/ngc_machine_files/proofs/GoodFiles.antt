@@ -9,10 +9,12 @@ use Rattle.std.proofs.lemmas.Float.{T_from_true}
 use Rattle.std.proofs.lemmas.List.Sums.{AllPass-from_list_all}
 use Rattle.std.proofs.lemmas.List.Elements.{All-weaker}
 use Rattle.ngc_fixed_length.specs.Signed.{is_within, is_zero}
+use Rattle.ngc_fixed_length.specs.Length.{IsStep}
+use Rattle.ngc_motors.specs.Counts.{AreMotors, is_motor}
 use Rattle.ngc_machine_files.specs.Ranges.{PLACE_LIMIT, CORNER_LIMIT, IsFrom, IsSized, IsAtMost, IsBelow, IsOnGrid, IsTravel, IsFixture}
 use Rattle.ngc_machine_files.specs.Numbers.{from_to}
 use Rattle.ngc_machine_files.specs.Refusals.{◌>>◌, refuse_unless}
-use Rattle.ngc_machine_files.specs.MachineText.{MachineValues, is_sized, is_at_most, is_below, is_multiple, is_on_grid, is_rate, good_axis_rates, good_jump, good_ring, good_arc_feed, good_changer, good_margin, good_limits}
+use Rattle.ngc_machine_files.specs.MachineText.{MachineValues, is_sized, is_at_most, is_below, is_multiple, is_on_grid, is_rate, good_axis_rates, good_jump, good_ring, good_arc_feed, good_changer, good_margin, good_limits, good_motors, good_axis_ends, good_rates, good_travel, good_version}
 use Rattle.ngc_machine_files.specs.MachineText.{good_fixture, good_fixtures, machine_ranges, place_of, fixture_of, good_block, good_stock, AreFrom, IsBlock, IsGood}
 use Rattle.ngc_machine_files.specs.ToolText.{ToolNumbers, TableValues, good_part, good_parts, good_tool, good_tools, table_ranges, IsPartEntry, ArePartEntries}
 use Rattle.ngc_machine_files.specs.ToolText.{IsEntry, AreEntries}
@@ -68,7 +70,7 @@ all_below p q h =
     let (x, y, z) = three (int_lt p.x q.x) (int_lt p.y q.y) (int_lt p.z q.z) h in
     record { x = below _ _ x; y = below _ _ y; z = below _ _ z }
 
-zero_of : (z : ℤ) → is_zero z ≡ true → z ≡ pos 0
+pub zero_of : (z : ℤ) → is_zero z ≡ true → z ≡ pos 0
 zero_of (pos n) h = ap pos (eqb-true n 0 h)
 zero_of (negsuc n) h = let e : suc n ≡ 0 = eqb-true _ 0 h in absurd (omega arith)
 
@@ -125,18 +127,26 @@ a_stock (Some s) h = a_block s h
 each_passes : {X : Type 0} (p : X → Bool) (P : X → Type 0) → ((x : X) → p x ≡ true → P x) → (xs : List X) → list_all p xs ≡ true → All P xs
 each_passes p P tells xs h = All-weaker (λ x. p x ≡ true) P tells xs (AllPass-from_list_all p xs h)
 
+some_motors : (step : ℤ) (motors : Coordinates) → IsStep step → good_motors step motors ≡ true → AreMotors (record { grid = step; steps = place_of motors })
+some_motors step motors is h =
+    let (x, y, z) = three (is_motor step motors.x) (is_motor step motors.y) (is_motor step motors.z) h in
+    record { grid = is; x = x; y = y; z = z }
+
 pub IsGood-from_ranges : (m : MachineValues) → machine_ranges m ≡ Ok tt → IsGood m
 IsGood-from_ranges m h =
     let (_, h7) = passes _ _ _ h in
-    let (step, h6) = passes _ _ _ h7 in
+    let (step, h8) = passes _ _ _ h7 in
+    let (steps, h6) = passes (good_motors m.numbers.step m.motor_steps) _ _ h8 in
     let (ticks, h5) = passes _ _ _ h6 in
     let (rates, h4) = passes _ _ _ h5 in
     let (travels, h3) = passes _ _ _ h4 in
     let (places, h2) = passes _ _ _ h3 in
     let (fixtures, h1) = passes (good_fixtures m) _ _ h2 in
     let block : good_stock m.options.stock ≡ true = passes_last _ _ h1 in
-    let (limits, travel_margin) = and_parts (good_limits m.numbers.step m.points) (good_margin m.numbers.optional.travel_margin) travels in
+    let (limits, travel_margin, _) = three (good_limits m.numbers.step m.points) (good_margin m.numbers.optional.travel_margin)
+    (good_axis_ends m.numbers.step m.motor_steps m.points) travels in
     let in_step = from (pos 500) (pos 50000) m.numbers.step step in
+    let is_step : IsStep m.numbers.step = record { least = in_step.least; greatest = in_step.greatest } in
     let (rates8, _) = and_parts _ (good_changer m.numbers.optional.changer) rates in
     let (rates7, _) = and_parts _ (good_arc_feed m.numbers.optional.arc_feed) rates8 in
     let (rates6, ring) = and_parts _ (good_ring m.numbers.optional.ring) rates7 in
@@ -148,7 +158,8 @@ IsGood-from_ranges m h =
     (list_all (is_sized PLACE_LIMIT) m.origins) places in
     let (count, each, margin) = three _ (list_all good_fixture m.fixtures) (good_margin m.numbers.optional.margin) fixtures in
     record {
-      step = record { least = in_step.least; greatest = in_step.greatest };
+      step = is_step;
+      motors = some_motors m.numbers.step m.motor_steps is_step steps;
       ticks_per_second = a_rate _ ticks;
       max_rate = a_rate _ max_rate;
       axis_rates = axis_rates m.axis_rates axes;
@@ -167,6 +178,19 @@ IsGood-from_ranges m h =
       travel_margin = from _ _ _ travel_margin;
       stock = a_stock m.options.stock block;
     }
+
+-- where a motor's step isn't the grid's, the ends of the travel are whole
+pub ends-from_ranges : (m : MachineValues) → machine_ranges m ≡ Ok tt → good_axis_ends m.numbers.step m.motor_steps m.points ≡ true
+ends-from_ranges m h =
+    let (_, h1) = passes (good_version m.numbers.version) _ _ h in
+    let (_, h2) = passes (from_to (pos 500) (pos 50000) m.numbers.step) _ _ h1 in
+    let (_, h3) = passes (good_motors m.numbers.step m.motor_steps) _ _ h2 in
+    let (_, h4) = passes (is_rate m.numbers.ticks_per_second) _ _ h3 in
+    let (_, h5) = passes (good_rates m) _ _ h4 in
+    let (travels, _) = passes (good_travel m) _ _ h5 in
+    let (_, _, ends) = three (good_limits m.numbers.step m.points) (good_margin m.numbers.optional.travel_margin)
+    (good_axis_ends m.numbers.step m.motor_steps m.points) travels in
+    ends
 
 a_part : (p : PartEntry) → good_part p ≡ true → IsPartEntry p
 a_part p h =

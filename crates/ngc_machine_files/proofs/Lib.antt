@@ -4,6 +4,8 @@ pub mod Trees
 pub mod Contents
 -- Range tests, and the facts that they prove.
 pub mod Ranges
+-- Ranges of the steps of motors.
+pub mod MotorRanges
 -- Files whose values are all in range.
 pub mod GoodFiles
 -- Files that consist of white space and comments only.

@@ -12,10 +12,13 @@ use Rattle.ngc_machine_files.specs.declared.machine.Margins.{Margins}
 use Rattle.ngc_machine_files.specs.declared.machine.Rapids.{Rapids}
 use Rattle.ngc_machine_files.specs.declared.machine.StockBox.{StockBox}
 use Rattle.ngc_dialect_names.specs.declared.dialect.Dialect.{Dialect}
+use Rattle.ngc_motors.specs.Counts.{MotorData}
 use Rattle.ngc_machine_files.specs.declared.machine.Rapids.TheVariants.{Straight}
 
 pub record MachineFile : Type 0 where
   pub step : ℤ
+  -- the length of a step of each motor
+  pub motor_steps : Point3
   pub ticks_per_second : ℕ
   pub max_rate : ℕ
   pub axis_rates : AxisRates
@@ -42,6 +45,7 @@ pub record MachineFile : Type 0 where
 abbrev pub file_of : {A : Type 0} → Machine A → MachineFile
 file_of m = record {
   step = m.step;
+  motor_steps = m.motor_steps;
   ticks_per_second = m.ticks_per_second;
   max_rate = m.max_rate;
   axis_rates = m.axis_rates;
@@ -65,10 +69,15 @@ file_of m = record {
   stock = m.stock;
 }
 
+-- its motors
+abbrev pub motors_of : MachineFile → MotorData
+motors_of m = record { grid = m.step; steps = m.motor_steps }
+
 -- a small mill of 300 mm by 300 mm by 100 mm, with steps of 0.01 mm and no fixture
 abbrev pub built_in_machine : MachineFile
 built_in_machine = record {
   step = pos 10000;
+  motor_steps = record { x = pos 10000; y = pos 10000; z = pos 10000 };
   ticks_per_second = 10000;
   max_rate = 400000;
   axis_rates = record { x = 1000000; y = 1000000; z = 1000000 };

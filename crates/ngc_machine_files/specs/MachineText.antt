@@ -7,6 +7,7 @@ use Rattle.std.specs.Ordering.{int_eq}
 use Rattle.toml.specs.Data.{Data, array, Items, get}
 use Rattle.ngc_fixed_length.specs.Signed.{is_within, is_zero}
 use Rattle.ngc_fixed_length.specs.declared.points.Point3.{Point3}
+use Rattle.ngc_motors.specs.Counts.{AreMotors, is_motor}
 use Rattle.ngc_machine_files.specs.declared.machine.ArcFeed.{ArcFeed}
 use Rattle.ngc_machine_files.specs.declared.machine.ArcFeed.TheVariants.{Off, Feed, FeedAndTurn}
 use Rattle.ngc_machine_files.specs.declared.machine.AxisRates.{AxisRates}
@@ -40,6 +41,7 @@ use Rattle.ngc_machine_files.specs.Tree.{each, list_at, or_missing, name_at, rap
 pub record MachineValues : Type 0 where
   pub numbers : MachineNumbers
   pub options : MachineOptions
+  pub motor_steps : Coordinates
   pub axis_rates : Coordinates
   pub points : MachinePoints
   pub origins : List Coordinates
@@ -50,6 +52,7 @@ values_of c =
     record {
       numbers = c.numbers;
       options = c.options;
+      motor_steps = c.motor_steps;
       axis_rates = c.axis_rates;
       points = c.points;
       origins = c.origins;
@@ -84,6 +87,10 @@ machine_axis_rates version tree =
     if has_axis_rates version
     then coordinates_at (codes "axis_rate") tree
     else Some (record { x = pos 1000000; y = pos 1000000; z = pos 1000000 })
+
+-- in these versions each motor has the step of the grid
+abbrev pub equal_steps : ℤ → Coordinates
+equal_steps step = record { x = step; y = step; z = step }
 
 -- a missing ring is 16, and any other missing number is 0
 abbrev pub optional_numbers : Data → Option OptionalNumbers
@@ -208,6 +215,7 @@ machine_values root = do
   Some (record {
     numbers = numbers;
     options = options;
+    motor_steps = equal_steps numbers.step;
     axis_rates = axis_rates;
     points = points;
     origins = origins;
@@ -236,6 +244,9 @@ good_version version = int_eq version (pos 1) || has_axis_rates version
 
 unfoldable pub is_rate : ℤ → Bool
 is_rate z = from_to (pos 1) (pos 1000000) z
+
+abbrev pub good_motors : ℤ → Coordinates → Bool
+good_motors step motors = is_motor step motors.x && is_motor step motors.y && is_motor step motors.z
 
 abbrev pub good_jump : ℤ → Bool
 good_jump z = from_to (pos 0) (pos 1000000) z
@@ -270,8 +281,20 @@ good_limits step p =
     is_sized PLACE_LIMIT p.low && is_sized PLACE_LIMIT p.high && is_at_most p.low p.high &&
     is_at_most p.low p.start && is_at_most p.start p.high && is_on_grid step p.start
 
-abbrev pub good_travel : MachineNumbers → MachinePoints → Bool
-good_travel n p = good_limits n.step p && good_margin n.optional.travel_margin
+-- Where a motor's step isn't the grid's, the travel of its axis ends at whole steps of the motor. So
+-- the motor can stand at each end, and is never sent past it.
+abbrev pub good_ends : ℤ → ℤ → ℤ → ℤ → Bool
+good_ends step motor low high = int_eq motor step || (is_multiple motor low && is_multiple motor high)
+
+abbrev pub good_axis_ends : ℤ → Coordinates → MachinePoints → Bool
+good_axis_ends step motors p =
+    good_ends step motors.x p.low.x p.high.x && good_ends step motors.y p.low.y p.high.y
+    && good_ends step motors.z p.low.z p.high.z
+
+abbrev pub good_travel : MachineValues → Bool
+good_travel m =
+    good_limits m.numbers.step m.points && good_margin m.numbers.optional.travel_margin
+    && good_axis_ends m.numbers.step m.motor_steps m.points
 
 abbrev pub good_places : MachineValues → Bool
 good_places m =
@@ -302,12 +325,13 @@ abbrev pub machine_ranges : MachineValues → Result (Unit {0}) FileFault
 machine_ranges m =
     refuse_unless (good_version m.numbers.version) Version >>
     (refuse_unless (from_to (pos 500) (pos 50000) m.numbers.step) Step >>
+    (refuse_unless (good_motors m.numbers.step m.motor_steps) Step >>
     (refuse_unless (is_rate m.numbers.ticks_per_second) TicksPerSecond >>
     (refuse_unless (good_rates m) Rates >>
-    (refuse_unless (good_travel m.numbers m.points) Travel >>
+    (refuse_unless (good_travel m) Travel >>
     (refuse_unless (good_places m) Places >>
     (refuse_unless (good_fixtures m) Fixtures >>
-    refuse_unless (good_stock m.options.stock) Stock))))))
+    refuse_unless (good_stock m.options.stock) Stock)))))))
 
 -- ---- the machine of a file
 
@@ -338,6 +362,7 @@ has_changer z = int_eq z (pos 1)
 abbrev pub machine_from : MachineValues → MachineFile
 machine_from m = record {
   step = m.numbers.step;
+  motor_steps = place_of m.motor_steps;
   ticks_per_second = unsigned_abs m.numbers.ticks_per_second;
   max_rate = unsigned_abs m.numbers.max_rate;
   axis_rates = axis_rates_of m.axis_rates;
@@ -374,6 +399,7 @@ pub record IsBlock (s : StockNumbers) : Type 0 where
 -- the same checks, as facts
 pub record IsGood (m : MachineValues) : Type 0 where
   pub step : IsStep m.numbers.step
+  pub motors : AreMotors (record { grid = m.numbers.step; steps = place_of m.motor_steps })
   pub ticks_per_second : IsFrom (pos 1) (pos 1000000) m.numbers.ticks_per_second
   pub max_rate : IsFrom (pos 1) (pos 1000000) m.numbers.max_rate
   pub axis_rates : AreFrom (pos 1) (pos 1000000) m.axis_rates

@@ -2,12 +2,14 @@ ghost use Rattle.std.specs.Prelude.{◌≡◌, IfSome};
 ghost use Rattle.std.proofs.Props.{props};
 ghost use Rattle.std.specs.List.{All};
 ghost use Rattle.ngc_fixed_length.specs.Length.{IsStep};
+ghost use Rattle.ngc_motors.specs.Counts.{AreMotors};
 ghost use Rattle.ngc_machine_files.specs.Ranges.{PLACE_LIMIT, IsRate, IsJump, AreRates, IsArcBound, IsTravel};
 ghost use Rattle.ngc_machine_files.specs.Ranges.{IsSized, IsRing, AreFixtures, AreMargins, IsStock};
 
 use crate::name::Name;
 use ngc_dialect_names::Dialect;
 use ngc_fixed_length::{Nm, Point3};
+use ngc_motors::Motors;
 use std::alloc::{AllocError, Allocator};
 
 /// A box that tools must stay out of, in nanometres.
@@ -71,6 +73,8 @@ pub struct StockBox {
 pub struct Machine<A: Allocator> {
     /// The step length, 500 to 50,000 nm.
     pub step: Nm,
+    /// The length of a step of each motor, from that of `step` to 1,000,000 nm.
+    pub motor_steps: Point3,
     /// The ticks per second, 1 to 1,000,000.
     pub ticks_per_second: u32,
     /// The greatest rate, 1 to 1,000,000.
@@ -118,6 +122,7 @@ pub struct Machine<A: Allocator> {
     /// The block of material that is cut, if it is known.
     pub stock: Option<StockBox>,
     ghost step_in_range: { IsStep step },
+    ghost motors_in_range: { AreMotors (record { grid = step; steps = motor_steps }) },
     ghost ticks_in_range: { IsRate ticks_per_second },
     ghost max_rate_in_range: { IsRate max_rate },
     ghost axis_rates_in_range: { AreRates axis_rates },
@@ -145,7 +150,7 @@ fn copied(origins: &[Point3; 9]) -> [Point3; 9]
 
 impl<A: Allocator> Machine<A> {
     ghost use Rattle.std.specs.Prelude.{IfOk};
-    ghost use Rattle.ngc_machine_files.specs.Machine.{file_of};
+    ghost use Rattle.ngc_machine_files.specs.Machine.{file_of, motors_of};
     ghost use Rattle.ngc_machine_files.specs.MachineRanges.{IsMachine};
 
     /// Returns a copy of the machine, with the fixtures in another allocator's memory. It fails if
@@ -157,6 +162,7 @@ impl<A: Allocator> Machine<A> {
         let fixtures = Vec::from_slice(alloc, self.fixtures.as_slice())?;
         Ok(Machine {
             step: self.step,
+            motor_steps: self.motor_steps,
             ticks_per_second: self.ticks_per_second,
             max_rate: self.max_rate,
             axis_rates: self.axis_rates,
@@ -179,5 +185,12 @@ impl<A: Allocator> Machine<A> {
             dialect: self.dialect,
             stock: self.stock,
         })
+    }
+
+    /// Returns its motors.
+    pub fn motors(&self) -> Motors
+        ensures { result ≡ motors_of (file_of self.now) }
+    {
+        Motors::new(self.step, self.motor_steps)
     }
 }

@@ -92,6 +92,8 @@ pub struct MachineOptions {
 pub struct MachineContents {
     pub numbers: MachineNumbers,
     pub options: MachineOptions,
+    /// The length of a step of each motor.
+    pub motor_steps: Coordinates,
     pub axis_rates: Coordinates,
     pub points: MachinePoints,
     pub origins: [Coordinates; 9],
@@ -315,6 +317,11 @@ impl MachineContents {
             Some(fixtures) => Ok(Some(MachineContents {
                 numbers,
                 options,
+                motor_steps: Coordinates {
+                    x: numbers.step,
+                    y: numbers.step,
+                    z: numbers.step,
+                },
                 axis_rates,
                 points,
                 origins,

@@ -1,7 +1,8 @@
-ghost use Rattle.std.specs.Prelude.{◌≡◌, ◌≤◌, ◌<ℤ◌, pos, map, option_map, unsigned_abs, IfOk, IfSome};
+ghost use Rattle.std.specs.Prelude.{◌≡◌, ◌≤◌, ◌<ℤ◌, pos, map, option_map, true, unsigned_abs, IfOk, IfSome};
 ghost use Rattle.std.specs.List.{All, list_all};
 ghost use Rattle.std.specs.Ordering.{int_eq};
 ghost use Rattle.ngc_fixed_length.specs.Length.{IsStep};
+ghost use Rattle.ngc_motors.specs.Counts.{AreMotors, is_motor};
 ghost use Rattle.ngc_machine_files.specs.Machine.{file_of};
 ghost use Rattle.ngc_machine_files.specs.Numbers.{from_to};
 ghost use Rattle.ngc_machine_files.specs.Ranges.{CORNER_LIMIT, IsFrom, IsRate, IsJump, IsRing, AreRates};
@@ -10,6 +11,7 @@ ghost use Rattle.ngc_machine_files.specs.Ranges.{MARGIN_LIMIT, AreMargins};
 ghost use Rattle.ngc_machine_files.specs.MachineText.{values_of, is_sized, is_at_most, is_below};
 ghost use Rattle.ngc_machine_files.specs.MachineText.{is_multiple, is_on_grid, good_version, is_rate};
 ghost use Rattle.ngc_machine_files.specs.MachineText.{good_axis_rates, good_bounds, good_rates, good_travel};
+ghost use Rattle.ngc_machine_files.specs.MachineText.{good_axis_ends, good_ends, good_motors};
 ghost use Rattle.ngc_machine_files.specs.MachineText.{good_places, good_fixture, good_fixtures};
 ghost use Rattle.ngc_machine_files.specs.MachineText.{machine_ranges, machine_from, place_of};
 ghost use Rattle.ngc_machine_files.specs.MachineText.{axis_rates_of, fixture_of, arc_feed_of, has_changer, AreFrom, IsBlock, IsGood};
@@ -94,6 +96,18 @@ fn is_rate(value: i64) -> bool
     is_from_to(1, 1_000_000, value)
 }
 
+fn is_motor(step: i64, motor: i64) -> bool
+    ensures { result ≡ is_motor step motor }
+{
+    step <= motor && motor <= 1_000_000
+}
+
+fn are_motors_good(step: i64, motors: &Coordinates) -> bool
+    ensures { result ≡ good_motors step motors.now }
+{
+    is_motor(step, motors.x) && is_motor(step, motors.y) && is_motor(step, motors.z)
+}
+
 fn are_ticks_good(numbers: &MachineNumbers) -> bool
     ensures { result ≡ is_rate numbers.now.ticks_per_second }
 {
@@ -144,11 +158,35 @@ fn are_limits_good(step: i64, points: &MachinePoints) -> bool
         && points.start.is_on_grid(step)
 }
 
-fn is_travel_good(numbers: &MachineNumbers, points: &MachinePoints) -> bool
-    requires { pos 0 <ℤ numbers.now.step }
-    ensures { result ≡ good_travel numbers.now points.now }
+fn are_ends_good(step: i64, motor: i64, low: i64, high: i64) -> bool
+    requires { pos 0 <ℤ motor }
+    ensures { result ≡ good_ends step motor low high }
 {
-    are_limits_good(numbers.step, points) && is_margin_good(numbers.optional.travel_margin)
+    motor == step || is_multiple(motor, low) && is_multiple(motor, high)
+}
+
+fn are_axis_ends_good(step: i64, motors: &Coordinates, points: &MachinePoints) -> bool
+    requires step { pos 0 <ℤ step }
+    requires motors { good_motors step motors.now ≡ true }
+    ensures { result ≡ good_axis_ends step motors.now points.now }
+{
+    are_ends_good(step, motors.x, points.low.x, points.high.x)
+        && are_ends_good(step, motors.y, points.low.y, points.high.y)
+        && are_ends_good(step, motors.z, points.low.z, points.high.z)
+}
+
+fn is_travel_good(contents: &MachineContents) -> bool
+    requires step { pos 0 <ℤ contents.now.numbers.step }
+    requires motors { good_motors contents.now.numbers.step contents.now.motor_steps ≡ true }
+    ensures { result ≡ good_travel (values_of contents.now) }
+{
+    are_limits_good(contents.numbers.step, &contents.points)
+        && is_margin_good(contents.numbers.optional.travel_margin)
+        && are_axis_ends_good(
+            contents.numbers.step,
+            &contents.motor_steps,
+            &contents.points,
+        )
 }
 
 fn are_origins_good(origins: &[Coordinates]) -> bool
@@ -301,6 +339,13 @@ fn place(point: &Coordinates) -> Point3
     }
 }
 
+fn motor_steps(step: i64, steps: &Coordinates) -> Point3
+    requires { AreMotors (record { grid = step; steps = place_of steps.now }) }
+    ensures { result ≡ place_of steps.now }
+{
+    place(steps)
+}
+
 fn fixture(corners: &Corners) -> Fixture
     requires { IsFixture (fixture_of corners.now) }
     ensures { result ≡ fixture_of corners.now }
@@ -375,13 +420,16 @@ impl MachineContents {
         if !is_step_good(&self.numbers) {
             return Err(FileFault::Step);
         }
+        if !are_motors_good(self.numbers.step, &self.motor_steps) {
+            return Err(FileFault::Step);
+        }
         if !are_ticks_good(&self.numbers) {
             return Err(FileFault::TicksPerSecond);
         }
         if !are_rates_good(self) {
             return Err(FileFault::Rates);
         }
-        if !is_travel_good(&self.numbers, &self.points) {
+        if !is_travel_good(self) {
             return Err(FileFault::Travel);
         }
         if !are_places_good(self) {
@@ -404,6 +452,7 @@ impl MachineContents {
         let fixtures = fixtures(alloc, self.fixtures.as_slice())?;
         Ok(Machine {
             step: step_length(&self.numbers),
+            motor_steps: motor_steps(self.numbers.step, &self.motor_steps),
             ticks_per_second: rate(self.numbers.ticks_per_second),
             max_rate: rate(self.numbers.max_rate),
             axis_rates: axis_rates(&self.axis_rates),

@@ -51,10 +51,6 @@ range_text faults.Fixtures = codes "fixture: a corner is farther than 4,000 mm f
 range_text faults.Stock = codes "stock: a corner is farther than 1,000 mm from zero, or a side has no length"
 range_text _ = codes "a number is out of its range"
 
-unfoldable pub unequal_text : AxisName → List ℕ
-unequal_text axis =
-    axis_text axis ++ codes ".motor: its step isn't that of axis.x: all must be the same"
-
 unfoldable pub error_text : AxisName → ℕ → List ℕ
 error_text axis nanometres =
     axis_text axis ++ codes ".motor: a step of whole nanometres is off by " ++ decimal nanometres
@@ -64,7 +60,6 @@ error_text axis nanometres =
 unfoldable pub figures_text : WrittenRefusal → List ℕ
 figures_text (refusals.Sheet refusal) = []
 figures_text (refusals.Motor axis refusal) = axis_text axis ++ codes ".motor: " ++ motor_text refusal
-figures_text (refusals.UnequalMotors axis) = unequal_text axis
 figures_text (refusals.TravelError axis nanometres) = error_text axis nanometres
 figures_text (refusals.Figure refusal) = figure_axis refusal ++ figure_text refusal
 figures_text (refusals.Range fault) = range_text fault

@@ -84,15 +84,6 @@ fn range_text(fault: FileFault) -> &'static [u8]
     }
 }
 
-#[tactic(auto, unfolding(crate::specs::Sentences::unequal_text))]
-fn say_unequal<W: Sink>(axis: AxisName, page: &mut Page, output: &mut W)
-    ensures { Says (W.written output.old) (W.written output.new)
-        (W.failures output.old) (W.failures output.new) page.old page.new
-        (spec.unequal_text axis) }
-{
-    say!(page, output; Part::Text(axis_text(axis)), b".motor: its step isn't that of axis.x: all must be the same");
-}
-
 #[tactic(auto, unfolding(crate::specs::Sentences::error_text))]
 fn say_error<W: Sink>(axis: AxisName, nanometres: u64, page: &mut Page, output: &mut W)
     ensures { Says (W.written output.old) (W.written output.new)
@@ -113,7 +104,6 @@ pub(crate) fn say_figures<W: Sink>(refusal: WrittenRefusal, page: &mut Page, out
         WrittenRefusal::Sheet(_) => {}
         WrittenRefusal::Motor(axis, refusal) =>
             say!(page, output; Part::Text(axis_text(axis)), b".motor: ", Part::Text(motor_text(refusal))),
-        WrittenRefusal::UnequalMotors(axis) => say_unequal(axis, page, output),
         WrittenRefusal::TravelError { axis, nanometres } => {
             say_error(axis, nanometres, page, output)
         }

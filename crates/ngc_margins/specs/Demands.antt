@@ -1,6 +1,8 @@
 -- What the options of a call set in place of a machine file's keys. Our own.
 use Rattle.std.specs.Prelude.{ℤ, pos, Option, None, IfSome, unwrap_or}
-use Rattle.ngc_machine_files.specs.Machine.{MachineFile}
+use Rattle.std.specs.Int.{int_max}
+use Rattle.ngc_motors.specs.Counts.{slack}
+use Rattle.ngc_machine_files.specs.Machine.{MachineFile, motors_of}
 use Rattle.ngc_machine_files.specs.Ranges.{IsFrom, MARGIN_LIMIT}
 use Rattle.ngc_machine_files.specs.declared.machine.Rapids.{Rapids}
 
@@ -20,11 +22,16 @@ pub record AreDemands (d : Demand) : Type 0 where
   pub margin : IfSome d.margin (IsFrom (pos 0) MARGIN_LIMIT)
   pub travel_margin : IfSome d.travel_margin (IsFrom (pos 0) MARGIN_LIMIT)
 
+-- The margin to fixtures: at least what the motors may stand away from the path, whatever the file
+-- and the options say.
+abbrev pub fixture_margin : Demand → MachineFile → ℤ
+fixture_margin d m = int_max (slack (motors_of m)) (unwrap_or d.margin m.margins.fixtures)
+
 -- the contents of a machine file, with these values in place of its own
 abbrev pub set_in : Demand → MachineFile → MachineFile
 set_in d m = record m {
   margins = record {
-    fixtures = unwrap_or d.margin m.margins.fixtures;
+    fixtures = fixture_margin d m;
     travel = unwrap_or d.travel_margin m.margins.travel;
   };
   rapids = unwrap_or d.rapids m.rapids;

@@ -1,4 +1,5 @@
-ghost use Rattle.std.specs.Prelude.{◌≡◌, IfSome, MatchResult, Ok, Err, pos, unwrap_or};
+ghost use Rattle.std.specs.Prelude.{◌≡◌, ◌≤ℤ◌, IfSome, MatchResult, Ok, Err, pos, unwrap_or};
+ghost use Rattle.std.specs.Int.{int_max};
 ghost use Rattle.ngc_machine_files.specs.Machine.{file_of};
 ghost use Rattle.ngc_machine_files.specs.Ranges.{AreMargins, IsFrom, MARGIN_LIMIT};
 ghost use Rattle.ngc_margins.specs.Demands.{no_demands};
@@ -40,6 +41,15 @@ fn margin_or(demanded: Option<Nm>, own: Nm) -> Nm
     }
 }
 
+fn greater(a: Nm, b: Nm) -> Nm
+    requires a { IsFrom (pos 0) MARGIN_LIMIT a }
+    requires b { IsFrom (pos 0) MARGIN_LIMIT b }
+    ensures value { result ≡ int_max a b }
+    ensures range { IsFrom (pos 0) MARGIN_LIMIT result }
+{
+    if b < a { a } else { b }
+}
+
 fn rapids_or(demanded: Option<Rapids>, own: Rapids) -> Rapids
     ensures { result ≡ unwrap_or demanded own }
 {
@@ -78,24 +88,27 @@ impl Demands {
         }
     }
 
-    // Returns these margins, or those of a machine.
-    fn margins(&self, own: &Margins) -> Margins
-        requires { AreMargins own.now }
+    // Returns these margins, or those of a machine. That to fixtures is at least the slack of the
+    // machine's motors.
+    fn margins(&self, slack: Nm, own: &Margins) -> Margins
+        requires least { pos 0 ≤ℤ slack }
+        requires most { slack ≤ℤ pos 500000 }
+        requires own { AreMargins own.now }
         ensures value { result ≡ record {
-          fixtures = unwrap_or self.now.margin own.now.fixtures;
+          fixtures = int_max slack (unwrap_or self.now.margin own.now.fixtures);
           travel = unwrap_or self.now.travel_margin own.now.travel;
         } }
         ensures range { AreMargins result }
     {
         Margins {
-            fixtures: margin_or(self.margin, own.fixtures),
+            fixtures: greater(slack, margin_or(self.margin, own.fixtures)),
             travel: margin_or(self.travel_margin, own.travel),
         }
     }
 
     /// Returns the machine with these values in place of its own, and with its margins kept: each
     /// fixture is larger by the margin on all six sides, and the travel limits are nearer by the
-    /// travel margin.
+    /// travel margin. The margin to fixtures is at least how far a motor may stand from the path.
     ///
     /// Returns 265 if the start is outside the limits then, and otherwise 267 if a corner of a
     /// fixture is over 4*10^9 nm in size.
@@ -104,7 +117,7 @@ impl Demands {
             (λ met. demanded self.now (file_of machine) ≡ Ok (file_of met))
             (λ fault. demanded self.now (file_of machine) ≡ Err fault) }
     {
-        let margins = self.margins(&machine.margins);
+        let margins = self.margins(machine.motors().slack(), &machine.margins);
         let low = raised(margins.travel, &machine.low);
         let high = lowered(margins.travel, &machine.high);
         if !is_between(&low, &machine.start, &high) {

@@ -1,1 +1,2 @@
 pub mod Commanded
+pub mod Calls

@@ -1,4 +1,5 @@
 //! Laws about the definitions only.
+ghost use Rattle.ngc_motor_laws.specs.Calls.{BuiltInFits, FilesFit};
 ghost use Rattle.ngc_motor_laws.specs.Commanded.{CommandedIsSafe, CommandedRunsSafely};
 
 /// States that motors with steps of their own command only safe positions, if fixtures are kept off
@@ -8,4 +9,11 @@ ghost use Rattle.ngc_motor_laws.specs.Commanded.{CommandedIsSafe, CommandedRunsS
 pub fn commanded_positions_are_safe()
     ensures positions { CommandedIsSafe }
     ensures runs { CommandedRunsSafely }
+{}
+
+/// States that the machine of each call is such a machine, whatever its file and its options say: one
+/// of a file, or the one without a file.
+pub fn machines_of_calls_fit()
+    ensures files { FilesFit }
+    ensures built_in { BuiltInFits }
 {}

@@ -1,6 +1,6 @@
 -- Worked rows: a grid of 0.0025 mm with a motor of 0.01 mm, and one of 0.005292 mm with 0.025 mm.
 use Rattle.std.proofs.Common.{◌≡◌, refl, pos, negsuc, ◌*ℤ◌}
-use Rattle.ngc_motors.specs.Counts.{count}
+use Rattle.ngc_motors.specs.Counts.{count, slack}
 
 -- 0.0125 mm is 1.25 steps; 0.015 mm is 1.5 steps, a tie, and so is -0.015 mm
 above_one : count (pos 10000) (pos 5 *ℤ pos 2500) ≡ pos 1
@@ -25,3 +25,15 @@ more_than_half = refl
 -- steps of the grid's length are counted one by one
 same : count (pos 10000) (negsuc 6 *ℤ pos 10000) ≡ negsuc 6
 same = refl
+
+-- ---- the slack
+
+mixed : slack (record { grid = pos 3125; steps = record { x = pos 25000; y = pos 25000; z = pos 3125 } }) ≡ pos 12500
+mixed = refl
+
+-- 40 and 188.947 steps a millimetre: a half of 25,001 nm is rounded up
+odd : slack (record { grid = pos 5292; steps = record { x = pos 25001; y = pos 25000; z = pos 5292 } }) ≡ pos 12501
+odd = refl
+
+equal : slack (record { grid = pos 10000; steps = record { x = pos 10000; y = pos 10000; z = pos 10000 } }) ≡ pos 0
+equal = refl

@@ -1,7 +1,8 @@
 -- Motors of which one step may be longer than a step of the path's grid. A motor stands at a whole
 -- number of its steps, its count. Our own.
-use Rattle.std.specs.Prelude.{ℤ, pos, ◌+ℤ◌, ◌*ℤ◌, int_le, Bool, ◌&&◌, IsTrue, Option, Some, None, if◌then◌else◌}
-use Rattle.std.specs.Int.{int_div_euclid}
+use Rattle.std.specs.Prelude.{ℤ, pos, ◌+ℤ◌, ◌*ℤ◌, int_le, Bool, ◌&&◌, IsTrue, if◌then◌else◌}
+use Rattle.std.specs.Int.{int_div_euclid, int_max}
+use Rattle.std.specs.Ordering.{int_eq}
 use Rattle.ngc_fixed_length.specs.Length.{IsStep}
 use Rattle.ngc_fixed_length.specs.declared.points.Point3.{Point3}
 use Rattle.ngc_fixed_length.specs.declared.points.StepPos.{StepPos}
@@ -20,11 +21,6 @@ pub record AreMotors (m : MotorData) : Type 0 where
   pub x : IsTrue (is_motor m.grid m.steps.x)
   pub y : IsTrue (is_motor m.grid m.steps.y)
   pub z : IsTrue (is_motor m.grid m.steps.z)
-
-abbrev pub motors_with : ℤ → Point3 → Option MotorData
-motors_with grid steps =
-    if is_motor grid steps.x && (is_motor grid steps.y && is_motor grid steps.z)
-    then Some (record { grid = grid; steps = steps }) else None
 
 -- the count of a motor for a place on its axis in nanometres: the whole number of its steps that is
 -- nearest to the place; of two that are equally near, the greater one
@@ -50,3 +46,14 @@ commanded m p = record {
   y = commanded_place m.steps.y (p.y *ℤ m.grid);
   z = commanded_place m.steps.z (p.z *ℤ m.grid);
 }
+
+-- the longest of three steps
+abbrev pub longest : Point3 → ℤ
+longest steps = int_max (int_max steps.x steps.y) steps.z
+
+-- How far a motor may stand from the place on its axis that the path is at: half of the longest step,
+-- rounded up. Motors with the step of the grid stand at its points.
+abbrev pub slack : MotorData → ℤ
+slack m =
+    if int_eq (longest m.steps) m.grid then pos 0
+    else int_div_euclid (longest m.steps +ℤ pos 1) (pos 2)

@@ -1,5 +1,5 @@
-ghost use Rattle.std.specs.Prelude.{◌≡◌, ◌≤◌, ◌<ℤ◌, ◌*ℤ◌, pos, unsigned_abs, IsTrue};
-ghost use Rattle.ngc_fixed_length.specs.Grid.{IsInRange};
+ghost use Rattle.std.specs.Prelude.{◌≡◌, ◌≤◌, ◌≤ℤ◌, ◌<ℤ◌, ◌+ℤ◌, ◌*ℤ◌, pos, unsigned_abs, IsTrue};
+ghost use Rattle.std.specs.Int.{int_div_euclid};
 ghost use Rattle.ngc_fixed_length.specs.Length.{IsStep};
 ghost use Rattle.ngc_motors.specs.Counts.{AreMotors, MotorData};
 ghost use Rattle.ngc_motors.specs.Counts as spec;
@@ -26,22 +26,30 @@ impl Model for Motors {
 }
 
 impl Motors {
-    /// Returns the motors with these steps, or `None` if one is shorter than the grid's or longer
-    /// than 1 mm.
-    pub fn new(grid: Nm, steps: Point3) -> Option<Motors>
-        requires { IsStep grid }
-        ensures { result ≡ spec.motors_with grid steps }
+    /// Returns the motors with these steps.
+    pub fn new(grid: Nm, steps: Point3) -> Motors
+        requires { AreMotors (record { grid = grid; steps = steps }) }
+        ensures { result ≡ record { grid = grid; steps = steps } }
     {
-        if is_motor(grid, steps.x) && is_motor(grid, steps.y) && is_motor(grid, steps.z) {
-            Some(Motors { grid, steps })
-        } else {
-            None
+        Motors { grid, steps }
+    }
+
+    /// Returns how far a motor may stand from the place on its axis that the path is at: half of the
+    /// longest step, rounded up, or 0 if each motor has the grid's step.
+    pub fn slack(&self) -> Nm
+        ensures value { result ≡ spec.slack self.now }
+        ensures least { pos 0 ≤ℤ result }
+        ensures most { result ≤ℤ pos 500000 }
+    {
+        let longest = longest(&self.steps);
+        if longest == self.grid.nanometres() {
+            return Nm::zero();
         }
+        length(half(longest))
     }
 
     /// Returns the counts of the motors for a grid point.
     pub fn counts(&self, point: &StepPos) -> StepPos
-        requires { IsInRange point.now }
         ensures { result ≡ spec.counts self.now point.now }
     {
         StepPos {
@@ -52,17 +60,37 @@ impl Motors {
     }
 }
 
-fn is_motor(grid: Nm, step: Nm) -> bool
-    ensures { result ≡ spec.is_motor grid step }
+fn longest(steps: &Point3) -> i64
+    ensures { result ≡ spec.longest steps.now }
 {
-    grid <= step && step.nanometres() <= 1_000_000
+    steps
+        .x
+        .nanometres()
+        .max(steps.y.nanometres())
+        .max(steps.z.nanometres())
+}
+
+// Returns half of a motor's step, rounded up.
+fn half(step: i64) -> i64
+    requires least { pos 0 ≤ℤ step }
+    requires most { step ≤ℤ pos 1000000 }
+    ensures { result ≡ int_div_euclid (step +ℤ pos 1) (pos 2) }
+{
+    (step + 1).div_euclid(2)
+}
+
+fn length(nanometres: i64) -> Nm
+    requires { unsigned_abs nanometres ≤ 1000000 }
+    ensures { result ≡ nanometres }
+{
+    Nm::from_nanometres(i128::from(nanometres)).unwrap()
 }
 
 // Returns a motor's count for a place on its axis in nanometres.
 fn count_at(step: i64, place: i64) -> i64
     requires some { pos 0 <ℤ step }
     requires motor { unsigned_abs step ≤ 1000000 }
-    requires place { unsigned_abs place ≤ 10000000000000 }
+    requires place { unsigned_abs place ≤ 200000000000000 }
     ensures { result ≡ spec.count step place }
 {
     (place + place + step).div_euclid(step + step)
@@ -72,9 +100,14 @@ fn count_at(step: i64, place: i64) -> i64
 fn count(grid: Nm, step: Nm, place: i32) -> i32
     requires grid { IsStep grid }
     requires motor { IsTrue (spec.is_motor grid step) }
-    requires place { unsigned_abs place ≤ 200000000 }
     ensures { result ≡ spec.count step (place *ℤ grid) }
 {
-    let place = i64::from(place) * grid.nanometres();
-    count_at(step.nanometres(), place) as i32
+    let unit = grid.nanometres();
+    let motor = step.nanometres();
+    // Most machines have such motors, and there are millions of steps.
+    if motor == unit {
+        return place;
+    }
+    let place = i64::from(place) * unit;
+    count_at(motor, place) as i32
 }

@@ -30,6 +30,7 @@ vise = record {
 abbrev mill : MachineFile
 mill = record {
   step = built_in_machine.step;
+  motor_steps = built_in_machine.motor_steps;
   ticks_per_second = built_in_machine.ticks_per_second;
   max_rate = built_in_machine.max_rate;
   axis_rates = built_in_machine.axis_rates;

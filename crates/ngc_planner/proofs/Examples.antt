@@ -150,6 +150,7 @@ no_room_to_stop = refl
 abbrev pub jumping : ℕ → MachineFile
 jumping jump = record {
   step = pos 10000;
+  motor_steps = built_in_machine.motor_steps;
   ticks_per_second = 10000;
   max_rate = 400000;
   axis_rates = record { x = 1000000; y = 1000000; z = 1000000 };

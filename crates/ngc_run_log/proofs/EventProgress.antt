@@ -10,8 +10,7 @@ use Rattle.ngc_machine_model.specs.Step.{Outcome, Step}
 use Rattle.ngc_machine_model.specs.Run.{events_of}
 use Rattle.ngc_machine_model.specs.Progress.{GoesOn}
 use Rattle.ngc_run_through.specs.declared.recorder.Recorder.{Recorder}
-use Rattle.ngc_run_through.specs.Tracing.{trace_text}
-use Rattle.ngc_run_through.specs.Recording.{HasFew, Records, IsRecorded, IsCutShort}
+use Rattle.ngc_run_through.specs.Recording.{HasFew, Records, IsRecorded, IsCutShort, next_text}
 use Rattle.ngc_run_through.proofs.RunParts.{recorded_both, cut_after, one_recorded, one_cut, few_more}
 
 -- ---- one more event of a line
@@ -34,7 +33,7 @@ turns_left e k n h =
     ∙ ap (λ m. replicate m e) all
 
 pub turn_cut : (job at : Job) (s t u : State) (a b : Recorder) (x y z : Option (List ℕ)) (e : Event) (o : Outcome) (k n : ℕ) → at ≡ job → k < n
-    → IsRecorded job s t a b x y (replicate k e) → Step at t e o u → GoesOn at t e u → AppendsPrefix y z (b.chunk ++ trace_text b.trace (o ∷ [])) →
+    → IsRecorded job s t a b x y (replicate k e) → Step at t e o u → GoesOn at t e u → AppendsPrefix y z (b.chunk ++ next_text b (o ∷ [])) →
     IsCutShort job s a x z (replicate n e)
 turn_cut job at s t u a b x y z e o k n same h done does goes wrote =
     let S : Job → Type 0 = λ j. Step j t e o u in

@@ -21,8 +21,7 @@ use Rattle.ngc_machine_model.specs.Stretch.{last_state, Stretch}
 use Rattle.ngc_run_through.specs.declared.recorder.Recorder.{Recorder}
 use Rattle.ngc_run_log.specs.Feeding.{AreBegun, AreSent, IsFed, IsFedShort, IsLoaded, loads_first}
 use Rattle.ngc_run_through.specs.Policy.{can_load}
-use Rattle.ngc_run_through.specs.Recording.{HasFew, IsCutShort, IsRecorded, Records}
-use Rattle.ngc_run_through.specs.Tracing.{trace_text}
+use Rattle.ngc_run_through.specs.Recording.{HasFew, IsCutShort, IsRecorded, Records, next_text}
 use Rattle.ngc_run_log.proofs.EventProgress.{turns_left}
 use Rattle.ngc_run_through.proofs.RunParts.{begun_behind, few_recorded, none_recorded, one_step, records_joined, same_lengths, stretches_joined}
 
@@ -338,7 +337,7 @@ tick_fed job at s t u a b c x y z k o same p full does goes recorded =
     }
 
 pub tick_cut : (job at : Job) (s t u : State) (a b : Recorder) (x y z : Option (List ℕ)) (k : ℕ) (o : Outcome) → at ≡ job → IsLoaded job s t a b x y k →
-    can_load job t ≡ false → Step at t Tick o u → GoesOn at t Tick u → AppendsPrefix y z (b.chunk ++ trace_text b.trace (o ∷ [])) →
+    can_load job t ≡ false → Step at t Tick o u → GoesOn at t Tick u → AppendsPrefix y z (b.chunk ++ next_text b (o ∷ [])) →
     IsFedShort true job s a x z (Tick ∷ [])
 tick_cut job at s t u a b x y z k o same p full does goes wrote =
     let S : Job → Type 0 = λ j. Step j t Tick o u in
@@ -355,7 +354,7 @@ tick_cut job at s t u a b x y z k o same p full does goes wrote =
 
 -- a load that comes before it, and then a write fails
 pub load_cut : (job at : Job) (s t u : State) (a b : Recorder) (x y z : Option (List ℕ)) (k : ℕ) (r : Reply) → at ≡ job → IsLoaded job s t a b x y k →
-    Step at t Load (Ok r) u → GoesOn at t Load u → AppendsPrefix y z (b.chunk ++ trace_text b.trace (Ok r ∷ [])) →
+    Step at t Load (Ok r) u → GoesOn at t Load u → AppendsPrefix y z (b.chunk ++ next_text b (Ok r ∷ [])) →
     IsFedShort true job s a x z (Tick ∷ [])
 load_cut job at s t u a b x y z k r same p does goes wrote =
     let S : Job → Type 0 = λ j. Step j t Load (Ok r) u in

@@ -17,7 +17,7 @@ use Rattle.ngc_events.specs.declared.event.EventLine.{EventLine}
 use Rattle.ngc_machine_model.specs.Headline.{job_of, RunsInTime, RunsSafely}
 use Rattle.ngc_machine_model.specs.State.{Job, State, opening}
 use Rattle.ngc_machine_model.specs.Step.{Outcome}
-use Rattle.ngc_machine_model.specs.Run.{Run, events_of}
+use Rattle.ngc_machine_model.specs.Run.{Run, events_of, positions}
 use Rattle.ngc_machine_model.specs.Safety.{start_of_job}
 use Rattle.ngc_machine_model.specs.Stretch.{Stretch}
 use Rattle.ngc_pulses.specs.declared.samples.Switch.{Switch}
@@ -38,12 +38,17 @@ use Rattle.ngc_run_through.specs.Log.{log, text_of}
 use Rattle.ngc_run_through.specs.Times.{ticks_after, timed_log}
 use Rattle.ngc_run_through.proofs.Timed.{ticks_after-append, timed_log-append}
 use Rattle.ngc_run_log.specs.Feeding.{AreBegun, AreSent, IsFed, IsFedShort, Processes}
-use Rattle.ngc_run_through.specs.Recording.{HasFew}
+use Rattle.ngc_run_through.specs.Recording.{HasFew, told_by}
 use Rattle.ngc_run_through.specs.Runs.{IsRun}
 use Rattle.ngc_run_through.specs.Switching.{AreSwitches}
 use Rattle.ngc_run_through.specs.Tracing.{last_text, opening_text, sample_in, samples_in, ticks_of, trace_after, trace_of, whole_text}
 use Rattle.ngc_run_through.proofs.RunResults.{all_begun, all_written, in_time_of, opens_of, safe_of, some_begun}
-use Rattle.ngc_run_through.proofs.ResultForms.{are_switches, IsTraceOf, text_of_run}
+use Rattle.ngc_run_through.proofs.ResultForms.{are_switches, IsTraceOf, start_counts, text_of_run}
+use Rattle.ngc_run_through.proofs.Counted.{counted-append}
+use Rattle.ngc_run_through.proofs.CommandedPulses.{run_ends}
+use Rattle.ngc_run_through.specs.Counting.{counted, counted_of, last_position}
+use Rattle.ngc_motors.specs.Counts.{MotorData, counts}
+use Rattle.ngc_machine_files.specs.Machine.{motors_of}
 use Rattle.ngc_run_log.proofs.FeedingLaws.{begun_joined, begun_all, given_joined}
 use Rattle.ngc_run_through.proofs.RunParts.{stretches_joined}
 
@@ -110,7 +115,7 @@ more_paused (live.Samples inverted) start s os ps =
 
 -- the trace with which the job began, with what its commands switch as it is borrowed now
 abbrev began : LiveForm → Job → Switches → Trace
-began form job s = trace_of (form_of form) job.machine.ticks_per_second (start_of_job job) s
+began form job s = trace_of (form_of form) job.machine.ticks_per_second (start_counts job) s
 
 is_began : (form : LiveForm) (job : Job) (list : List Switch) (s : Switches) → IsReady form job list → s.list.now ≡ list →
     IsTraceOf (form_of form) job (began form job s)
@@ -124,15 +129,15 @@ is_began form job list s ready same = record {
 
 -- and the trace that continues after outcomes
 abbrev pub afterwards : LiveForm → LiveData → Switches → List Outcome → Trace
-afterwards form live s outcomes = trace_from (paused form (start_of_job live.job) s.list.now outcomes) s
+afterwards form live s outcomes = trace_from (paused form (start_counts live.job) s.list.now (counted_of live.job outcomes)) s
 
 goes_on : (form : LiveForm) (live : LiveData) (lines : List EventLine) (first x : Option (List ℕ)) (s : Switches) (h : HasRun form live lines first x) →
     s.list.now ≡ live.switches → trace_from live.paused s ≡ afterwards form live s h.outcomes
 goes_on form live lines first x s h same =
-    ap (λ o. trace_from o s) (h.paused ∙ ap (λ l. paused form (start_of_job live.job) l h.outcomes) (sym same))
+    ap (λ o. trace_from o s) (h.paused ∙ ap (λ l. paused form (start_counts live.job) l (counted_of live.job h.outcomes)) (sym same))
 
 wrote_before : (form : LiveForm) (live : LiveData) (lines : List EventLine) (first x : Option (List ℕ)) (s : Switches) (h : HasRun form live lines first x) →
-    s.list.now ≡ live.switches → Appends first x (whole_text (began form live.job s) h.outcomes)
+    s.list.now ≡ live.switches → Appends first x (whole_text (began form live.job s) (counted_of live.job h.outcomes))
 wrote_before form live lines first x s h same =
     subst (Appends first x)
     (sym (text_of_run (form_of form) live.job (began form live.job s) h.given h.outcomes h.run.states
@@ -155,24 +160,44 @@ stretch_of form live lines first x h = record { states = h.run.states; runs = h.
 events_both : (xs ys : List EventLine) → events_of (xs ++ ys) ≡ events_of xs ++ events_of ys
 events_both xs ys = flat_map-append _ xs ys
 
+-- a new recorder is for the run's motors, where the machine is now
+pub record IsHere (a : Recorder) (live : LiveData) : Type 0 where
+  pub motors : a.motors ≡ motors_of live.job.machine
+  pub place : a.report.position ≡ live.state.position
+
+-- so its text continues that of the run
+told_on : (form : LiveForm) (live : LiveData) (lines : List EventLine) (first x : Option (List ℕ)) (a : Recorder) (ps : List Outcome) →
+    (h : HasRun form live lines first x) → IsHere a live →
+    counted_of live.job (h.outcomes ++ ps) ≡ counted_of live.job h.outcomes ++ told_by a ps
+told_on form live lines first x a ps h here =
+    let m : MotorData = motors_of live.job.machine in
+    let start : StepPos = start_of_job live.job in
+    let M : MotorData → List Outcome = λ k. counted k a.report.position ps in
+    let P : StepPos → List Outcome = λ q. counted m q ps in
+    let ends = run_ends live.job h.given h.outcomes h.run.states h.ready.machine h.ready.joined h.run.runs in
+    let at : a.report.position ≡ last_position start (positions h.outcomes) = here.place ∙ ap (λ (k : State). k.position) h.reached ∙ sym ends in
+    counted-append m start h.outcomes ps ∙ ap (λ l. counted_of live.job h.outcomes ++ l) (sym (ap M here.motors ∙ ap P at))
+
 -- the text of the run with more outcomes
 text_with : (form : LiveForm) (live : LiveData) (lines : List EventLine) (first x : Option (List ℕ)) (s : Switches) (h : HasRun form live lines first x)
-    (events : List Event) (ps : List Outcome) (states : List State) → s.list.now ≡ live.switches →
+    (events : List Event) (ps told : List Outcome) (states : List State) → s.list.now ≡ live.switches →
+    counted_of live.job (h.outcomes ++ ps) ≡ counted_of live.job h.outcomes ++ told →
     Run live.job (opening live.job.machine) events (h.outcomes ++ ps) states →
-    whole_text (began form live.job s) h.outcomes ++ whole_text (afterwards form live s h.outcomes) ps
+    whole_text (began form live.job s) (counted_of live.job h.outcomes) ++ whole_text (afterwards form live s h.outcomes) told
     ≡ text_as (form_of form) live.job events (h.outcomes ++ ps) states
-text_with form live lines first x s h events ps states same runs =
-    sym (more_text form live.job.machine.ticks_per_second (start_of_job live.job) s h.outcomes ps)
+text_with form live lines first x s h events ps told states same more runs =
+    sym (more_text form live.job.machine.ticks_per_second (start_counts live.job) s (counted_of live.job h.outcomes) told)
+    ∙ ap (whole_text (began form live.job s)) (sym more)
     ∙ text_of_run (form_of form) live.job (began form live.job s) events (h.outcomes ++ ps) states
     (is_began form live.job live.switches s h.ready same) runs
 
 -- all is written
 runs_on : (form : LiveForm) (live : LiveData) (t : State) (arriving : Arriving) (o : TextState) (lines more : List EventLine)
-    (first x y z : Option (List ℕ)) (s : Switches) (a b : Recorder) → HasRun form live lines first x →
+    (first x y z : Option (List ℕ)) (s : Switches) (a b : Recorder) → HasRun form live lines first x → IsHere a live →
     s.list.now ≡ live.switches → a.trace ≡ trace_from live.paused s → a.chunk ≡ opening_text (trace_from live.paused s) →
     IsFed live.feeds live.job live.state t a b x y (events_of more) → Appends y z (b.chunk ++ last_text b.trace) → o ≡ paused_at b.trace →
     HasRun form (record { job = live.job; state = t; arriving = arriving; switches = live.switches; paused = o; feeds = live.feeds }) (lines ++ more) first z
-runs_on form live t arriving o lines more first x y z s a b h same trace chunk done wrote settles =
+runs_on form live t arriving o lines more first x y z s a b h here same trace chunk done wrote settles =
     let job : Job = live.job in
     let os : List Outcome = h.outcomes in
     let ps : List Outcome = done.outcomes in
@@ -182,7 +207,10 @@ runs_on form live t arriving o lines more first x y z s a b h same trace chunk d
     let G : State → Type 0 = λ k. AreSent live.feeds job k (events_of more) done.given done.stretch.states in
     let E : List Event → Type 0 = λ es. AreSent live.feeds job (opening job.machine) es given (h.run.states ++ done.stretch.states) in
     let on : trace_from live.paused s ≡ afterwards form live s os = goes_on form live lines first x s h same in
-    let now : Appends x z (whole_text (afterwards form live s os) ps) =
+    let told : List Outcome = told_by a ps in
+    let begins : List Outcome = counted_of job os in
+    let more_told = told_on form live lines first x a ps h here in
+    let now : Appends x z (whole_text (afterwards form live s os) told) =
     all_written (afterwards form live s os) a b x y z done.given ps (trace ∙ on) (chunk ∙ ap opening_text on) done.records wrote in
     record {
       given = given;
@@ -193,13 +221,14 @@ runs_on form live t arriving o lines more first x y z s a b h same trace chunk d
           (given_joined live.feeds job (opening job.machine) (events_of lines) (events_of more) h.given done.given h.run.states done.stretch.states
           h.are_sent (subst G h.reached done.are_sent));
       written =
-          subst (Appends first z) (text_with form live lines first x s h given ps stretch.states same stretch.runs)
-          (appends_both first x z (whole_text (began form job s) os) (whole_text (afterwards form live s os) ps) (wrote_before form live lines first x s h same) now);
+          subst (Appends first z) (text_with form live lines first x s h given ps told stretch.states same more_told stretch.runs)
+          (appends_both first x z (whole_text (began form job s) begins) (whole_text (afterwards form live s os) told) (wrote_before form live lines first x s h same) now);
       reached = stretch.last;
       ready = h.ready;
       paused =
-          settles ∙ ap paused_at (done.records.trace ∙ ap (λ (k : Trace). trace_after k ps) (trace ∙ on))
-          ∙ more_paused form (start_of_job job) s os ps ∙ ap (λ l. paused form (start_of_job job) l (os ++ ps)) same;
+          settles ∙ ap paused_at (done.records.trace ∙ ap (λ (k : Trace). trace_after k told) (trace ∙ on))
+          ∙ more_paused form (start_counts job) s begins told ∙ ap (paused form (start_counts job) s.list.now) (sym more_told)
+          ∙ ap (λ l. paused form (start_counts job) l (counted_of job (os ++ ps))) same;
     }
 
 -- of a run whose parts are the same
@@ -217,31 +246,32 @@ same_parts form live new lines first z job switches feeds h =
     subst F (sym feeds) (subst L (sym switches) (subst J (sym job) h))
 
 pub has_run : (form : LiveForm) (live new : LiveData) (lines more : List EventLine)
-    (first x y z : Option (List ℕ)) (s : Switches) (a b : Recorder) → HasRun form live lines first x →
+    (first x y z : Option (List ℕ)) (s : Switches) (a b : Recorder) → HasRun form live lines first x → IsHere a live →
     s.list.now ≡ live.switches → a.trace ≡ trace_from live.paused s → a.chunk ≡ opening_text (trace_from live.paused s) →
     IsFed live.feeds live.job live.state new.state a b x y (events_of more) → Appends y z (b.chunk ++ last_text b.trace) →
     new.job ≡ live.job → new.switches ≡ live.switches → new.feeds ≡ live.feeds → new.paused ≡ paused_at b.trace →
     HasRun form new (lines ++ more) first z
-has_run form live new lines more first x y z s a b h same trace chunk done wrote job switches feeds settles =
+has_run form live new lines more first x y z s a b h here same trace chunk done wrote job switches feeds settles =
     same_parts form live new (lines ++ more) first z job switches feeds
-    (runs_on form live new.state new.arriving new.paused lines more first x y z s a b h same trace chunk done wrote settles)
+    (runs_on form live new.state new.arriving new.paused lines more first x y z s a b h here same trace chunk done wrote settles)
 
 -- ---- a write failed
 
 breaks : (form : LiveForm) (live : LiveData) (t : State) (lines more : List EventLine) (first x z : Option (List ℕ)) (s : Switches)
-    (given : List Event) (ps : List Outcome) → (h : HasRun form live lines first x) → s.list.now ≡ live.switches →
+    (given : List Event) (ps told : List Outcome) → (h : HasRun form live lines first x) → s.list.now ≡ live.switches →
+    counted_of live.job (h.outcomes ++ ps) ≡ counted_of live.job h.outcomes ++ told →
     (stretch : Stretch live.job live.state t given ps) →
     AreBegun live.feeds live.job live.state (events_of more) given stretch.states →
-    AppendsPrefix x z (whole_text (afterwards form live s h.outcomes) ps) → IsCutRun form live.feeds live.job (lines ++ more) first z
-breaks form live t lines more first x z s given ps h same stretch are wrote =
+    AppendsPrefix x z (whole_text (afterwards form live s h.outcomes) told) → IsCutRun form live.feeds live.job (lines ++ more) first z
+breaks form live t lines more first x z s given ps told h same more_told stretch are wrote =
     let job : Job = live.job in
     let os : List Outcome = h.outcomes in
     let whole : Stretch job (opening job.machine) t (h.given ++ given) (os ++ ps) =
     stretches_joined job (opening job.machine) live.state t h.given given os ps (stretch_of form live lines first x h) stretch in
     let G : State → Type 0 = λ k. AreBegun live.feeds job k (events_of more) given stretch.states in
     let E : List Event → Type 0 = λ es. AreBegun live.feeds job (opening job.machine) es (h.given ++ given) (h.run.states ++ stretch.states) in
-    let old : List ℕ = whole_text (began form job s) os in
-    let now : List ℕ = whole_text (afterwards form live s os) ps in
+    let old : List ℕ = whole_text (began form job s) (counted_of job os) in
+    let now : List ℕ = whole_text (afterwards form live s os) told in
     let P : List ℕ → Type 0 = λ l. AppendsPrefix first z l in
     record {
       given = h.given ++ given;
@@ -252,28 +282,30 @@ breaks form live t lines more first x z s given ps h same stretch are wrote =
           (begun_joined live.feeds job (opening job.machine) (events_of lines) (events_of more) h.given given h.run.states stretch.states
           h.are_sent (subst G h.reached are));
       written =
-          subst P (ap (λ l. old ++ l) (append-nil now) ∙ text_with form live lines first x s h (h.given ++ given) ps whole.states same whole.runs)
+          subst P (ap (λ l. old ++ l) (append-nil now) ∙ text_with form live lines first x s h (h.given ++ given) ps told whole.states same more_told whole.runs)
           (begins_after first x z old now [] (wrote_before form live lines first x s h same) wrote);
     }
 
 -- before all events of a line were processed
 pub cut_within : (form : LiveForm) (live : LiveData) (lines more : List EventLine) (first x z : Option (List ℕ)) (s : Switches)
-    (a : Recorder) → HasRun form live lines first x → s.list.now ≡ live.switches → a.trace ≡ trace_from live.paused s →
+    (a : Recorder) → HasRun form live lines first x → IsHere a live → s.list.now ≡ live.switches → a.trace ≡ trace_from live.paused s →
     a.chunk ≡ opening_text (trace_from live.paused s) → IsFedShort live.feeds live.job live.state a x z (events_of more) →
     IsCutRun form live.feeds live.job (lines ++ more) first z
-cut_within form live lines more first x z s a h same trace chunk cut =
+cut_within form live lines more first x z s a h here same trace chunk cut =
     let on : trace_from live.paused s ≡ afterwards form live s h.outcomes = goes_on form live lines first x s h same in
-    breaks form live cut.reached lines more first x z s cut.given cut.outcomes h same cut.stretch cut.are_begun
+    breaks form live cut.reached lines more first x z s cut.given cut.outcomes (told_by a cut.outcomes) h same
+    (told_on form live lines first x a cut.outcomes h here) cut.stretch cut.are_begun
     (some_begun (afterwards form live s h.outcomes) a x z cut.outcomes (trace ∙ on) (chunk ∙ ap opening_text on) cut.begun)
 
 -- and after it
 pub cut_behind : (form : LiveForm) (live : LiveData) (t : State) (lines more : List EventLine) (first x y z : Option (List ℕ))
-    (s : Switches) (a b : Recorder) → HasRun form live lines first x → s.list.now ≡ live.switches → a.trace ≡ trace_from live.paused s →
+    (s : Switches) (a b : Recorder) → HasRun form live lines first x → IsHere a live → s.list.now ≡ live.switches → a.trace ≡ trace_from live.paused s →
     a.chunk ≡ opening_text (trace_from live.paused s) → IsFed live.feeds live.job live.state t a b x y (events_of more) →
     AppendsPrefix y z (b.chunk ++ last_text b.trace) → IsCutRun form live.feeds live.job (lines ++ more) first z
-cut_behind form live t lines more first x y z s a b h same trace chunk done wrote =
+cut_behind form live t lines more first x y z s a b h here same trace chunk done wrote =
     let on : trace_from live.paused s ≡ afterwards form live s h.outcomes = goes_on form live lines first x s h same in
-    breaks form live t lines more first x z s done.given done.outcomes h same done.stretch
+    breaks form live t lines more first x z s done.given done.outcomes (told_by a done.outcomes) h same
+    (told_on form live lines first x a done.outcomes h here) done.stretch
     (begun_all live.feeds live.job live.state (events_of more) done.given done.stretch.states done.are_sent)
     (all_begun (afterwards form live s h.outcomes) a b x y z done.given done.outcomes (trace ∙ on) (chunk ∙ ap opening_text on) done.records wrote)
 
@@ -326,11 +358,12 @@ joined_of : (a : AcceptedData) (block_delete : Bool) → IsAccepted a → AreJoi
 joined_of a false ok = ok.off_commands.joined
 joined_of a true ok = ok.on_commands.joined
 
-pub nothing_fed : (form : LiveForm) (a : AcceptedData) (block_delete : Bool) (live : LiveData) (position : StepPos) (commands : List Command) (xs : List Switch)
-    (written : Option (List ℕ)) → IsAccepted a → live.job ≡ job_of a.machine (commands_at block_delete a) → live.state ≡ opening a.machine →
-    position ≡ live.state.position → live.paused ≡ first_paused form position → commands ≡ commands_at block_delete a →
+pub nothing_fed : (form : LiveForm) (a : AcceptedData) (block_delete : Bool) (live : LiveData) (at position : StepPos) (motors : MotorData)
+    (commands : List Command) (xs : List Switch) (written : Option (List ℕ)) → IsAccepted a → live.job ≡ job_of a.machine (commands_at block_delete a) →
+    live.state ≡ opening a.machine → at ≡ counts motors position → motors ≡ motors_of live.job.machine → position ≡ live.state.position →
+    live.paused ≡ first_paused form at → commands ≡ commands_at block_delete a →
     AreSwitches (form_of form) commands xs → live.switches ≡ xs → HaveArrived [] [] live.arriving → IsLive form live [] written written
-nothing_fed form a block_delete live position commands xs written ok job opens place samples cs are list arrived =
+nothing_fed form a block_delete live at position motors commands xs written ok job opens stands own place samples cs are list arrived =
     let asked : Job = job_of a.machine (commands_at block_delete a) in
     let joined : AreJoined asked.machine.start (ways_of (actions_of asked.commands)) = joined_of a block_delete ok in
     let safe : RunsSafely live.job = safe_of a block_delete live.job ok job in
@@ -354,6 +387,8 @@ nothing_fed form a block_delete live position commands xs written ok job opens p
           are = subst (λ (j : Job). AreSwitches (form_of form) j.commands live.switches) (sym job)
               (are_switches (form_of form) commands (commands_at block_delete a) xs live.switches cs list are);
         };
-        paused = samples ∙ ap (first_paused form) start ∙ first_is form (start_of_job live.job) live.switches;
+        paused =
+            samples ∙ ap (first_paused form) (stands ∙ ap (λ m. counts m position) own ∙ ap (counts (motors_of live.job.machine)) start)
+            ∙ first_is form (start_counts live.job) live.switches;
       };
     }

@@ -10,8 +10,7 @@ use Rattle.ngc_machine_model.specs.Progress.{is_tick}
 use Rattle.ngc_machine_model.specs.Stretch.{Stretch}
 use Rattle.ngc_run_through.specs.declared.recorder.Recorder.{Recorder}
 use Rattle.ngc_run_through.specs.Policy.{can_load}
-use Rattle.ngc_run_through.specs.Recording.{Records}
-use Rattle.ngc_run_through.specs.Tracing.{trace_text}
+use Rattle.ngc_run_through.specs.Recording.{Records, next_text}
 
 -- A load comes before an event that is sent: the ring is fed, the event is a tick, and the ring has
 -- space for a command that isn't loaded yet.
@@ -67,7 +66,7 @@ pub record IsFedShort (feeds : Bool) (job : Job) (old : State) (before : Recorde
   pub reached : State
   pub stretch : Stretch job old reached given outcomes
   pub are_begun : AreBegun feeds job old sent given stretch.states
-  pub begun : AppendsPrefix written now (before.chunk ++ trace_text before.trace outcomes)
+  pub begun : AppendsPrefix written now (before.chunk ++ next_text before outcomes)
 
 -- the machine processed `count` loads that come before a tick, whatever follows the tick
 pub record IsLoaded (job : Job) (old new : State) (before after : Recorder)

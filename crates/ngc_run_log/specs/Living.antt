@@ -8,6 +8,8 @@ use Rattle.ngc_text.specs.declared.device.DeviceFault.{DeviceFault}
 use Rattle.ngc_text.specs.Failures.{Rises}
 use Rattle.ngc_text.specs.Written.{AppendsPrefix}
 use Rattle.ngc_fixed_length.specs.declared.points.StepPos.{StepPos}
+use Rattle.ngc_motors.specs.Counts.{counts}
+use Rattle.ngc_machine_files.specs.Machine.{motors_of}
 use Rattle.ngc_machine_files.specs.MachineRanges.{IsMachine}
 use Rattle.ngc_commands.specs.Movement.{actions_of, ways_of, AreJoined}
 use Rattle.ngc_events.specs.Arriving.{Arriving, Begins, Ends, HaveArrived, StopsAfter, TakesOne}
@@ -31,6 +33,7 @@ use Rattle.ngc_run_through.specs.declared.text_state.TextState.{TextState}
 use Rattle.ngc_run_through.specs.declared.text_state.TextState.TheVariants as texts
 use Rattle.ngc_run_through.specs.declared.trace.Form.{Form}
 use Rattle.ngc_run_through.specs.declared.trace.Form.TheVariants as forms
+use Rattle.ngc_run_through.specs.Counting.{counted_of}
 use Rattle.ngc_run_through.specs.Forms.{text_as}
 use Rattle.ngc_run_log.specs.Feeding.{AreBegun, AreSent}
 use Rattle.ngc_run_through.specs.Runs.{IsRun}
@@ -46,7 +49,7 @@ form_of (live.Samples inverted) = forms.Samples inverted
 
 -- ---- the text between two pieces
 
--- the text state before the first event, and after outcomes
+-- the text state of motors at these counts before the first event, and after outcomes that have counts
 abbrev pub first_paused : LiveForm → StepPos → TextState
 first_paused live.Log position = texts.Log
 first_paused live.Times position = texts.Times 0
@@ -91,7 +94,8 @@ pub record HasRun (form : LiveForm) (live : LiveData) (lines : List EventLine)
   pub written : Appends first now (text_as (form_of form) live.job given outcomes run.states)
   pub reached : live.state ≡ last_state (opening live.job.machine) run.states
   pub ready : IsReady form live.job live.switches
-  pub paused : live.paused ≡ paused form (start_of_job live.job) live.switches outcomes
+  pub paused : live.paused ≡ paused form (counts (motors_of live.job.machine) (start_of_job live.job)) live.switches
+      (counted_of live.job outcomes)
 
 -- This text has arrived since the start. The events of all lines that are complete in it were
 -- processed, and the whole text of their run was written.

@@ -105,7 +105,8 @@ impl<A: Allocator + Copy> LiveRun<A> {
             Ok(controller) => controller,
             Err(_) => return Err(RunFault::Memory),
         };
-        let paused = first_paused(form, controller.position());
+        let first = controller.motors().counts(&controller.position());
+        let paused = first_paused(form, first);
         Ok(LiveRun {
             controller,
             lines: EventLines::new(),
@@ -177,7 +178,7 @@ impl<A: Allocator + Copy> LiveRun<A> {
             list: self.switches.as_slice(),
         };
         let trace = Trace::going_on(&self.paused, switches);
-        let mut recorder = Recorder::new(trace, self.controller.position());
+        let mut recorder = Recorder::new(trace, self.controller.motors(), self.controller.position());
         match send_line(
             &mut self.controller,
             self.feeds_ring,

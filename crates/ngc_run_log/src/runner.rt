@@ -91,7 +91,7 @@ fn run_lines<A: Allocator + Copy, W: Sink>(
         (W.written sink.new)) }
     ensures failures { CountsFailure (W.failures sink.old) (W.failures sink.new) result }
 {
-    let mut recorder = Recorder::new(trace, controller.position());
+    let mut recorder = Recorder::new(trace, controller.motors(), controller.position());
     for line in lines {
         match run_line(controller, line, &mut recorder, sink) {
             Ok(()) => {}
@@ -127,7 +127,8 @@ fn run_as<A: Allocator + Copy, W: Sink>(
     let switches = Switches {
         list: kept.as_slice(),
     };
-    let trace = Trace::new(form, ticks_per_second, controller.position(), switches);
+    let first = controller.motors().counts(&controller.position());
+    let trace = Trace::new(form, ticks_per_second, first, switches);
     match run_lines(&mut controller, lines, trace, sink) {
         Ok(report) => Ok(report),
         Err(fault) => Err(RunFault::Write(fault)),

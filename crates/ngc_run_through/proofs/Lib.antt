@@ -4,6 +4,8 @@ pub mod TwoParts
 pub mod Timed
 -- The text that outcomes add, in order.
 pub mod Traces
+-- Outcomes by the counts of motors.
+pub mod Counted
 -- The record of ticks without an output.
 pub mod QuietTicks
 -- Parts of a run, in order.
@@ -24,7 +26,7 @@ pub mod PassedMotions
 pub mod WholeRun
 -- A run by itself, part by part.
 pub mod OwnRunParts
--- The pulses of a run are those that its outcomes command.
+-- The pulses of the motors in a run are those that its outcomes command, by their counts.
 pub mod CommandedPulses
 -- The result of a run in one of the forms.
 pub mod ResultForms

@@ -22,8 +22,9 @@ use Rattle.ngc_run_through.specs.declared.report.Report.{Report}
 use Rattle.ngc_run_through.specs.declared.trace.Trace.{Trace}
 use Rattle.ngc_run_through.specs.declared.trace.Trace.TheVariants.{NotReported}
 use Rattle.ngc_run_through.specs.Policy.{next_event, FollowPolicy}
-use Rattle.ngc_run_through.specs.Recording.{Collects, Records}
-use Rattle.ngc_run_through.specs.Runs.{is_refusal, last_position}
+use Rattle.ngc_run_through.specs.Recording.{Collects, Records, next_text, told_by}
+use Rattle.ngc_run_through.specs.Runs.{is_refusal}
+use Rattle.ngc_run_through.specs.Counting.{last_position}
 use Rattle.ngc_run_through.specs.Stretches.{IsUntouched, IsGiven, GoesBy, Works, LeavesBy, TicksBy, FinishesHead, PassesHead, spent, ending_in}
 use Rattle.ngc_run_through.specs.Tracing.{trace_text, trace_after}
 use Rattle.ngc_run_through.proofs.Policy.{still_ticks}
@@ -81,11 +82,11 @@ kept (suc n) job old s (o ∷ os) (x ∷ xs) u here runs some next r k stays =
 -- ---- their record
 
 -- no text is collected
-silent : (a b : Recorder) (os : List Outcome) (x : Option (List ℕ)) → a.trace ≡ NotReported → b.chunk ≡ a.chunk → Collects x x a.chunk (trace_text a.trace os) b.chunk
+silent : (a b : Recorder) (os : List Outcome) (x : Option (List ℕ)) → a.trace ≡ NotReported → b.chunk ≡ a.chunk → Collects x x a.chunk (next_text a os) b.chunk
 silent a b os x none same = record {
   front = [];
   writes = Appends-nil x;
-  splits = ap (λ t. a.chunk ++ trace_text t os) none ∙ append-nil a.chunk ∙ sym same;
+  splits = ap (λ t. a.chunk ++ trace_text t (told_by a os)) none ∙ append-nil a.chunk ∙ sym same;
 }
 
 -- after n ticks with these outcomes
@@ -108,7 +109,8 @@ first_recorded n os a x none fine = record {
     refused = omega (arith, fine);
     position = refl;
   };
-  trace = none ∙ sym (ap (λ t. trace_after t os) none);
+  motors = refl;
+  trace = none ∙ sym (ap (λ t. trace_after t (told_by a os)) none);
   collects = silent a (counted n os a) os x none refl;
 }
 
@@ -126,7 +128,8 @@ last_recorded e p o m b x none told is =
         refused = omega (arith, ap (λ (y : Report). y.refused) report, counted_fine o (ap is_refusal told));
         position = ap (λ (y : Report). y.position) report ∙ ap (λ ps. last_position m.report.position ps) (sym pulse);
       };
-      trace = ap (λ (y : Recorder). y.trace) is ∙ none ∙ sym (ap (λ t. trace_after t (o ∷ [])) none);
+      motors = ap (λ (y : Recorder). y.motors) is;
+      trace = ap (λ (y : Recorder). y.trace) is ∙ none ∙ sym (ap (λ t. trace_after t (told_by m (o ∷ []))) none);
       collects = silent m b (o ∷ []) x none (ap (λ (y : Recorder). y.chunk) is);
     }
 

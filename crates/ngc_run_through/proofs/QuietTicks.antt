@@ -1,5 +1,5 @@
 -- The record of ticks without an output.
-use Rattle.std.proofs.Common.{◌≡◌, ◌+◌, ℕ, zero, suc, List, [], ◌∷◌, ◌++◌, length, replicate, count_by, Option, None, Ok, refl, ap, sym, subst, ◌∙◌, arith}
+use Rattle.std.proofs.Common.{◌≡◌, ◌+◌, ℕ, zero, suc, List, [], ◌∷◌, ◌++◌, length, replicate, count_by, Option, None, Ok, Err, Result, OnOk, refl, ap, sym, subst, ◌∙◌, arith}
 use Rattle.std.specs.List.{AllByRecursion}
 use Rattle.std.proofs.KnownBytes.{Appends-nil}
 use Rattle.std.proofs.lemmas.List.{append-nil}
@@ -21,8 +21,13 @@ use Rattle.ngc_run_through.specs.declared.report.Report.{Report}
 use Rattle.ngc_run_through.specs.declared.trace.Trace.{Trace}
 use Rattle.ngc_run_through.specs.declared.trace.Trace.TheVariants.{Log, Times, Pulses, Samples, NotReported}
 use Rattle.ngc_run_through.specs.Log.{log}
-use Rattle.ngc_run_through.specs.Recording.{Records, IsRecorded}
-use Rattle.ngc_run_through.specs.Runs.{is_refusal, last_position}
+use Rattle.ngc_text.specs.Collected.{WritesPrefix}
+use Rattle.ngc_text.specs.Written.{AppendsPrefix}
+use Rattle.ngc_run_through.specs.Recording.{Counts, Records, IsRecorded, next_text, told_by}
+use Rattle.ngc_run_through.specs.Runs.{is_refusal}
+use Rattle.ngc_run_through.specs.Counting.{counted, counted_outcome, last_position}
+use Rattle.ngc_motors.specs.Counts.{MotorData}
+use Rattle.ngc_fixed_length.specs.declared.points.StepPos.{StepPos}
 use Rattle.ngc_run_through.specs.Through.{IsLoadTickOrStart}
 use Rattle.ngc_run_through.specs.Tracing.{ticks_in, samples_in, trace_text, trace_after}
 use Rattle.ngc_run_through.specs.Times.{ticks_after}
@@ -93,19 +98,69 @@ quiet_rested n d s = ap (λ k. Samples k s) (ap (after_samples d) (quiet_sampled
 
 -- ---- their record
 
-pub quiet_recorded : (n : ℕ) (a b : Recorder) (x : Option (List ℕ)) → b.report ≡ record a.report { ticks = a.report.ticks + n } →
+pub quiet_told : (n : ℕ) (m : MotorData) (p : StepPos) → counted m p (replicate n quiet) ≡ replicate n quiet
+quiet_told zero m p = refl
+quiet_told (suc n) m p = ap (λ l. quiet ∷ l) (quiet_told n m p)
+
+pub quiet_recorded : (n : ℕ) (a b : Recorder) (x : Option (List ℕ)) → b.motors ≡ a.motors → b.report ≡ record a.report { ticks = a.report.ticks + n } →
     b.trace ≡ trace_after a.trace (replicate n quiet) → b.chunk ≡ a.chunk →
     Records (replicate n Tick) (replicate n quiet) a b x x
-quiet_recorded n a b x counted traced same = record {
+quiet_recorded n a b x motors report traced same = record {
   counts = record {
-    ticks = ap (λ (r : Report). r.ticks) counted ∙ ap (λ k. a.report.ticks + k) (sym (quiet_ticks n));
-    path_steps = omega (arith, ap (λ (r : Report). r.path_steps) counted, ap length (quiet_positions n));
-    refused = omega (arith, ap (λ (r : Report). r.refused) counted, quiet_refusals n);
-    position = ap (λ (r : Report). r.position) counted ∙ ap (last_position a.report.position) (sym (quiet_positions n));
+    ticks = ap (λ (r : Report). r.ticks) report ∙ ap (λ k. a.report.ticks + k) (sym (quiet_ticks n));
+    path_steps = omega (arith, ap (λ (r : Report). r.path_steps) report, ap length (quiet_positions n));
+    refused = omega (arith, ap (λ (r : Report). r.refused) report, quiet_refusals n);
+    position = ap (λ (r : Report). r.position) report ∙ ap (last_position a.report.position) (sym (quiet_positions n));
   };
-  trace = traced;
-  collects = record { front = []; writes = Appends-nil x; splits = ap (λ l. a.chunk ++ l) (quiet_text a.trace n) ∙ append-nil a.chunk ∙ sym same };
+  motors = motors;
+  trace = traced ∙ ap (trace_after a.trace) (sym told);
+  collects = record {
+    front = [];
+    writes = Appends-nil x;
+    splits = ap (λ l. a.chunk ++ l) (ap (trace_text a.trace) told ∙ quiet_text a.trace n) ∙ append-nil a.chunk ∙ sym same;
+  };
+} where
+  told : told_by a (replicate n quiet) ≡ replicate n quiet
+  told = quiet_told n a.motors a.report.position
+
+-- an event without a text, and one with a text
+pub one_quiet : (e : Event) (o told : Outcome) (a b : Recorder) (x : Option (List ℕ)) → Counts (e ∷ []) (o ∷ []) a.report b.report → b.motors ≡ a.motors →
+    told ≡ counted_outcome a.motors a.report.position o → told ≡ quiet → b.trace ≡ trace_after a.trace (quiet ∷ []) → b.chunk ≡ a.chunk →
+    Records (e ∷ []) (o ∷ []) a b x x
+one_quiet e o told a b x counts motors is none traced same = record {
+  counts = counts;
+  motors = motors;
+  trace = traced ∙ ap (λ (k : Outcome). trace_after a.trace (k ∷ [])) (sym none ∙ is);
+  collects = record {
+    front = [];
+    writes = Appends-nil x;
+    splits =
+        ap (λ (k : Outcome). a.chunk ++ trace_text a.trace (k ∷ [])) (sym is ∙ none) ∙ ap (λ l. a.chunk ++ l) (quiet_text a.trace 1) ∙ append-nil a.chunk ∙ sym same;
+  };
 }
+
+pub one_told : (e : Event) (o told : Outcome) (a b : Recorder) (x y : Option (List ℕ)) → Counts (e ∷ []) (o ∷ []) a.report b.report → b.motors ≡ a.motors →
+    told ≡ counted_outcome a.motors a.report.position o → b.trace ≡ trace_after a.trace (told ∷ []) →
+    WritesPrefix x y (a.chunk ++ trace_text a.trace (told ∷ [])) b.chunk → Records (e ∷ []) (o ∷ []) a b x y
+one_told e o told a b x y counts motors is traced wrote = record {
+  counts = counts;
+  motors = motors;
+  trace = traced ∙ ap (λ (k : Outcome). trace_after a.trace (k ∷ [])) is;
+  collects = record {
+    front = wrote.0;
+    writes = wrote.1;
+    splits = ap (λ (k : Outcome). a.chunk ++ trace_text a.trace (k ∷ [])) (sym is) ∙ wrote.2;
+  };
+}
+
+pub on_ok_both : {T E : Type 0} {P Q R : Type 0} (r : Result T E) → (P → Q → R) → OnOk r P → OnOk r Q → OnOk r R
+on_ok_both (Ok x) f p q = f p q
+on_ok_both (Err e) f p q = tt
+
+-- and one whose text couldn't be written
+pub one_unwritten : (o told : Outcome) (a : Recorder) (x y : Option (List ℕ)) → told ≡ counted_outcome a.motors a.report.position o →
+    AppendsPrefix x y (a.chunk ++ trace_text a.trace (told ∷ [])) → AppendsPrefix x y (a.chunk ++ next_text a (o ∷ []))
+one_unwritten o told a x y is wrote = subst (λ (k : Outcome). AppendsPrefix x y (a.chunk ++ trace_text a.trace (k ∷ []))) is wrote
 
 -- if the processed events are ticks
 pub quiet_given : (job : Job) (s t : State) (a b : Recorder) (x : Option (List ℕ)) (e : Event) (n : ℕ) → e ≡ Tick →

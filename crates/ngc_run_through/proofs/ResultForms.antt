@@ -14,7 +14,7 @@ use Rattle.ngc_events.specs.declared.reply.Reply.TheVariants.{Loaded, Ticked, He
 use Rattle.ngc_machine_model.specs.Headline.{job_of}
 use Rattle.ngc_machine_model.specs.State.{Job, State, opening}
 use Rattle.ngc_machine_model.specs.Step.{Outcome}
-use Rattle.ngc_machine_model.specs.Run.{Run, pulses}
+use Rattle.ngc_machine_model.specs.Run.{Run}
 use Rattle.ngc_machine_model.specs.Safety.{start_of_job}
 use Rattle.ngc_pulses.specs.declared.samples.Switch.{Switch}
 use Rattle.ngc_pulses.specs.Dumping.{pulses_over}
@@ -31,6 +31,9 @@ use Rattle.ngc_run_through.specs.declared.report.RunFault.TheVariants.{Memory, W
 use Rattle.ngc_run_through.specs.declared.trace.Form.{Form}
 use Rattle.ngc_run_through.specs.declared.trace.Form.TheVariants.{Log, Times, Pulses, Samples}
 use Rattle.ngc_run_through.specs.declared.trace.Trace.{Trace}
+use Rattle.ngc_motors.specs.Counts.{MotorData, counts}
+use Rattle.ngc_machine_files.specs.Machine.{motors_of}
+use Rattle.ngc_run_through.specs.Counting.{counted_of, motor_pulses}
 use Rattle.ngc_run_through.specs.Log.{log}
 use Rattle.ngc_run_through.specs.Times.{timed_log}
 use Rattle.ngc_run_through.specs.Tracing.{tick_in, ticks_in, sample_in, samples_in, switches_in, trace_of, ticks_of, whole_text}
@@ -39,8 +42,13 @@ use Rattle.ngc_run_through.specs.Through.{RunsToEnd}
 use Rattle.ngc_run_through.specs.Forms.{text_as, IsWrittenRun, IsUnwrittenRun, ResultsAs, IsWrittenThrough, IsWrittenOff, RunsToEndAs, IsTracedRun, IsUntracedRun}
 use Rattle.ngc_run_through.specs.Forms.{IsTracedThrough, IsTracedOff}
 use Rattle.ngc_run_through.proofs.CommandedPulses.{run_pulses}
+use Rattle.ngc_run_through.proofs.Counted.{switches_kept}
 
 -- ---- the trace of a job
+
+-- the counts at which a job's motors stand at first
+abbrev pub start_counts : Job → StepPos
+start_counts job = counts (motors_of job.machine) (start_of_job job)
 
 -- the trace with which a job begins, and what makes its text that of the pulses
 pub record IsTraceOf (form : Form) (job : Job) (trace : Trace) : Type 0 where
@@ -48,21 +56,24 @@ pub record IsTraceOf (form : Form) (job : Job) (trace : Trace) : Type 0 where
   pub joined : AreJoined job.machine.start (ways_of (actions_of job.commands))
   pub list : Switches
   pub are : AreSwitches form job.commands list.list.now
-  pub is : trace ≡ trace_of form job.machine.ticks_per_second (start_of_job job) list
+  pub is : trace ≡ trace_of form job.machine.ticks_per_second (start_counts job) list
 
 pub are_switches : (form : Form) (cs ds : List Command) (xs ys : List Switch) → cs ≡ ds → ys ≡ xs → AreSwitches form cs xs → AreSwitches form ds ys
 are_switches form cs ds xs ys same kept are = subst (λ l. AreSwitches form l ys) same (subst (AreSwitches form cs) (sym kept) are)
 
-pub trace_is : (form : Form) (a : AcceptedData) (block_delete : Bool) (trace : Trace) (rate : ℕ) (position : StepPos) (state : State) (list : Switches) → IsAccepted a →
-    AreSwitches form (commands_at block_delete a) list.list.now → trace ≡ trace_of form rate position list →
-    rate ≡ a.machine.ticks_per_second → position ≡ state.position → state ≡ opening a.machine →
+pub trace_is : (form : Form) (a : AcceptedData) (block_delete : Bool) (trace : Trace) (rate : ℕ) (first position : StepPos) (motors : MotorData) (state : State) (list : Switches) →
+    IsAccepted a → AreSwitches form (commands_at block_delete a) list.list.now → trace ≡ trace_of form rate first list →
+    rate ≡ a.machine.ticks_per_second → first ≡ counts motors position → motors ≡ motors_of a.machine → position ≡ state.position → state ≡ opening a.machine →
     IsTraceOf form (job_of a.machine (commands_at block_delete a)) trace
-trace_is form a block_delete trace rate position state list ok are is ticks place opens = record {
+trace_is form a block_delete trace rate first position motors state list ok are is ticks stands own place opens = record {
   machine = ok.machine;
   joined = at block_delete;
   list = list;
   are = are;
-  is = is ∙ ap (λ n. trace_of form n position list) ticks ∙ ap (λ p. trace_of form a.machine.ticks_per_second p list) (place ∙ ap (λ (s : State). s.position) opens);
+  is =
+      is ∙ ap (λ n. trace_of form n first list) ticks
+      ∙ ap (λ p. trace_of form a.machine.ticks_per_second p list)
+      (stands ∙ ap (λ m. counts m position) own ∙ ap (counts (motors_of a.machine)) (place ∙ ap (λ (s : State). s.position) opens));
 } where
   at : (block_delete : Bool) → AreJoined a.machine.start (ways_of (actions_of (commands_at block_delete a)))
   at false = ok.off_commands.joined
@@ -98,21 +109,23 @@ sampled_places list (o ∷ os) =
 
 first_text : (form : Form) (job : Job) (list : Switches) (es : List Event) (os : List Outcome) (xs : List State) → IsMachine job.machine →
     AreJoined job.machine.start (ways_of (actions_of job.commands)) → AreSwitches form job.commands list.list.now → Run job (opening job.machine) es os xs →
-    whole_text (trace_of form job.machine.ticks_per_second (start_of_job job) list) os ≡ text_as form job es os xs
-first_text Log job list es os xs machine joined are r = append-nil (log os)
-first_text Times job list es os xs machine joined are r = append-nil (timed_log 0 os)
+    whole_text (trace_of form job.machine.ticks_per_second (start_counts job) list) (counted_of job os) ≡ text_as form job es os xs
+first_text Log job list es os xs machine joined are r = append-nil (log (counted_of job os))
+first_text Times job list es os xs machine joined are r = append-nil (timed_log 0 (counted_of job os))
 first_text (Samples inverted) job list es os xs machine joined are r =
-    whole_samples inverted (start_of_job job) (samples_in list.list.now os)
-    ∙ ap (λ ticks. samples inverted (pulses_over (start_of_job job) ticks) (switches_in list.list.now os)) (sampled_places list.list.now os)
-    ∙ ap (λ ps. samples inverted ps (switches_in list.list.now os)) (sym (run_pulses job es os xs machine joined r))
-    ∙ ap (λ l. samples inverted (pulses (start_of_job job) es xs) (switches_in l os)) are
+    let told : List Outcome = counted_of job os in
+    whole_samples inverted (start_counts job) (samples_in list.list.now told)
+    ∙ ap (λ ticks. samples inverted (pulses_over (start_counts job) ticks) (switches_in list.list.now told)) (sampled_places list.list.now told)
+    ∙ ap (λ ps. samples inverted ps (switches_in list.list.now told)) (sym (run_pulses job es os xs machine joined r))
+    ∙ ap (samples inverted (motor_pulses job es xs)) (switches_kept list.list.now (motors_of job.machine) (start_of_job job) os)
+    ∙ ap (λ l. samples inverted (motor_pulses job es xs) (switches_in l os)) are
 first_text Pulses job list es os xs machine joined are r =
-    whole_dump job.machine.ticks_per_second (start_of_job job) (ticks_in os)
+    whole_dump job.machine.ticks_per_second (start_counts job) (ticks_in (counted_of job os))
     ∙ ap (vcd job.machine.ticks_per_second) (sym (run_pulses job es os xs machine joined r))
 
 pub text_of_run : (form : Form) (job : Job) (trace : Trace) (es : List Event) (os : List Outcome) (xs : List State) → IsTraceOf form job trace →
-    Run job (opening job.machine) es os xs → whole_text trace os ≡ text_as form job es os xs
-text_of_run form job trace es os xs t r = ap (λ (x : Trace). whole_text x os) t.is ∙ first_text form job t.list es os xs t.machine t.joined t.are r
+    Run job (opening job.machine) es os xs → whole_text trace (counted_of job os) ≡ text_as form job es os xs
+text_of_run form job trace es os xs t r = ap (λ (x : Trace). whole_text x (counted_of job os)) t.is ∙ first_text form job t.list es os xs t.machine t.joined t.are r
 
 -- ---- the result of a run
 

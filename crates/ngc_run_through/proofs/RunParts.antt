@@ -17,10 +17,13 @@ use Rattle.ngc_machine_model.specs.Progress.{KeepGoing, GoesOn, is_tick}
 use Rattle.ngc_run_through.specs.declared.report.Report.{Report}
 use Rattle.ngc_run_through.specs.declared.recorder.Recorder.{Recorder}
 use Rattle.ngc_run_through.specs.Tracing.{trace_text, trace_after, ticks_of}
-use Rattle.ngc_run_through.specs.Runs.{is_refusal, last_position}
+use Rattle.ngc_run_through.specs.Runs.{is_refusal}
+use Rattle.ngc_run_through.specs.Counting.{counted, last_position}
+use Rattle.ngc_motors.specs.Counts.{MotorData}
 use Rattle.ngc_run_through.specs.declared.trace.Trace.{Trace}
 use Rattle.ngc_machine_model.specs.Stretch.{last_state, Stretch}
-use Rattle.ngc_run_through.specs.Recording.{Counts, HasFew, Collects, Records, IsRecorded, IsCutShort}
+use Rattle.ngc_run_through.specs.Recording.{Counts, HasFew, Collects, Records, IsRecorded, IsCutShort, next_text, told_by}
+use Rattle.ngc_run_through.proofs.Counted.{counted-append, counted-length, last_position-append}
 use Rattle.ngc_run_through.proofs.Traces.{trace_text-append, trace_after-append, trace_text-none, trace_after-none, few_ticks}
 
 -- ---- lists
@@ -31,10 +34,6 @@ count_by-append p xs ys = sum_by-append (λ x. cond (p x) 1 0) xs ys
 pub last_state-append : (s : State) (xs ys : List State) → last_state s (xs ++ ys) ≡ last_state (last_state s xs) ys
 last_state-append s [] ys = refl
 last_state-append s (x ∷ xs) ys = last_state-append x xs ys
-
-last_position-append : (p : StepPos) (xs ys : List StepPos) → last_position p (xs ++ ys) ≡ last_position (last_position p xs) ys
-last_position-append p [] ys = refl
-last_position-append p (x ∷ xs) ys = last_position-append x xs ys
 
 -- ---- runs
 
@@ -115,31 +114,44 @@ begun_after a b c x y s t p q =
 
 -- ---- the record
 
+-- the text of more outcomes continues from where the record of the first ones ends
+pub told_next : (es : List Event) (os ps : List Outcome) (a b : Recorder) (x y : Option (List ℕ)) → Records es os a b x y →
+    told_by a (os ++ ps) ≡ told_by a os ++ told_by b ps
+told_next es os ps a b x y p =
+    let M : MotorData → List Outcome = λ m. counted m b.report.position ps in
+    let P : StepPos → List Outcome = λ q. counted a.motors q ps in
+    counted-append a.motors a.report.position os ps ∙ ap (λ l. told_by a os ++ l) (sym (ap M p.motors ∙ ap P p.counts.position))
+
 pub records_joined : (es fs : List Event) (os ps : List Outcome) (a b c : Recorder) (x y z : Option (List ℕ)) → Records es os a b x y → Records fs ps b c y z →
     Records (es ++ fs) (os ++ ps) a c x z
 records_joined es fs os ps a b c x y z p q =
     let C : List ℕ → Type 0 = λ text. Collects x z a.chunk text c.chunk in
-    let T : Trace → Type 0 = λ t. Collects y z b.chunk (trace_text t ps) c.chunk in
+    let T : Trace → Type 0 = λ t. Collects y z b.chunk (trace_text t (told_by b ps)) c.chunk in
+    let told = told_next es os ps a b x y p in
     record {
       counts = counts_joined es fs os ps a.report b.report c.report p.counts q.counts;
-      trace = q.trace ∙ ap (λ t. trace_after t ps) p.trace ∙ sym (trace_after-append a.trace os ps);
+      motors = q.motors ∙ p.motors;
+      trace =
+          q.trace ∙ ap (λ t. trace_after t (told_by b ps)) p.trace ∙ sym (trace_after-append a.trace (told_by a os) (told_by b ps))
+          ∙ ap (trace_after a.trace) (sym told);
       collects =
-          subst C (sym (trace_text-append a.trace os ps))
-          (collected_both x y z a.chunk b.chunk c.chunk (trace_text a.trace os) (trace_text (trace_after a.trace os) ps) p.collects
+          subst C (sym (ap (trace_text a.trace) told ∙ trace_text-append a.trace (told_by a os) (told_by b ps)))
+          (collected_both x y z a.chunk b.chunk c.chunk (next_text a os) (trace_text (trace_after a.trace (told_by a os)) (told_by b ps)) p.collects
           (subst T p.trace q.collects));
     }
 
 pub begun_behind : (es : List Event) (os ps : List Outcome) (a b : Recorder) (x y z : Option (List ℕ)) → Records es os a b x y →
-    AppendsPrefix y z (b.chunk ++ trace_text b.trace ps) → AppendsPrefix x z (a.chunk ++ trace_text a.trace (os ++ ps))
+    AppendsPrefix y z (b.chunk ++ next_text b ps) → AppendsPrefix x z (a.chunk ++ next_text a (os ++ ps))
 begun_behind es os ps a b x y z p q =
     let P : List ℕ → Type 0 = λ text. AppendsPrefix x z (a.chunk ++ text) in
-    let T : Trace → Type 0 = λ t. AppendsPrefix y z (b.chunk ++ trace_text t ps) in
-    subst P (sym (trace_text-append a.trace os ps))
-    (begun_after x y z a.chunk b.chunk (trace_text a.trace os) (trace_text (trace_after a.trace os) ps) p.collects (subst T p.trace q))
+    let T : Trace → Type 0 = λ t. AppendsPrefix y z (b.chunk ++ trace_text t (told_by b ps)) in
+    subst P (sym (ap (trace_text a.trace) (told_next es os ps a b x y p) ∙ trace_text-append a.trace (told_by a os) (told_by b ps)))
+    (begun_after x y z a.chunk b.chunk (next_text a os) (trace_text (trace_after a.trace (told_by a os)) (told_by b ps)) p.collects (subst T p.trace q))
 
 pub none_recorded : (a : Recorder) (x : Option (List ℕ)) → Records [] [] a a x x
 none_recorded a x = record {
   counts = record { ticks = omega arith; path_steps = omega arith; refused = omega arith; position = refl };
+  motors = refl;
   trace = sym (trace_after-none a.trace);
   collects = record { front = []; writes = Appends-nil x; splits = ap (λ l. a.chunk ++ l) (trace_text-none a.trace) ∙ append-nil a.chunk };
 }
@@ -191,7 +203,7 @@ one_recorded job s t a b x y e o does goes recorded = record { outcomes = o ∷ 
 
 -- one event, whose text can't be collected
 pub one_cut : (job : Job) (s t : State) (a : Recorder) (x y : Option (List ℕ)) (e : Event) (o : Outcome) → Step job s e o t → GoesOn job s e t
-    → AppendsPrefix x y (a.chunk ++ trace_text a.trace (o ∷ [])) → IsCutShort job s a x y (e ∷ [])
+    → AppendsPrefix x y (a.chunk ++ next_text a (o ∷ [])) → IsCutShort job s a x y (e ∷ [])
 one_cut job s t a x y e o does goes wrote = record {
   given = e ∷ [];
   left = [];
@@ -223,7 +235,8 @@ few_recorded a b x y es os n m p lengths few h = record {
     path_steps = omega (arith, p.counts.path_steps, few.report.path_steps, few_positions os one_position, lengths);
     refused = omega (arith, p.counts.refused, few.report.refused, count_by-le-length is_refusal os, lengths);
   };
-  ticks = omega (arith, ap ticks_of p.trace, few_ticks a.trace os, few.ticks, lengths);
+  ticks =
+      omega (arith, ap ticks_of p.trace, few_ticks a.trace (told_by a os), counted-length a.motors a.report.position os, few.ticks, lengths);
 }
 
 pub few_more : (job : Job) (s t : State) (a b : Recorder) (x y : Option (List ℕ)) (es : List Event) (n m : ℕ) → IsRecorded job s t a b x y es → HasFew n a →

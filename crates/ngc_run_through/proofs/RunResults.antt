@@ -20,24 +20,29 @@ use Rattle.ngc_run_through.specs.declared.recorder.Recorder.{Recorder}
 use Rattle.ngc_run_through.specs.declared.trace.Trace.{Trace}
 use Rattle.ngc_run_through.specs.Tracing.{opening_text, trace_text, trace_after, ticks_of, last_text, whole_text}
 use Rattle.ngc_run_through.specs.Forms.{IsTracedRun, IsUntracedRun}
-use Rattle.ngc_run_through.specs.Runs.{last_position, IsRun, Reports}
+use Rattle.ngc_run_through.specs.Runs.{IsRun, Reports}
+use Rattle.ngc_run_through.specs.Counting.{counted, counted_of, last_position}
+use Rattle.ngc_motors.specs.Counts.{MotorData}
+use Rattle.ngc_machine_files.specs.Machine.{motors_of}
 use Rattle.ngc_machine_model.specs.Stretch.{Stretch}
-use Rattle.ngc_run_through.specs.Recording.{Counts, HasFew, Records, IsRecorded, IsCutShort}
+use Rattle.ngc_run_through.specs.Recording.{Counts, HasFew, Records, IsRecorded, IsCutShort, next_text, told_by}
 
 -- no event was processed yet: the machine is in this state, and the recorder is new
 pub record AreNew (first : Trace) (job : Job) (state : State) (recorder : Recorder) : Type 0 where
   pub opens : state ≡ opening job.machine
   pub report : recorder.report ≡ record { ticks = 0; path_steps = 0; refused = 0; position = state.position }
+  pub motors : recorder.motors ≡ motors_of job.machine
   pub trace : recorder.trace ≡ first
   pub begins : ticks_of first ≡ 0
   pub chunk : recorder.chunk ≡ opening_text first
 
 pub new_recorder : (trace : Trace) (job : Job) (state : State) (a : Recorder) (position : StepPos) → state ≡ opening job.machine → position ≡ state.position
-    → a.report ≡ record { ticks = 0; path_steps = 0; refused = 0; position = position } → a.trace ≡ trace → ticks_of trace ≡ 0 → a.chunk ≡ opening_text trace →
+    → a.report ≡ record { ticks = 0; path_steps = 0; refused = 0; position = position } → a.motors ≡ motors_of job.machine → a.trace ≡ trace → ticks_of trace ≡ 0 → a.chunk ≡ opening_text trace →
     AreNew trace job state a
-new_recorder trace job state a position opens stands report same begins chunk = record {
+new_recorder trace job state a position opens stands report motors same begins chunk = record {
   opens = opens;
   report = report ∙ ap (λ (p : StepPos). record { ticks = 0; path_steps = 0; refused = 0; position = p }) stands;
+  motors = motors;
   trace = same;
   begins = begins;
   chunk = chunk;
@@ -79,23 +84,33 @@ reports trace job s a b events outcomes new counts =
       position = counts.position ∙ ap (λ p. last_position p (positions outcomes)) place;
     }
 
+-- its text begins with the job's
+pub first_told : (trace : Trace) (job : Job) (s : State) (a : Recorder) (outcomes : List Outcome) → AreNew trace job s a →
+    told_by a outcomes ≡ counted_of job outcomes
+first_told trace job s a outcomes new =
+    let M : MotorData → List Outcome = λ m. counted m a.report.position outcomes in
+    let P : StepPos → List Outcome = λ p. counted (motors_of job.machine) p outcomes in
+    let place : a.report.position ≡ (opening job.machine).position = ap (λ (r : Report). r.position) new.report ∙ ap (λ (x : State). x.position) new.opens in
+    ap M new.motors ∙ ap P place
+
 -- what was written and what is still collected is the text before the last
 text_is : (trace : Trace) (a b : Recorder) (x y : Option (List ℕ)) (events : List Event) (outcomes : List Outcome) →
     a.trace ≡ trace → a.chunk ≡ opening_text trace → (r : Records events outcomes a b x y) →
-    r.collects.front ++ (b.chunk ++ last_text b.trace) ≡ whole_text trace outcomes
+    r.collects.front ++ (b.chunk ++ last_text b.trace) ≡ whole_text trace (told_by a outcomes)
 text_is trace a b x y events outcomes same opened r =
-    let after : b.trace ≡ trace_after trace outcomes = r.trace ∙ ap (λ t. trace_after t outcomes) same in
-    let whole : a.chunk ++ trace_text a.trace outcomes ≡ opening_text trace ++ trace_text trace outcomes =
-    ap (λ l. l ++ trace_text a.trace outcomes) opened ∙ ap (λ t. opening_text trace ++ trace_text t outcomes) same in
+    let told : List Outcome = told_by a outcomes in
+    let after : b.trace ≡ trace_after trace told = r.trace ∙ ap (λ t. trace_after t told) same in
+    let whole : a.chunk ++ trace_text a.trace told ≡ opening_text trace ++ trace_text trace told =
+    ap (λ l. l ++ trace_text a.trace told) opened ∙ ap (λ t. opening_text trace ++ trace_text t told) same in
     sym (append_assoc r.collects.front b.chunk (last_text b.trace))
     ∙ ap (λ l. l ++ last_text b.trace) (sym r.collects.splits ∙ whole)
-    ∙ ap (λ t. (opening_text trace ++ trace_text trace outcomes) ++ last_text t) after
-    ∙ append_assoc (opening_text trace) (trace_text trace outcomes) (last_text (trace_after trace outcomes))
+    ∙ ap (λ t. (opening_text trace ++ trace_text trace told) ++ last_text t) after
+    ∙ append_assoc (opening_text trace) (trace_text trace told) (last_text (trace_after trace told))
 
 -- all was written, and the last text
 pub all_written : (trace : Trace) (a b : Recorder) (x y z : Option (List ℕ)) (events : List Event) (outcomes : List Outcome) →
     a.trace ≡ trace → a.chunk ≡ opening_text trace → Records events outcomes a b x y →
-    Appends y z (b.chunk ++ last_text b.trace) → Appends x z (whole_text trace outcomes)
+    Appends y z (b.chunk ++ last_text b.trace) → Appends x z (whole_text trace (told_by a outcomes))
 all_written trace a b x y z events outcomes same opened r wrote =
     let P : List ℕ → Type 0 = λ text. Appends x z text in
     subst P (text_is trace a b x y events outcomes same opened r) (appends_both x y z r.collects.front (b.chunk ++ last_text b.trace) r.collects.writes wrote)
@@ -103,26 +118,47 @@ all_written trace a b x y z events outcomes same opened r wrote =
 -- then a write failed
 pub all_begun : (trace : Trace) (a b : Recorder) (x y z : Option (List ℕ)) (events : List Event) (outcomes : List Outcome) →
     a.trace ≡ trace → a.chunk ≡ opening_text trace → Records events outcomes a b x y →
-    AppendsPrefix y z (b.chunk ++ last_text b.trace) → AppendsPrefix x z (whole_text trace outcomes)
+    AppendsPrefix y z (b.chunk ++ last_text b.trace) → AppendsPrefix x z (whole_text trace (told_by a outcomes))
 all_begun trace a b x y z events outcomes same opened r wrote =
     let P : List ℕ → Type 0 = λ text. AppendsPrefix x z text in
     let rest : List ℕ = b.chunk ++ last_text b.trace in
-    let text : r.collects.front ++ (rest ++ []) ≡ whole_text trace outcomes =
+    let text : r.collects.front ++ (rest ++ []) ≡ whole_text trace (told_by a outcomes) =
     ap (λ l. r.collects.front ++ l) (append-nil rest) ∙ text_is trace a b x y events outcomes same opened r in
     subst P text (begins_after x y z r.collects.front rest [] r.collects.writes wrote)
 
 -- a write failed before the last text was added
 pub some_begun : (trace : Trace) (a : Recorder) (x z : Option (List ℕ)) (outcomes : List Outcome) → a.trace ≡ trace → a.chunk ≡ opening_text trace →
-    AppendsPrefix x z (a.chunk ++ trace_text a.trace outcomes) → AppendsPrefix x z (whole_text trace outcomes)
+    AppendsPrefix x z (a.chunk ++ next_text a outcomes) → AppendsPrefix x z (whole_text trace (told_by a outcomes))
 some_begun trace a x z outcomes same opened wrote =
-    let end : List ℕ = last_text (trace_after trace outcomes) in
-    let whole : a.chunk ++ trace_text a.trace outcomes ≡ opening_text trace ++ trace_text trace outcomes =
-    ap (λ l. l ++ trace_text a.trace outcomes) opened ∙ ap (λ t. opening_text trace ++ trace_text t outcomes) same in (
+    let told : List Outcome = told_by a outcomes in
+    let end : List ℕ = last_text (trace_after trace told) in
+    let whole : a.chunk ++ trace_text a.trace told ≡ opening_text trace ++ trace_text trace told =
+    ap (λ l. l ++ trace_text a.trace told) opened ∙ ap (λ t. opening_text trace ++ trace_text t told) same in (
       wrote.0,
       wrote.1 ++ end,
-      sym (append_assoc (opening_text trace) (trace_text trace outcomes) end) ∙ ap (λ l. l ++ end) (sym whole ∙ wrote.2) ∙ append_assoc wrote.0 wrote.1 end,
+      sym (append_assoc (opening_text trace) (trace_text trace told) end) ∙ ap (λ l. l ++ end) (sym whole ∙ wrote.2) ∙ append_assoc wrote.0 wrote.1 end,
       wrote.3,
     )
+
+-- the same for the job's own text
+pub job_written : (trace : Trace) (job : Job) (s : State) (a b : Recorder) (x y z : Option (List ℕ)) (events : List Event) (outcomes : List Outcome) →
+    AreNew trace job s a → Records events outcomes a b x y → Appends y z (b.chunk ++ last_text b.trace) → Appends x z (whole_text trace (counted_of job outcomes))
+job_written trace job s a b x y z events outcomes new r wrote =
+    subst (λ os. Appends x z (whole_text trace os)) (first_told trace job s a outcomes new)
+    (all_written trace a b x y z events outcomes new.trace new.chunk r wrote)
+
+pub job_begun : (trace : Trace) (job : Job) (s : State) (a b : Recorder) (x y z : Option (List ℕ)) (events : List Event) (outcomes : List Outcome) →
+    AreNew trace job s a → Records events outcomes a b x y → AppendsPrefix y z (b.chunk ++ last_text b.trace) →
+    AppendsPrefix x z (whole_text trace (counted_of job outcomes))
+job_begun trace job s a b x y z events outcomes new r wrote =
+    subst (λ os. AppendsPrefix x z (whole_text trace os)) (first_told trace job s a outcomes new)
+    (all_begun trace a b x y z events outcomes new.trace new.chunk r wrote)
+
+pub job_cut : (trace : Trace) (job : Job) (s : State) (a : Recorder) (x z : Option (List ℕ)) (outcomes : List Outcome) → AreNew trace job s a →
+    AppendsPrefix x z (a.chunk ++ next_text a outcomes) → AppendsPrefix x z (whole_text trace (counted_of job outcomes))
+job_cut trace job s a x z outcomes new wrote =
+    subst (λ os. AppendsPrefix x z (whole_text trace os)) (first_told trace job s a outcomes new)
+    (some_begun trace a x z outcomes new.trace new.chunk wrote)
 
 all_taken : (lines : List EventLine) (i : ℕ) → length lines ≤ i → events_of (take i lines) ≡ events_of lines
 all_taken lines i h = ap events_of (take_all i lines h)
@@ -139,7 +175,7 @@ run_traced trace job s t a b x y z lines i report new safe in_time h done wrote 
     record {
       outcomes = whole.outcomes;
       run = is_run job s t (events_of lines) whole.outcomes safe in_time new.opens whole.stretch;
-      written = all_written trace a b x y z (events_of lines) whole.outcomes new.trace new.chunk whole.records wrote;
+      written = job_written trace job s a b x y z (events_of lines) whole.outcomes new whole.records wrote;
       reports = subst R (sym same) (reports trace job s a b (events_of lines) whole.outcomes new whole.records.counts);
     }
 
@@ -161,7 +197,7 @@ run_untraced trace job s t a b x y z lines i new safe in_time h done wrote =
       are_first = sym (append-nil (events_of lines));
       outcomes = whole.outcomes;
       run = is_run job s t (events_of lines) whole.outcomes safe in_time new.opens whole.stretch;
-      written = all_begun trace a b x y z (events_of lines) whole.outcomes new.trace new.chunk whole.records wrote;
+      written = job_begun trace job s a b x y z (events_of lines) whole.outcomes new whole.records wrote;
     }
 
 -- a write failed before all events were processed
@@ -174,7 +210,7 @@ run_cut trace job s a x z lines new safe in_time cut = record {
   are_first = cut.are_first;
   outcomes = cut.outcomes;
   run = is_run job s cut.reached cut.given cut.outcomes safe in_time new.opens cut.stretch;
-  written = some_begun trace a x z cut.outcomes new.trace new.chunk cut.begun;
+  written = job_cut trace job s a x z cut.outcomes new cut.begun;
 }
 
 pub safe_of : (a : AcceptedData) (block_delete : Bool) (job : Job) → IsAccepted a → job ≡ job_of a.machine (commands_at block_delete a) → RunsSafely job

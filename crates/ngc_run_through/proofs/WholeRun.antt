@@ -25,7 +25,7 @@ use Rattle.ngc_machine_model.specs.Stretch.{last_state, Stretch}
 use Rattle.ngc_run_through.specs.Forms.{IsTracedThrough, IsTracedOff}
 use Rattle.ngc_run_through.specs.Stretches.{IsUntouched, GoesBy, BreaksOff, Finishes}
 use Rattle.ngc_run_through.proofs.Policy.{none_is_next}
-use Rattle.ngc_run_through.proofs.RunResults.{AreNew, all_written, all_begun, some_begun, reports}
+use Rattle.ngc_run_through.proofs.RunResults.{AreNew, job_begun, job_cut, job_written, reports}
 
 -- before the first event
 pub opening_untouched : (job : Job) (s : State) → IsMachine job.machine → s ≡ opening job.machine → IsUntouched job s
@@ -92,7 +92,7 @@ through_traced trace n count old new a b x y z report are_new safe in_time has_e
       ended = ap (λ (x : State). next_event old.job x) (sym r.1) ∙ none_is_next old.job new.state runs done;
       told = ended.told (omega (arith, is_count, all)) (length before) has_end.last (is_count ∙ sym done)
           (ap (λ commands. slice_get commands (length before)) has_end.are ∙ last_at before has_end.last) has_end.is_end;
-      written = all_written trace a b x y z s.events s.outcomes are_new.trace are_new.chunk s.records wrote;
+      written = job_written trace old.job old.state a b x y z s.events s.outcomes are_new s.records wrote;
       reports = subst R (sym same) (reports trace old.job old.state a b s.events s.outcomes are_new s.records.counts);
     }
 
@@ -107,7 +107,7 @@ through_unwritten trace n count old new a b x y z are_new safe in_time ended wro
       given = s.events;
       outcomes = s.outcomes;
       smooth = record { run = r.0; kinds = s.kinds; follows = r.2; none_refused = s.none_refused };
-      written = all_begun trace a b x y z s.events s.outcomes are_new.trace are_new.chunk s.records wrote;
+      written = job_begun trace old.job old.state a b x y z s.events s.outcomes are_new s.records wrote;
     }
 
 -- a write failed before all was done
@@ -119,7 +119,7 @@ through_broken trace old a x z are_new safe in_time s =
       given = s.events;
       outcomes = s.outcomes;
       smooth = record { run = r.0; kinds = s.kinds; follows = r.2; none_refused = s.none_refused };
-      written = some_begun trace a x z s.outcomes are_new.trace are_new.chunk s.begun;
+      written = job_cut trace old.job old.state a x z s.outcomes are_new s.begun;
     }
 
 -- ---- for an accepted program

@@ -6,8 +6,7 @@ use Rattle.ngc_events.specs.declared.event.Event.{Event}
 use Rattle.ngc_events.specs.declared.event.EventLine.{EventLine}
 use Rattle.ngc_machine_model.specs.State.{Job, State, opening}
 use Rattle.ngc_machine_model.specs.Step.{Outcome}
-use Rattle.ngc_machine_model.specs.Run.{events_of, pulses}
-use Rattle.ngc_machine_model.specs.Safety.{start_of_job}
+use Rattle.ngc_machine_model.specs.Run.{events_of}
 use Rattle.ngc_pulses.specs.Samples.{samples}
 use Rattle.ngc_pulses.specs.Vcd.{vcd}
 use Rattle.ngc_run_through.specs.declared.report.Report.{Report}
@@ -16,6 +15,7 @@ use Rattle.ngc_run_through.specs.declared.report.RunFault.TheVariants.{Memory, W
 use Rattle.ngc_run_through.specs.declared.trace.Form.{Form}
 use Rattle.ngc_run_through.specs.declared.trace.Form.TheVariants.{Log, Times, Pulses, Samples}
 use Rattle.ngc_run_through.specs.declared.trace.Trace.{Trace}
+use Rattle.ngc_run_through.specs.Counting.{counted_of, motor_pulses}
 use Rattle.ngc_run_through.specs.Log.{log}
 use Rattle.ngc_run_through.specs.Times.{timed_log}
 use Rattle.ngc_run_through.specs.Tracing.{switches_in, whole_text}
@@ -26,14 +26,14 @@ use Rattle.ngc_run_through.specs.Runs.{IsRun, Reports}
 use Rattle.ngc_run_through.specs.Through.{IsSmoothRun, ReportsEnd}
 
 -- The log of a run's outcomes, without ticks or with them, or the dump or the samples of its ticks'
--- pulses. These are the pulses that a safe run bounds.
+-- pulses. Positions and pulses are those of the motors.
 abbrev pub text_as : Form → Job → List Event → List Outcome → List State → List ℕ
-text_as Log job events outcomes states = log outcomes
-text_as Times job events outcomes states = timed_log 0 outcomes
+text_as Log job events outcomes states = log (counted_of job outcomes)
+text_as Times job events outcomes states = timed_log 0 (counted_of job outcomes)
 text_as Pulses job events outcomes states =
-    vcd job.machine.ticks_per_second (pulses (start_of_job job) events states)
+    vcd job.machine.ticks_per_second (motor_pulses job events states)
 text_as (Samples inverted) job events outcomes states =
-    samples inverted (pulses (start_of_job job) events states)
+    samples inverted (motor_pulses job events states)
     (switches_in (switches job.commands) outcomes)
 
 -- ---- over lists of events
@@ -127,7 +127,7 @@ pub record IsTracedRun (trace : Trace) (job : Job) (lines : List EventLine)
     (old new : Option (List ℕ)) (report : Report) : Type 0 where
   pub outcomes : List Outcome
   pub run : IsRun job (events_of lines) outcomes
-  pub written : Appends old new (whole_text trace outcomes)
+  pub written : Appends old new (whole_text trace (counted_of job outcomes))
   pub reports : Reports job (events_of lines) outcomes report
 
 pub record IsUntracedRun (trace : Trace) (job : Job) (lines : List EventLine)
@@ -137,7 +137,7 @@ pub record IsUntracedRun (trace : Trace) (job : Job) (lines : List EventLine)
   pub are_first : events_of lines ≡ given ++ left
   pub outcomes : List Outcome
   pub run : IsRun job given outcomes
-  pub written : AppendsPrefix old new (whole_text trace outcomes)
+  pub written : AppendsPrefix old new (whole_text trace (counted_of job outcomes))
 
 pub record IsTracedThrough (trace : Trace) (job : Job) (old new : Option (List ℕ))
     (report : Report) : Type 0 where
@@ -147,11 +147,11 @@ pub record IsTracedThrough (trace : Trace) (job : Job) (old new : Option (List �
   pub done : (last_state (opening job.machine) smooth.run.states).done ≡ length job.commands
   pub ended : next_event job (last_state (opening job.machine) smooth.run.states) ≡ None
   pub told : ReportsEnd outcomes
-  pub written : Appends old new (whole_text trace outcomes)
+  pub written : Appends old new (whole_text trace (counted_of job outcomes))
   pub reports : Reports job events outcomes report
 
 pub record IsTracedOff (trace : Trace) (job : Job) (old new : Option (List ℕ)) : Type 0 where
   pub given : List Event
   pub outcomes : List Outcome
   pub smooth : IsSmoothRun job given outcomes
-  pub written : AppendsPrefix old new (whole_text trace outcomes)
+  pub written : AppendsPrefix old new (whole_text trace (counted_of job outcomes))

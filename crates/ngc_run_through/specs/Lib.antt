@@ -1,3 +1,4 @@
+pub mod Counting
 pub mod Log
 pub mod Times
 pub mod Switching

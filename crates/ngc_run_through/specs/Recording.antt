@@ -11,7 +11,8 @@ use Rattle.ngc_machine_model.specs.Stretch.{Stretch}
 use Rattle.ngc_run_through.specs.declared.report.Report.{Report}
 use Rattle.ngc_run_through.specs.declared.recorder.Recorder.{Recorder}
 use Rattle.ngc_run_through.specs.Tracing.{trace_text, trace_after, ticks_of}
-use Rattle.ngc_run_through.specs.Runs.{is_refusal, last_position}
+use Rattle.ngc_run_through.specs.Counting.{counted, last_position}
+use Rattle.ngc_run_through.specs.Runs.{is_refusal}
 
 -- the report's numbers grow by those of these events
 pub record Counts (events : List Event) (outcomes : List Outcome) (old new : Report) : Type 0 where
@@ -38,12 +39,21 @@ pub record Collects (old new : Option (List ℕ)) (before text after : List ℕ)
   pub writes : Appends old new front
   pub splits : before ++ text ≡ front ++ after
 
+-- outcomes as the text has them that follows what is recorded
+abbrev pub told_by : Recorder → List Outcome → List Outcome
+told_by recorder outcomes = counted recorder.motors recorder.report.position outcomes
+
+-- the text of these outcomes
+abbrev pub next_text : Recorder → List Outcome → List ℕ
+next_text recorder outcomes = trace_text recorder.trace (told_by recorder outcomes)
+
 -- these events are counted, and their text is collected
 pub record Records (events : List Event) (outcomes : List Outcome) (before after : Recorder)
     (written now : Option (List ℕ)) : Type 0 where
   pub counts : Counts events outcomes before.report after.report
-  pub trace : after.trace ≡ trace_after before.trace outcomes
-  pub collects : Collects written now before.chunk (trace_text before.trace outcomes) after.chunk
+  pub motors : after.motors ≡ before.motors
+  pub trace : after.trace ≡ trace_after before.trace (told_by before outcomes)
+  pub collects : Collects written now before.chunk (next_text before outcomes) after.chunk
 
 -- all these events were processed and recorded
 pub record IsRecorded (job : Job) (old new : State) (before after : Recorder)
@@ -61,4 +71,4 @@ pub record IsCutShort (job : Job) (old : State) (before : Recorder) (written now
   pub outcomes : List Outcome
   pub reached : State
   pub stretch : Stretch job old reached given outcomes
-  pub begun : AppendsPrefix written now (before.chunk ++ trace_text before.trace outcomes)
+  pub begun : AppendsPrefix written now (before.chunk ++ next_text before outcomes)

@@ -1,8 +1,7 @@
 -- The result of a run over lists of events. Our own.
-use Rattle.std.specs.Prelude.{◌≡◌, ℕ, List, [], ◌∷◌, ◌++◌, length, count_by, Option, Ok, Err}
+use Rattle.std.specs.Prelude.{◌≡◌, ℕ, List, ◌++◌, length, count_by, Option, Ok, Err}
 use Rattle.std.specs.Prelude.{Result, Bool, true, false}
 use Rattle.std.specs.Io.KnownBytes.{Appends, Keeps}
-use Rattle.ngc_fixed_length.specs.declared.points.StepPos.{StepPos}
 use Rattle.ngc_text.specs.Failures.{Rises}
 use Rattle.ngc_text.specs.Written.{AppendsPrefix}
 use Rattle.ngc_events.specs.declared.event.Event.{Event}
@@ -15,16 +14,12 @@ use Rattle.ngc_machine_model.specs.Progress.{KeepGoing, is_tick, IsDoneInTime}
 use Rattle.ngc_run_through.specs.declared.report.Report.{Report}
 use Rattle.ngc_run_through.specs.declared.report.RunFault.{RunFault}
 use Rattle.ngc_run_through.specs.declared.report.RunFault.TheVariants.{Memory, Write}
+use Rattle.ngc_run_through.specs.Counting.{counted_of, last_position}
 use Rattle.ngc_run_through.specs.Log.{log}
 
 abbrev pub is_refusal : Outcome → Bool
 is_refusal (Ok reply) = false
 is_refusal (Err e) = true
-
--- the last of these positions, or `p` if there is none
-abbrev pub last_position : StepPos → List StepPos → StepPos
-last_position p [] = p
-last_position p (q ∷ qs) = last_position q qs
 
 -- A run over these events, from the opening state. It is safe, moves on at each tick that is free
 -- to, and is done in time.
@@ -43,12 +38,13 @@ pub record Reports (job : Job) (events : List Event) (outcomes : List Outcome) (
   pub refused : report.refused ≡ count_by is_refusal outcomes
   pub position : report.position ≡ last_position (start_of_job job) (positions outcomes)
 
--- all events were processed, and what was written is the log of their outcomes
+-- all events were processed, and what was written is the log of their
+-- outcomes, with the motors' counts as positions
 pub record IsLoggedRun (job : Job) (lines : List EventLine) (old new : Option (List ℕ))
     (report : Report) : Type 0 where
   pub outcomes : List Outcome
   pub run : IsRun job (events_of lines) outcomes
-  pub logged : Appends old new (log outcomes)
+  pub logged : Appends old new (log (counted_of job outcomes))
   pub reports : Reports job (events_of lines) outcomes report
 
 -- a prefix of the events was processed, and what was written is a prefix of the log of their
@@ -60,7 +56,7 @@ pub record IsBrokenRun (job : Job) (lines : List EventLine) (old new : Option (L
   pub are_first : events_of lines ≡ given ++ left
   pub outcomes : List Outcome
   pub run : IsRun job given outcomes
-  pub logged : AppendsPrefix old new (log outcomes)
+  pub logged : AppendsPrefix old new (log (counted_of job outcomes))
 
 -- The result of a run, with the bytes of its sink where they are known. If memory runs out, nothing
 -- was written.

@@ -21,10 +21,9 @@ use Rattle.ngc_controller.specs.Controller.{ControllerData}
 use Rattle.ngc_controller.specs.Fields.{DWELL_LIMIT}
 use Rattle.ngc_controller.specs.Loaded.{AreShort, LoadsShort}
 use Rattle.ngc_run_through.specs.declared.recorder.Recorder.{Recorder}
-use Rattle.ngc_run_through.specs.Tracing.{trace_text}
 use Rattle.ngc_machine_model.specs.Stretch.{Stretch}
 use Rattle.ngc_run_through.specs.Policy.{FollowPolicy}
-use Rattle.ngc_run_through.specs.Recording.{Records}
+use Rattle.ngc_run_through.specs.Recording.{Records, next_text}
 use Rattle.ngc_run_through.specs.Runs.{is_refusal}
 use Rattle.ngc_run_through.specs.Through.{IsLoadTickOrStart, ReportsEnd}
 
@@ -85,7 +84,7 @@ pub record IsGivenLast (event : Event) (old : ControllerData) (before : Recorder
   pub reached : State
   pub step : Step old.job old.state event outcome reached
   pub goes_on : GoesOn old.job old.state event reached
-  pub begun : AppendsPrefix written now (before.chunk ++ trace_text before.trace (outcome ∷ []))
+  pub begun : AppendsPrefix written now (before.chunk ++ next_text before (outcome ∷ []))
 
 -- ---- several events
 
@@ -117,7 +116,7 @@ pub record BreaksOff (old : ControllerData) (before : Recorder) (written now : O
   pub none_refused : count_by is_refusal outcomes ≡ 0
   pub stretch : Stretch old.job old.state reached events outcomes
   pub follows : FollowPolicy old.job old.state events stretch.states
-  pub begun : AppendsPrefix written now (before.chunk ++ trace_text before.trace outcomes)
+  pub begun : AppendsPrefix written now (before.chunk ++ next_text before outcomes)
 
 -- ---- the result of a tick
 

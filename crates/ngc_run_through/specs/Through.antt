@@ -14,6 +14,7 @@ use Rattle.ngc_machine_model.specs.Step.{Outcome}
 use Rattle.ngc_run_through.specs.declared.report.Report.{Report}
 use Rattle.ngc_run_through.specs.declared.report.RunFault.{RunFault}
 use Rattle.ngc_run_through.specs.declared.report.RunFault.TheVariants.{Memory, Write}
+use Rattle.ngc_run_through.specs.Counting.{counted_of}
 use Rattle.ngc_run_through.specs.Log.{log}
 use Rattle.ngc_machine_model.specs.Stretch.{last_state}
 use Rattle.ngc_run_through.specs.Policy.{next_event, FollowPolicy}
@@ -43,7 +44,7 @@ ReportsEnd outcomes =
     (before : List Outcome) × (outcomes ≡ before ++ Ok (Ticked None (Some End)) ∷ [])
 
 -- Every command is done at the end, the end is reported last, no event comes next, and what was
--- written is the log of all outcomes.
+-- written is the log of all outcomes, with the motors' counts as positions.
 pub record IsLoggedThrough (job : Job) (old new : Option (List ℕ)) (report : Report) : Type 0 where
   pub events : List Event
   pub outcomes : List Outcome
@@ -51,7 +52,7 @@ pub record IsLoggedThrough (job : Job) (old new : Option (List ℕ)) (report : R
   pub done : (last_state (opening job.machine) smooth.run.states).done ≡ length job.commands
   pub ended : next_event job (last_state (opening job.machine) smooth.run.states) ≡ None
   pub told : ReportsEnd outcomes
-  pub logged : Appends old new (log outcomes)
+  pub logged : Appends old new (log (counted_of job outcomes))
   pub reports : Reports job events outcomes report
 
 -- some events of a smooth run were processed, and what was written is a prefix of the log of their
@@ -60,7 +61,7 @@ pub record IsBrokenOff (job : Job) (old new : Option (List ℕ)) : Type 0 where
   pub given : List Event
   pub outcomes : List Outcome
   pub smooth : IsSmoothRun job given outcomes
-  pub logged : AppendsPrefix old new (log outcomes)
+  pub logged : AppendsPrefix old new (log (counted_of job outcomes))
 
 -- The result of the run, with the bytes of its sink where they are known. If memory runs out,
 -- nothing was written.

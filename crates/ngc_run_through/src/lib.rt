@@ -2,6 +2,8 @@
 //! which is a log, or the pulses as a dump or as samples.
 #![tactic(auto)]
 
+mod counting;
+pub mod laws;
 mod log_line;
 mod recorder;
 mod report;

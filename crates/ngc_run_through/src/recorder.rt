@@ -7,14 +7,16 @@ ghost use Rattle.ngc_events.specs.declared.reply.Reply.TheVariants.{Ticked};
 ghost use Rattle.ngc_text.specs.Failures.{CountsFailure};
 ghost use Rattle.ngc_text.specs.Written.{AppendsPrefix};
 ghost use Rattle.ngc_run_through.specs.Pauses.{paused_at};
-ghost use Rattle.ngc_run_through.specs.Recording.{HasFew, Records};
-ghost use Rattle.ngc_run_through.specs.Tracing.{last_text, opening_text, trace_text};
+ghost use Rattle.ngc_run_through.specs.Recording.{HasFew, Records, next_text};
+ghost use Rattle.ngc_run_through.specs.Tracing.{last_text, opening_text};
 
+use crate::counting::counted;
 use crate::report::Report;
 use crate::text_state::TextState;
 use crate::trace::Trace;
 use ngc_events::{Event, EventFault, Reply};
 use ngc_fixed_length::StepPos;
+use ngc_motors::Motors;
 use ngc_text::{Chunk, Sink, WriteFault};
 
 /// The report so far, and the text that isn't written yet.
@@ -22,6 +24,8 @@ use ngc_text::{Chunk, Sink, WriteFault};
 pub struct Recorder<'s> {
     /// The report of the events so far.
     pub report: Report,
+    /// The motors whose counts the text has.
+    pub motors: Motors,
     /// The state of the text.
     pub trace: Trace<'s>,
     /// The text that isn't written yet.
@@ -29,10 +33,11 @@ pub struct Recorder<'s> {
 }
 
 impl<'s> Recorder<'s> {
-    /// Returns a recorder without events, for a machine at a position in steps.
-    pub fn new(trace: Trace<'s>, position: StepPos) -> Recorder<'s>
+    /// Returns a recorder without events, for a machine with these motors at a grid point.
+    pub fn new(trace: Trace<'s>, motors: Motors, position: StepPos) -> Recorder<'s>
         ensures report { result.report
             ≡ record { ticks = 0; path_steps = 0; refused = 0; position = position } }
+        ensures motors { result.motors ≡ motors }
         ensures trace { result.trace ≡ trace.entry }
         ensures chunk { result.chunk ≡ opening_text trace.entry }
     {
@@ -45,12 +50,13 @@ impl<'s> Recorder<'s> {
                 refused: 0,
                 position,
             },
+            motors,
             trace,
             chunk,
         }
     }
 
-    /// Counts an event and records its outcome.
+    /// Counts an event and records its outcome: the text has the motors' counts.
     pub fn add<W: Sink>(
         &mut self,
         event: Event,
@@ -63,9 +69,10 @@ impl<'s> Recorder<'s> {
             (W.written sink.new)) }
         ensures fault { OnErr result
             (AppendsPrefix (W.written sink.old) (W.written sink.new)
-            (self.old.chunk ++ trace_text self.old.trace (outcome.now ∷ []))) }
+            (self.old.chunk ++ next_text self.old (outcome.now ∷ []))) }
         ensures failures { CountsFailure (W.failures sink.old) (W.failures sink.new) result }
     {
+        let told = counted(&self.motors, &self.report.position, outcome);
         self.report.count(event, outcome);
         // Most ticks write nothing.
         if let Ok(
@@ -73,12 +80,12 @@ impl<'s> Recorder<'s> {
                 position: None,
                 ending: None,
             },
-        ) = outcome
+        ) = told
         {
             self.trace.rest(1);
             return Ok(());
         }
-        self.trace.tell(outcome, &mut self.chunk, sink)
+        self.trace.tell(&told, &mut self.chunk, sink)
     }
 
     /// Counts ticks without an output.

@@ -409,7 +409,7 @@ fn run_to_end<A: Allocator + Copy, W: Sink>(
         (IsTracedOff trace.entry controller.old.job (W.written sink.old) (W.written sink.new)) }
     ensures failures { CountsFailure (W.failures sink.old) (W.failures sink.new) result }
 {
-    let mut recorder = Recorder::new(trace, controller.position());
+    let mut recorder = Recorder::new(trace, controller.motors(), controller.position());
     match go_on(controller, count, &mut recorder, sink) {
         Ok(()) => {}
         Err(fault) => return Err(fault),
@@ -444,7 +444,8 @@ fn run_to_end_as<A: Allocator + Copy, W: Sink>(
     let switches = Switches {
         list: kept.as_slice(),
     };
-    let trace = Trace::new(form, ticks_per_second, controller.position(), switches);
+    let first = controller.motors().counts(&controller.position());
+    let trace = Trace::new(form, ticks_per_second, first, switches);
     match run_to_end(&mut controller, count, trace, sink) {
         Ok(report) => Ok(report),
         Err(fault) => Err(RunFault::Write(fault)),

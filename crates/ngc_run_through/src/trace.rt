@@ -246,7 +246,7 @@ fn write_tick<W: Sink>(
 }
 
 impl<'s> Trace<'s> {
-    /// Returns the trace before the first event, for a machine at a position in steps.
+    /// Returns the trace before the first event, for motors at these counts.
     pub fn new(
         form: Form,
         ticks_per_second: u32,

@@ -22,6 +22,7 @@ use Rattle.ngc_setup_sheet.specs.Spelling.{lines_text}
 use Rattle.ngc_setup_sheet.specs.Warnings.{is_odd_speed, is_odd_acceleration, is_short_travel}
 use Rattle.ngc_setup_sheet.specs.Warnings.{is_slow_on_arcs, is_thin, is_short_tool, is_odd_offset}
 use Rattle.ngc_setup_sheet.specs.Warnings.{are_unset}
+use Rattle.ngc_setup_sheet.specs.declared.line.Axis.{Axis}
 use Rattle.ngc_setup_sheet.specs.declared.line.Axis.TheVariants as axes
 use Rattle.ngc_setup_sheet.specs.declared.line.Fact.{Fact}
 use Rattle.ngc_setup_sheet.specs.declared.line.Fact.TheVariants as facts
@@ -56,6 +57,20 @@ step_facts m =
     lines.Fact facts.Ticks (figures.PerSecond m.ticks_per_second) ∷
     lines.Fact facts.GreatestSpeed (figures.Speed (millimetres_a_minute m m.max_rate)) ∷
     lines.Fact facts.CornerSpeed (figures.Speed (millimetres_a_minute m m.corner)) ∷ []
+
+abbrev pub have_one_step : MachineFile → Bool
+have_one_step m =
+    int_eq m.motor_steps.x m.step && (int_eq m.motor_steps.y m.step && int_eq m.motor_steps.z m.step)
+
+abbrev pub motor_fact : Axis → ℤ → Line
+motor_fact axis step = lines.Fact (facts.Motor axis) (figures.Length step)
+
+-- the step of each motor, unless it is that of the grid on all axes
+abbrev pub motor_facts : MachineFile → List Line
+motor_facts m =
+    if have_one_step m then []
+    else motor_fact axes.X m.motor_steps.x ∷ motor_fact axes.Y m.motor_steps.y
+    ∷ motor_fact axes.Z m.motor_steps.z ∷ []
 
 -- a jump of 0 is none
 abbrev pub jump_facts : MachineFile → List Line
@@ -177,8 +192,9 @@ machine_end m r =
 
 unfoldable pub machine_lines : MachineFile → Reach → List Line
 machine_lines m r =
-    step_facts m ++ (jump_facts m ++ (rate_facts m ++ (ring_facts m ++ (arc_feed_facts m ++
-    (changer_facts m ++ (margin_facts m ++ (dialect_facts m ++ machine_end m r)))))))
+    step_facts m ++ (motor_facts m ++ (jump_facts m ++ (rate_facts m ++ (ring_facts m ++
+    (arc_feed_facts m ++ (changer_facts m ++ (margin_facts m ++ (dialect_facts m ++
+    machine_end m r))))))))
 
 -- ---- fixtures
 

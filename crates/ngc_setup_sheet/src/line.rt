@@ -24,6 +24,8 @@ pub enum Fact {
     Step,
     /// The steps per millimetre.
     Steps,
+    /// The step of the axis' motor.
+    Motor(Axis),
     Ticks,
     GreatestSpeed,
     CornerSpeed,

@@ -7,6 +7,7 @@ ghost use Rattle.ngc_setup_sheet.specs.Reaches.{IsReach};
 ghost use Rattle.ngc_fixed_length.specs.declared.modes.System.TheVariants as systems;
 ghost use Rattle.ngc_setup_sheet.specs.declared.line.Figure.TheVariants as figures;
 ghost use Rattle.ngc_setup_sheet.specs.Sheets.{line_where, warned, from, axis_speed, step_facts};
+ghost use Rattle.ngc_setup_sheet.specs.Sheets.{have_one_step, motor_fact, motor_facts};
 ghost use Rattle.ngc_setup_sheet.specs.Sheets.{jump_facts, ring_facts, arc_feed_facts, changer_facts, is_free, margin_line, margin_facts, rate_facts, machine_places, corner_notes};
 ghost use Rattle.ngc_setup_sheet.specs.Sheets.{is_zero, origin_lines, next_system, origins_from};
 ghost use Rattle.ngc_setup_sheet.specs.Sheets.{machine_warnings, machine_lines, fixture_facts};
@@ -27,12 +28,12 @@ use ngc_machine_files::{ArcFeed, Fixture, Machine, Part, Parts, Rapids, Tool};
 use std::alloc::Allocator;
 
 /// Space for the lines of a machine, of a fixture or of a tool.
-pub(crate) type Lines = ArrayVec<Line, 52>;
+pub(crate) type Lines = ArrayVec<Line, 55>;
 
 const SHORT_TRAVEL: i64 = 10_000_000;
 
 fn add_all(lines: &mut Lines, told: &[Line])
-    requires { array_vec_len lines.old + length told.now ≤ 52 }
+    requires { array_vec_len lines.old + length told.now ≤ 55 }
     ensures items { lines.new.items ≡ lines.old.items ++ told.now }
     ensures count { array_vec_len lines.new ≡ array_vec_len lines.old + length told.now }
 {
@@ -41,7 +42,7 @@ fn add_all(lines: &mut Lines, told: &[Line])
 
 /// Adds a line if a condition holds.
 fn add_where(lines: &mut Lines, holds: bool, line: Line)
-    requires { array_vec_len lines.old < 52 }
+    requires { array_vec_len lines.old < 55 }
     ensures items { lines.new.items ≡ lines.old.items ++ line_where holds line }
     ensures few { array_vec_len lines.new ≤ array_vec_len lines.old + 1 }
 {
@@ -51,7 +52,7 @@ fn add_where(lines: &mut Lines, holds: bool, line: Line)
 }
 
 fn warn(lines: &mut Lines, wrong: bool, warning: Warning)
-    requires { array_vec_len lines.old < 52 }
+    requires { array_vec_len lines.old < 55 }
     ensures items { lines.new.items ≡ lines.old.items ++ warned wrong warning }
     ensures few { array_vec_len lines.new ≤ array_vec_len lines.old + 1 }
 {
@@ -91,8 +92,42 @@ fn step_facts<A: Allocator>(machine: &Machine<A>) -> [Line; 6]
     ]
 }
 
+fn have_one_step<A: Allocator>(machine: &Machine<A>) -> bool
+    ensures { result ≡ have_one_step (file_of machine.now) }
+{
+    let step = machine.step.nanometres();
+    machine.motor_steps.x.nanometres() == step
+        && machine.motor_steps.y.nanometres() == step
+        && machine.motor_steps.z.nanometres() == step
+}
+
+fn motor_fact(axis: Axis, step: Nm) -> Line
+    ensures { result ≡ motor_fact axis step }
+{
+    Line::Fact(Fact::Motor(axis), Figure::Length(step.nanometres()))
+}
+
+// Adds the step of each motor, unless it is that of the grid on all axes.
+fn add_motors<A: Allocator>(lines: &mut Lines, machine: &Machine<A>)
+    requires { array_vec_len lines.old + 3 ≤ 55 }
+    ensures items { lines.new.items ≡ lines.old.items ++ motor_facts (file_of machine.now) }
+    ensures few { array_vec_len lines.new ≤ array_vec_len lines.old + 3 }
+{
+    if !have_one_step(machine) {
+        let steps = &machine.motor_steps;
+        add_all(
+            lines,
+            &[
+                motor_fact(Axis::X, steps.x),
+                motor_fact(Axis::Y, steps.y),
+                motor_fact(Axis::Z, steps.z),
+            ],
+        );
+    }
+}
+
 fn add_jump<A: Allocator>(lines: &mut Lines, machine: &Machine<A>)
-    requires { array_vec_len lines.old < 52 }
+    requires { array_vec_len lines.old < 55 }
     ensures items { lines.new.items ≡ lines.old.items ++ jump_facts (file_of machine.now) }
     ensures few { array_vec_len lines.new ≤ array_vec_len lines.old + 1 }
 {
@@ -101,7 +136,7 @@ fn add_jump<A: Allocator>(lines: &mut Lines, machine: &Machine<A>)
 }
 
 fn add_ring<A: Allocator>(lines: &mut Lines, machine: &Machine<A>)
-    requires { array_vec_len lines.old < 52 }
+    requires { array_vec_len lines.old < 55 }
     ensures items { lines.new.items ≡ lines.old.items ++ ring_facts (file_of machine.now) }
     ensures few { array_vec_len lines.new ≤ array_vec_len lines.old + 1 }
 {
@@ -110,7 +145,7 @@ fn add_ring<A: Allocator>(lines: &mut Lines, machine: &Machine<A>)
 }
 
 fn add_arc_feed<A: Allocator>(lines: &mut Lines, machine: &Machine<A>)
-    requires { array_vec_len lines.old < 52 }
+    requires { array_vec_len lines.old < 55 }
     ensures items { lines.new.items ≡ lines.old.items ++ arc_feed_facts (file_of machine.now) }
     ensures few { array_vec_len lines.new ≤ array_vec_len lines.old + 1 }
 {
@@ -124,7 +159,7 @@ fn add_arc_feed<A: Allocator>(lines: &mut Lines, machine: &Machine<A>)
 }
 
 fn add_changer<A: Allocator>(lines: &mut Lines, machine: &Machine<A>)
-    requires { array_vec_len lines.old < 52 }
+    requires { array_vec_len lines.old < 55 }
     ensures items { lines.new.items ≡ lines.old.items ++ changer_facts (file_of machine.now) }
     ensures few { array_vec_len lines.new ≤ array_vec_len lines.old + 1 }
 {
@@ -136,7 +171,7 @@ fn add_changer<A: Allocator>(lines: &mut Lines, machine: &Machine<A>)
 }
 
 fn add_margin(lines: &mut Lines, fact: Fact, margin: Nm)
-    requires { array_vec_len lines.old < 52 }
+    requires { array_vec_len lines.old < 55 }
     ensures items { lines.new.items ≡ lines.old.items ++ margin_line fact margin }
     ensures few { array_vec_len lines.new ≤ array_vec_len lines.old + 1 }
 {
@@ -149,7 +184,7 @@ fn add_margin(lines: &mut Lines, fact: Fact, margin: Nm)
 }
 
 fn add_margins<A: Allocator>(lines: &mut Lines, machine: &Machine<A>)
-    requires { array_vec_len lines.old + 3 ≤ 52 }
+    requires { array_vec_len lines.old + 3 ≤ 55 }
     ensures items { lines.new.items ≡ lines.old.items ++ margin_facts (file_of machine.now) }
     ensures few { array_vec_len lines.new ≤ array_vec_len lines.old + 3 }
 {
@@ -172,7 +207,7 @@ fn is_free(rapids: Rapids) -> bool
 }
 
 fn add_dialect<A: Allocator>(lines: &mut Lines, machine: &Machine<A>)
-    requires { array_vec_len lines.old < 52 }
+    requires { array_vec_len lines.old < 55 }
     ensures items { lines.new.items ≡ lines.old.items ++ dialect_facts (file_of machine.now) }
     ensures few { array_vec_len lines.new ≤ array_vec_len lines.old + 1 }
 {
@@ -186,7 +221,7 @@ fn add_dialect<A: Allocator>(lines: &mut Lines, machine: &Machine<A>)
 }
 
 fn add_stock<A: Allocator>(lines: &mut Lines, machine: &Machine<A>)
-    requires { array_vec_len lines.old < 52 }
+    requires { array_vec_len lines.old < 55 }
     ensures items { lines.new.items ≡ lines.old.items ++ stock_facts (file_of machine.now) }
     ensures few { array_vec_len lines.new ≤ array_vec_len lines.old + 1 }
 {
@@ -250,7 +285,7 @@ fn add_origin<A: Allocator>(
     system: System,
     origin: &Point3,
 )
-    requires room { array_vec_len lines.old + 2 ≤ 52 }
+    requires room { array_vec_len lines.old + 2 ≤ 55 }
     requires reach { IsReach reach.now }
     ensures items { lines.new.items ≡ lines.old.items
         ++ origin_lines (file_of machine.now) reach.now system origin.now }
@@ -267,7 +302,7 @@ fn add_origin<A: Allocator>(
 }
 
 fn add_corner_note<A: Allocator>(lines: &mut Lines, machine: &Machine<A>)
-    requires { array_vec_len lines.old < 52 }
+    requires { array_vec_len lines.old < 55 }
     ensures items { lines.new.items ≡ lines.old.items ++ corner_notes (file_of machine.now) }
     ensures few { array_vec_len lines.new ≤ array_vec_len lines.old + 1 }
 {
@@ -297,7 +332,7 @@ fn add_origins<A: Allocator>(
     reach: &Reach,
     origins: &[Point3; 9],
 )
-    requires room { array_vec_len lines.old + 18 ≤ 52 }
+    requires room { array_vec_len lines.old + 18 ≤ 55 }
     requires reach { IsReach reach.now }
     ensures items { lines.new.items ≡ lines.old.items
         ++ origins_from (file_of machine.now) reach.now systems.First origins.now }
@@ -311,7 +346,7 @@ fn add_origins<A: Allocator>(
 }
 
 fn warn_of_machine<A: Allocator>(lines: &mut Lines, machine: &Machine<A>)
-    requires { array_vec_len lines.old + 6 ≤ 52 }
+    requires { array_vec_len lines.old + 6 ≤ 55 }
     ensures { lines.new.items ≡ lines.old.items ++ machine_warnings (file_of machine.now) }
 {
     let (low, high) = (machine.low, machine.high);
@@ -336,7 +371,7 @@ fn warn_of_machine<A: Allocator>(lines: &mut Lines, machine: &Machine<A>)
 }
 
 fn add_end<A: Allocator>(lines: &mut Lines, machine: &Machine<A>, reach: &Reach)
-    requires room { array_vec_len lines.old + 32 ≤ 52 }
+    requires room { array_vec_len lines.old + 32 ≤ 55 }
     requires reach { IsReach reach.now }
     ensures { lines.new.items ≡ lines.old.items ++ machine_end (file_of machine.now) reach.now }
 {
@@ -354,6 +389,7 @@ pub(crate) fn machine_lines<A: Allocator>(machine: &Machine<A>, reach: &Reach) -
 {
     let mut lines = ArrayVec::new();
     add_all(&mut lines, &step_facts(machine));
+    add_motors(&mut lines, machine);
     add_jump(&mut lines, machine);
     add_all(&mut lines, &rate_facts(machine));
     add_ring(&mut lines, machine);
@@ -409,7 +445,7 @@ fn part_line(foot: i64, part: &Part) -> Line
 }
 
 fn add_parts(lines: &mut Lines, foot: Nm, parts: &Parts)
-    requires { array_vec_len lines.old + 4 ≤ 52 }
+    requires { array_vec_len lines.old + 4 ≤ 55 }
     ensures items { lines.new.items ≡ lines.old.items ++ part_lines foot parts.now }
     ensures few { array_vec_len lines.new ≤ array_vec_len lines.old + 4 }
 {

@@ -82,6 +82,9 @@ fn fact(fact: &Fact) -> &'static [u8]
     match fact {
         Fact::Step => b"  step                  ",
         Fact::Steps => b"  steps                 ",
+        Fact::Motor(Axis::X) => b"  step of X's motor     ",
+        Fact::Motor(Axis::Y) => b"  step of Y's motor     ",
+        Fact::Motor(Axis::Z) => b"  step of Z's motor     ",
         Fact::Ticks => b"  ticks                 ",
         Fact::GreatestSpeed => b"  greatest speed        ",
         Fact::CornerSpeed => b"  speed at corners      ",

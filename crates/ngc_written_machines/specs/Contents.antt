@@ -1,6 +1,8 @@
 -- The contents of a machine file of what is written in one of version 3. Our own.
 use Rattle.std.specs.Prelude.{ℕ, ℤ, pos, Bool, true, List, map, Option, Some, None}
 use Rattle.ngc_quantities.specs.declared.range.Place.{Place}
+use Rattle.ngc_quantities.specs.declared.range.Range.{Range}
+use Rattle.ngc_motor_scale.specs.declared.scale.MotorScale.{MotorScale}
 use Rattle.ngc_machine_figures.specs.declared.sheet.HeadSheet.{HeadSheet}
 use Rattle.ngc_machine_figures.specs.declared.sheet.Length.{Length}
 use Rattle.ngc_machine_figures.specs.declared.sheet.PlaceSheet.{PlaceSheet}
@@ -16,6 +18,7 @@ use Rattle.ngc_machine_files.specs.MachineText.{MachineValues}
 use Rattle.ngc_machine_maker.specs.declared.figures.PerAxis.{PerAxis}
 use Rattle.ngc_machine_maker.specs.declared.numbers.MachineNumbers as maker
 use Rattle.ngc_written_machines.specs.Corners.{coordinates, place_on_grid, fixture, stock}
+use Rattle.ngc_written_machines.specs.Motors.{steps_of, travel_ends}
 
 abbrev pub or_zero : Option Length → ℤ
 or_zero None = pos 0
@@ -80,13 +83,13 @@ abbrev pub home : Coordinates → Option Place → Coordinates
 home start None = start
 home start (Some place) = coordinates place
 
-abbrev pub points : ℕ → HeadSheet → MachinePoints
-points step s = record {
-  low = record { x = s.axes.x.travel.low; y = s.axes.y.travel.low; z = s.axes.z.travel.low };
-  high = record { x = s.axes.x.travel.high; y = s.axes.y.travel.high; z = s.axes.z.travel.high };
-  start = start step s.places;
-  home28 = home (start step s.places) s.places.home28;
-  home30 = home (start step s.places) s.places.home30;
+abbrev pub points : ℕ → PerAxis Range → PlaceSheet → MachinePoints
+points step travel places = record {
+  low = record { x = travel.x.low; y = travel.y.low; z = travel.z.low };
+  high = record { x = travel.x.high; y = travel.y.high; z = travel.z.high };
+  start = start step places;
+  home28 = home (start step places) places.home28;
+  home30 = home (start step places) places.home30;
 }
 
 -- an origin is zero, unless the file says otherwise
@@ -94,13 +97,15 @@ abbrev pub origin : Option Place → Coordinates
 origin None = record { x = pos 0; y = pos 0; z = pos 0 }
 origin (Some place) = coordinates place
 
--- what a machine file of version 2 has for a sheet, with the step and the rates of its figures
-abbrev pub values_by : SheetValues → maker.MachineNumbers → MachineValues
-values_by s rates = record {
+-- what a machine file of version 2 has for a sheet, with the step and the rates of its figures, and
+-- with the step of each axis' motor
+abbrev pub values_by : SheetValues → PerAxis MotorScale → maker.MachineNumbers → MachineValues
+values_by s own rates = record {
   numbers = numbers s.head rates;
   options = options s;
+  motor_steps = steps_of own;
   axis_rates = axis_rates rates.axis_rate;
-  points = points rates.step s.head;
+  points = points rates.step (travel_ends rates.step own s.head.axes) s.head.places;
   origins = map origin s.head.origins;
   fixtures = map fixture s.fixtures;
 }

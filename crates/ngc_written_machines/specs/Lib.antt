@@ -1,4 +1,5 @@
 pub mod Corners
+pub mod Motors
 pub mod Contents
 pub mod Figures
 pub mod Refusals

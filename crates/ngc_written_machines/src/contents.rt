@@ -5,15 +5,18 @@ ghost use Rattle.ngc_machine_maker.specs.InFile.{AreInFile};
 ghost use Rattle.ngc_machine_figures.specs.Files.{values_of as sheet_values};
 ghost use Rattle.ngc_written_machines.specs.Contents as spec;
 ghost use Rattle.ngc_written_machines.specs.Corners.{fixture as fixture_of};
+ghost use Rattle.ngc_written_machines.specs.Motors.{AreScales};
 
 use crate::corners::{coordinates, fixture, place_on_grid, stock};
+use crate::motors::{steps_of, travel_ends};
 use ngc_machine_figures::{FixtureSheet, HeadSheet, Length, PlaceSheet, Sheet};
 use ngc_machine_files::{
     Coordinates, Corners, MachineContents, MachineNumbers, MachineOptions, MachinePoints,
     OptionalNumbers, Rapids,
 };
 use ngc_machine_maker::{MachineNumbers as Rates, PerAxis};
-use ngc_quantities::Place;
+use ngc_motor_scale::MotorScale;
+use ngc_quantities::{Place, Range};
 use std::alloc::{AllocError, Global};
 
 // Returns a length in nanometres, 0 without its key.
@@ -125,25 +128,25 @@ fn home(start: Coordinates, written: Option<Place>) -> Coordinates
     }
 }
 
-fn points(step: u32, head: &HeadSheet) -> MachinePoints
+fn points(step: u32, travel: &PerAxis<Range>, places: &PlaceSheet) -> MachinePoints
     requires { 0 < step }
-    ensures { result ≡ spec.points step head.now }
+    ensures { result ≡ spec.points step travel.now places.now }
 {
-    let start = start(step, &head.places);
+    let start = start(step, places);
     MachinePoints {
         low: Coordinates {
-            x: head.axes.x.travel.low,
-            y: head.axes.y.travel.low,
-            z: head.axes.z.travel.low,
+            x: travel.x.low,
+            y: travel.y.low,
+            z: travel.z.low,
         },
         high: Coordinates {
-            x: head.axes.x.travel.high,
-            y: head.axes.y.travel.high,
-            z: head.axes.z.travel.high,
+            x: travel.x.high,
+            y: travel.y.high,
+            z: travel.z.high,
         },
         start,
-        home28: home(start, head.places.home28),
-        home30: home(start, head.places.home30),
+        home28: home(start, places.home28),
+        home30: home(start, places.home30),
     }
 }
 
@@ -178,22 +181,28 @@ fn fixtures(alloc: Global, sheets: &[FixtureSheet]) -> Result<Vec<Corners>, Allo
 }
 
 /// Returns the contents of a machine file of version 2 for a sheet, with the step and the rates of
-/// its figures. Travel, home positions, origins, fixtures and the block of material are as they are
-/// written; the start is on the grid of the steps. It fails if memory is refused.
+/// its figures and with the step of each axis' motor. Home positions, origins, fixtures and the block
+/// of material are as they are written. The start is on the grid of the steps, and the travel of an
+/// axis ends at whole steps of its motor, if that isn't the grid's. It fails if memory is refused.
 pub(crate) fn contents_of(
     alloc: Global,
     sheet: &Sheet,
+    motors: &PerAxis<MotorScale>,
     rates: &Rates,
 ) -> Result<MachineContents, AllocError>
-    requires { AreInFile rates.now }
-    ensures { IfOk result (λ c. values_of c ≡ spec.values_by (sheet_values sheet.now) rates.now) }
+    requires motors { AreScales motors.now }
+    requires rates { AreInFile rates.now }
+    ensures { IfOk result
+        (λ c. values_of c ≡ spec.values_by (sheet_values sheet.now) motors.now rates.now) }
 {
+    let travel = travel_ends(rates.step, motors, &sheet.head.axes);
     let fixtures = fixtures(alloc, sheet.fixtures.as_slice())?;
     Ok(MachineContents {
         numbers: numbers(&sheet.head, rates),
         options: options(sheet),
+        motor_steps: steps_of(motors),
         axis_rates: axis_rates(&rates.axis_rate),
-        points: points(rates.step, &sheet.head),
+        points: points(rates.step, &travel, &sheet.head.places),
         origins: origins(&sheet.head.origins),
         fixtures,
     })

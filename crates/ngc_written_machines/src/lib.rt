@@ -5,6 +5,7 @@ mod contents;
 mod corners;
 mod figures;
 mod machine;
+mod motors;
 mod reading;
 mod refusal;
 

@@ -6,15 +6,17 @@ ghost use Rattle.ngc_machine_figures.specs.Files.{values_of as sheet_values};
 ghost use Rattle.ngc_machine_maker.specs.InFile.{AreInFile};
 ghost use Rattle.ngc_motor_scale.specs.Scales.{IsMotorScale};
 ghost use Rattle.ngc_written_machines.specs.Machines as spec;
+ghost use Rattle.ngc_written_machines.specs.Motors.{AreScales};
 
 use crate::contents::contents_of;
 use crate::figures::{figures_of, travel_length};
+use crate::motors::grid_of;
 use crate::refusal::{WrittenFault, WrittenRefusal};
 use ngc_machine_figures::{
     AxesSheet, AxisName, AxisSheet, HeadSheet, Sheet, SheetFault, read_sheet,
 };
 use ngc_machine_files::{FileFault, Machine};
-use ngc_machine_maker::{MachineNumbers, numbers_of};
+use ngc_machine_maker::{MachineNumbers, PerAxis, numbers_of};
 use ngc_motor_scale::{MotorScale, scale_of};
 use std::alloc::Global;
 use toml::Value;
@@ -29,22 +31,13 @@ fn motor_of(name: AxisName, axis: &AxisSheet) -> Result<MotorScale, WrittenRefus
     }
 }
 
-fn is_same(a: &MotorScale, b: &MotorScale) -> bool
-    ensures { result ≡ spec.is_same a.now b.now }
+// Returns an axis' motor. Refuses one whose step differs over the travel from whole nanometres by more
+// than a step.
+fn checked_axis(name: AxisName, axis: &AxisSheet) -> Result<MotorScale, WrittenRefusal>
+    ensures value { result ≡ spec.checked_axis name axis.now }
+    ensures range { IfOk result IsMotorScale }
 {
-    a.steps == b.steps && a.per == b.per
-}
-
-// Refuses an axis whose motor's step isn't that of X, or differs over the travel from whole
-// nanometres by more than a step.
-fn check_axis(scale: &MotorScale, name: AxisName, axis: &AxisSheet) -> Result<(), WrittenRefusal>
-    requires { IsMotorScale scale.now }
-    ensures { result ≡ spec.checked_axis scale.now name axis.now }
-{
-    let own = motor_of(name, axis)?;
-    if !is_same(scale, &own) {
-        return Err(WrittenRefusal::UnequalMotors(name));
-    }
+    let scale = motor_of(name, axis)?;
     let nanometres = scale.travel_error(u64::from(travel_length(axis.travel)));
     if nanometres > u64::from(scale.step) {
         return Err(WrittenRefusal::TravelError {
@@ -52,28 +45,31 @@ fn check_axis(scale: &MotorScale, name: AxisName, axis: &AxisSheet) -> Result<()
             nanometres,
         });
     }
-    Ok(())
-}
-
-// Returns the motors' scale, which is that of X.
-fn motors_of(axes: &AxesSheet) -> Result<MotorScale, WrittenRefusal>
-    ensures { result ≡ spec.motors_of axes.now }
-{
-    let scale = motor_of(AxisName::X, &axes.x)?;
-    check_axis(&scale, AxisName::X, &axes.x)?;
-    check_axis(&scale, AxisName::Y, &axes.y)?;
-    check_axis(&scale, AxisName::Z, &axes.z)?;
     Ok(scale)
 }
 
+#[tactic(auto, unfolding(crate::specs::Machines::motors_of))]
+fn motors_of(axes: &AxesSheet) -> Result<PerAxis<MotorScale>, WrittenRefusal>
+    ensures value { result ≡ spec.motors_of axes.now }
+    ensures range { IfOk result AreScales }
+{
+    Ok(PerAxis {
+        x: checked_axis(AxisName::X, &axes.x)?,
+        y: checked_axis(AxisName::Y, &axes.y)?,
+        z: checked_axis(AxisName::Z, &axes.z)?,
+    })
+}
+
 // Returns the step and the rates of what is written.
-#[tactic(auto, unfolding(crate::specs::Machines::rates_of))]
-fn rates_of(head: &HeadSheet) -> Result<MachineNumbers, WrittenRefusal>
-    ensures value { result ≡ spec.rates_of head.now }
+#[tactic(auto, unfolding(crate::specs::Machines::rates_with))]
+fn rates_with(
+    head: &HeadSheet,
+    motors: &PerAxis<MotorScale>,
+) -> Result<MachineNumbers, WrittenRefusal>
+    ensures value { result ≡ spec.rates_with head.now motors.now }
     ensures range { IfOk result AreInFile }
 {
-    let scale = motors_of(&head.axes)?;
-    match numbers_of(&figures_of(head, &scale)) {
+    match numbers_of(&figures_of(head, &grid_of(motors))) {
         Ok(rates) => Ok(rates),
         Err(refusal) => Err(WrittenRefusal::Figure(refusal)),
     }
@@ -91,11 +87,15 @@ fn fault_by(fault: FileFault) -> WrittenFault
 fn machine_by(alloc: Global, sheet: &Sheet) -> Result<Machine<Global>, WrittenFault>
     ensures { spec.WrittenResultIs file_of result (spec.machine_by (sheet_values sheet.now)) }
 {
-    let rates = match rates_of(&sheet.head) {
+    let motors = match motors_of(&sheet.head.axes) {
+        Ok(motors) => motors,
+        Err(refusal) => return Err(WrittenFault::Refused(refusal)),
+    };
+    let rates = match rates_with(&sheet.head, &motors) {
         Ok(rates) => rates,
         Err(refusal) => return Err(WrittenFault::Refused(refusal)),
     };
-    let contents = match contents_of(alloc, sheet, &rates) {
+    let contents = match contents_of(alloc, sheet, &motors, &rates) {
         Ok(contents) => contents,
         Err(_) => return Err(WrittenFault::Memory),
     };

@@ -1,4 +1,4 @@
-use Rattle.std.proofs.Common.{◌+◌, ◌*◌, ◌^◌, ℕ, arith, rules, refl}
+use Rattle.std.proofs.Common.{◌+◌, ◌*◌, ◌^◌, ℕ, arith, rules, refl, ◌∙◌}
 use Rattle.std.proofs.lemmas.Result.{on_err_weaker}
 use Rattle.ngc_events.specs.declared.event.EventLine.{EventLine}
 use Rattle.ngc_events.specs.declared.event.Event.TheVariants.{Load}
@@ -17,7 +17,7 @@ loop-line-init g c =
     let controller = c.args.controller.now in
     let new : AreNew c.args.trace controller.job controller.state c.new-recorder.result =
     new_recorder c.args.trace controller.job controller.state c.new-recorder.result _ c.requires.opens c.position.ensures c.new-recorder.ensures.report
-    c.new-recorder.ensures.trace c.requires.begins c.new-recorder.ensures.chunk in
+    (c.new-recorder.ensures.motors ∙ c.motors.ensures) c.new-recorder.ensures.trace c.requires.begins c.new-recorder.ensures.chunk in
     record {
       job = refl;
       recorded = nothing_recorded _ _ _ _;
@@ -42,7 +42,7 @@ returns-in-Err-clause-broken g c =
     let controller = c.args.controller.now in
     let new : AreNew c.args.trace controller.job controller.state c.new-recorder.result =
     new_recorder c.args.trace controller.job controller.state c.new-recorder.result _ c.requires.opens c.position.ensures c.new-recorder.ensures.report
-    c.new-recorder.ensures.trace c.requires.begins c.new-recorder.ensures.chunk in
+    (c.new-recorder.ensures.motors ∙ c.motors.ensures) c.new-recorder.ensures.trace c.requires.begins c.new-recorder.ensures.chunk in
     run_cut _ _ _ _ _ _ _ new c.requires.safe c.requires.in_time
     (line_cut _ _ _ _ _ _ _ _ _ c.args.lines.now c.loop-line.line-index none c.loop-line.invariant.job c.loop-line-test.true c.loop-line.invariant.recorded
     c.in-Err.ensures.fault)
@@ -52,7 +52,7 @@ returns-clause-broken g c =
     let controller = c.args.controller.now in
     let new : AreNew c.args.trace controller.job controller.state c.new-recorder.result =
     new_recorder c.args.trace controller.job controller.state c.new-recorder.result _ c.requires.opens c.position.ensures c.new-recorder.ensures.report
-    c.new-recorder.ensures.trace c.requires.begins c.new-recorder.ensures.chunk in
+    (c.new-recorder.ensures.motors ∙ c.motors.ensures) c.new-recorder.ensures.trace c.requires.begins c.new-recorder.ensures.chunk in
     on_err_weaker c.finish.result
     (run_untraced _ _ _ _ _ _ _ _ _ c.args.lines.now c.loop-line.line-index new c.requires.safe c.requires.in_time c.loop-line-test.false
     c.loop-line.invariant.recorded) c.finish.ensures.fault
@@ -62,7 +62,7 @@ returns-clause-traced g c =
     let controller = c.args.controller.now in
     let new : AreNew c.args.trace controller.job controller.state c.new-recorder.result =
     new_recorder c.args.trace controller.job controller.state c.new-recorder.result _ c.requires.opens c.position.ensures c.new-recorder.ensures.report
-    c.new-recorder.ensures.trace c.requires.begins c.new-recorder.ensures.chunk in
+    (c.new-recorder.ensures.motors ∙ c.motors.ensures) c.new-recorder.ensures.trace c.requires.begins c.new-recorder.ensures.chunk in
     if_ok_both _ _ c.finish.result c.finish.ensures.report c.finish.ensures.ok
     (λ report same wrote. run_traced _ _ _ _ _ _ _ _ _ c.args.lines.now c.loop-line.line-index report new c.requires.safe c.requires.in_time
     c.loop-line-test.false c.loop-line.invariant.recorded wrote same)

@@ -1,4 +1,4 @@
-use Rattle.std.proofs.Common.{◌^◌, ap, length, arith}
+use Rattle.std.proofs.Common.{◌^◌, ap, length, arith, ◌∙◌}
 use Rattle.std.proofs.lemmas.Result.{on_err_weaker}
 use Rattle.ngc_machine_model.specs.State.{State}
 use Rattle.ngc_run_through.proofs.RunResults.{AreNew, new_recorder, none_counted, if_ok_both}
@@ -23,14 +23,14 @@ go_on-requires-clause-few g c =
     let controller = c.args.controller.now in
     none_counted c.args.trace controller.job controller.state c.new-recorder.result 0
     (new_recorder c.args.trace controller.job controller.state c.new-recorder.result _ c.requires.opens c.position.ensures c.new-recorder.ensures.report
-    c.new-recorder.ensures.trace c.requires.begins c.new-recorder.ensures.chunk)
+    (c.new-recorder.ensures.motors ∙ c.motors.ensures) c.new-recorder.ensures.trace c.requires.begins c.new-recorder.ensures.chunk)
 
 pub returns-in-Err-clause-broken : goal.returns-in-Err-clause-broken
 returns-in-Err-clause-broken g c =
     let controller = c.args.controller.now in
     let new : AreNew c.args.trace controller.job controller.state c.new-recorder.result =
     new_recorder c.args.trace controller.job controller.state c.new-recorder.result _ c.requires.opens c.position.ensures c.new-recorder.ensures.report
-    c.new-recorder.ensures.trace c.requires.begins c.new-recorder.ensures.chunk in
+    (c.new-recorder.ensures.motors ∙ c.motors.ensures) c.new-recorder.ensures.trace c.requires.begins c.new-recorder.ensures.chunk in
     through_broken _ _ _ _ _ new c.requires.safe c.requires.in_time c.in-Err.ensures.fault
 
 pub returns-clause-broken : goal.returns-clause-broken
@@ -38,7 +38,7 @@ returns-clause-broken g c =
     let controller = c.args.controller.now in
     let new : AreNew c.args.trace controller.job controller.state c.new-recorder.result =
     new_recorder c.args.trace controller.job controller.state c.new-recorder.result _ c.requires.opens c.position.ensures c.new-recorder.ensures.report
-    c.new-recorder.ensures.trace c.requires.begins c.new-recorder.ensures.chunk in
+    (c.new-recorder.ensures.motors ∙ c.motors.ensures) c.new-recorder.ensures.trace c.requires.begins c.new-recorder.ensures.chunk in
     on_err_weaker c.finish.result (through_unwritten _ _ _ _ _ _ _ _ _ _ new c.requires.safe c.requires.in_time c.in-Ok.ensures.goes) c.finish.ensures.fault
 
 pub returns-clause-traced : goal.returns-clause-traced
@@ -46,7 +46,7 @@ returns-clause-traced g c =
     let controller = c.args.controller.now in
     let new : AreNew c.args.trace controller.job controller.state c.new-recorder.result =
     new_recorder c.args.trace controller.job controller.state c.new-recorder.result _ c.requires.opens c.position.ensures c.new-recorder.ensures.report
-    c.new-recorder.ensures.trace c.requires.begins c.new-recorder.ensures.chunk in
+    (c.new-recorder.ensures.motors ∙ c.motors.ensures) c.new-recorder.ensures.trace c.requires.begins c.new-recorder.ensures.chunk in
     if_ok_both _ _ c.finish.result c.finish.ensures.report c.finish.ensures.ok
     (λ report same wrote. through_traced _ _ _ _ _ _ _ _ _ _ report new c.requires.safe c.requires.in_time c.requires.has_end c.requires.count
     c.in-Ok.ensures.goes c.in-Ok.ensures.runs wrote same)
@@ -56,6 +56,6 @@ finish-requires g c =
     let controller = c.args.controller.now in
     let new : AreNew c.args.trace controller.job controller.state c.new-recorder.result =
     new_recorder c.args.trace controller.job controller.state c.new-recorder.result _ c.requires.opens c.position.ensures c.new-recorder.ensures.report
-    c.new-recorder.ensures.trace c.requires.begins c.new-recorder.ensures.chunk in
+    (c.new-recorder.ensures.motors ∙ c.motors.ensures) c.new-recorder.ensures.trace c.requires.begins c.new-recorder.ensures.chunk in
     few_behind _ _ _ 0 (2 ^ 126) _ _ _ _ _ _ c.in-Ok.ensures.goes.goes (none_counted c.args.trace controller.job controller.state c.new-recorder.result 0 new)
     (omega arith)

@@ -12,7 +12,7 @@ time_parts-requires-clause-few g c =
     let controller = c.args.controller.now in
     let new : AreNew NotReported controller.job controller.state c.new-recorder.result =
     new_recorder NotReported controller.job controller.state c.new-recorder.result _ c.requires.opens c.position.ensures c.new-recorder.ensures.report
-    c.new-recorder.ensures.trace refl c.new-recorder.ensures.chunk in
+    (c.new-recorder.ensures.motors ∙ c.motors.ensures) c.new-recorder.ensures.trace refl c.new-recorder.ensures.chunk in
     few_behind _ _ _ 0 (2 ^ 10) _ _ _ _ _ _ c.load_first.ensures.goes (none_counted NotReported controller.job controller.state c.new-recorder.result 0 new)
     (omega (arith, c.min-first.ensures, c.ring.ensures, c.requires.machine.ring.greatest))
 
@@ -26,7 +26,7 @@ returns-in-Ok-clause-times g c =
     let controller = c.args.controller.now in
     let new : AreNew NotReported controller.job controller.state c.new-recorder.result =
     new_recorder NotReported controller.job controller.state c.new-recorder.result _ c.requires.opens c.position.ensures c.new-recorder.ensures.report
-    c.new-recorder.ensures.trace refl c.new-recorder.ensures.chunk in
+    (c.new-recorder.ensures.motors ∙ c.motors.ensures) c.new-recorder.ensures.trace refl c.new-recorder.ensures.chunk in
     let P : ℕ → Type 0 = λ n. IsTimedThrough controller.job n c.in-Ok.parts.items in
     subst P (sym c.ticks.ensures)
     (timed_through NotReported _ _ _ _ _ _ _ _ _ _ new c.requires.safe c.requires.in_time c.requires.has_end c.load_first.ensures.goes c.load_first.ensures.still

@@ -1,6 +1,7 @@
 use Rattle.std.proofs.Common.{◌+◌, ◌^◌, ◌++◌, ◌∷◌, [], ap, arith, refl, replicate, subst, sym, ◌∙◌}
 use Rattle.ngc_run_log.specs.Feeding.{Processes}
 use Rattle.ngc_run_log.specs.Living.{HasRun, IsCutRun, LiveData}
+use Rattle.ngc_run_through.specs.declared.report.Report.{Report}
 use Rattle.ngc_run_through.specs.Tracing.{opening_text}
 use Rattle.ngc_run_through.proofs.UntouchedEvents.{at_most_more}
 use Rattle.ngc_run_log.proofs.LiveLaws.{cut_behind, cut_within, fed_processes, has_run, none_counted_yet, one_cut_short, one_fed}
@@ -11,7 +12,9 @@ returns-in-Err-clause-cut g c = λ form lines first h.
     let P : LiveData → Type 0 = λ d. HasRun form d lines first (g.W.Sink.written c.args.sink.now) in
     let Q : LiveData → Type 0 = λ d. IsCutRun form d.feeds d.job (lines ++ c.args.line.now ∷ []) first (g.W.Sink.written c.send_line.new.sink) in
     subst Q c.self.view_is
-    (cut_within form _ lines (c.args.line.now ∷ []) first _ _ _ c.new-recorder.result (subst P (sym c.self.view_is) h) c.as_slice.ensures.value
+    (cut_within form _ lines (c.args.line.now ∷ []) first _ _ _ c.new-recorder.result (subst P (sym c.self.view_is) h)
+    (record { motors = c.new-recorder.ensures.motors ∙ c.motors.ensures; place = ap (λ (r : Report). r.position) c.new-recorder.ensures.report ∙ c.position.ensures })
+    c.as_slice.ensures.value
     (c.new-recorder.ensures.trace ∙ c.going_on-trace.ensures) (c.new-recorder.ensures.chunk ∙ ap opening_text c.going_on-trace.ensures)
     (one_cut_short _ _ _ _ _ _ c.args.line.now c.in-Err.ensures.cut))
 
@@ -19,6 +22,7 @@ pub returns-clause-runs : goal.returns-clause-runs
 returns-clause-runs g c = λ form lines first h.
     let P : LiveData → Type 0 = λ d. HasRun form d lines first (g.W.Sink.written c.args.sink.now) in
     has_run form _ _ lines (c.args.line.now ∷ []) first _ _ _ _ c.new-recorder.result c.send_line.new.recorder (subst P (sym c.self.view_is) h)
+    (record { motors = c.new-recorder.ensures.motors ∙ c.motors.ensures; place = ap (λ (r : Report). r.position) c.new-recorder.ensures.report ∙ c.position.ensures })
     c.as_slice.ensures.value
     (c.new-recorder.ensures.trace ∙ c.going_on-trace.ensures) (c.new-recorder.ensures.chunk ∙ ap opening_text c.going_on-trace.ensures)
     (one_fed _ _ _ _ _ _ _ _ c.args.line.now c.in-Ok.ensures.fed) c.in-Ok-finish.ensures.ok c.in-Ok.ensures.job refl refl c.paused-self-inside.ensures
@@ -34,6 +38,7 @@ returns-in-Err-finish-clause-cut g c = λ form lines first h.
     let Q : LiveData → Type 0 = λ d. IsCutRun form d.feeds d.job (lines ++ c.args.line.now ∷ []) first (g.W.Sink.written c.finish.new.sink) in
     subst Q c.self.view_is
     (cut_behind form _ _ lines (c.args.line.now ∷ []) first _ _ _ _ c.new-recorder.result c.send_line.new.recorder (subst P (sym c.self.view_is) h)
+    (record { motors = c.new-recorder.ensures.motors ∙ c.motors.ensures; place = ap (λ (r : Report). r.position) c.new-recorder.ensures.report ∙ c.position.ensures })
     c.as_slice.ensures.value
     (c.new-recorder.ensures.trace ∙ c.going_on-trace.ensures) (c.new-recorder.ensures.chunk ∙ ap opening_text c.going_on-trace.ensures)
     (one_fed _ _ _ _ _ _ _ _ c.args.line.now c.in-Ok.ensures.fed) c.in-Err-finish.ensures.fault)

@@ -5,4 +5,4 @@ use Rattle.ngc_run_through.proofs.recorder.Recorder.rest.Goals as goal
 pub returns : goal.returns
 returns c = λ written.
     let report = c.args.self.now.report in
-    quiet_recorded c.args.count c.args.self.now _ written (ap (λ n. record report { ticks = report.ticks + n }) c.from.ensures) c.rest.ensures refl
+    quiet_recorded c.args.count c.args.self.now _ written refl (ap (λ n. record report { ticks = report.ticks + n }) c.from.ensures) c.rest.ensures refl
