@@ -11,7 +11,7 @@ use Rattle.ngc_inputs.specs.declared.fault.AnswerFault.{AnswerFault}
 use Rattle.ngc_saved_files.specs.Files.{source_failures}
 use Rattle.ngc_saved_files.specs.declared.source.SavedSource.{SavedSource}
 use Rattle.ngc_saved_files.specs.declared.source.SavedSource.TheVariants as sources
-use Rattle.ngc_page.specs.Answered.{ReportsUnreadable}
+use Rattle.ngc_page.specs.Answered.{IsLeft, ReportsUnreadable}
 
 -- a count that stays 0 doesn't rise
 never_rises : (old new : ℕ) → old ≡ 0 → new ≡ 0 → Rises old new → ⊥
@@ -49,7 +49,7 @@ saved_never (sources.Whole text) = refl
 saved_never (sources.InLines text) = refl
 
 -- no source fails
-never_fails : {S : Type 0} (remaining : S → Option (List ℕ)) (failures : S → ℕ) (none : (s : S) → failures s ≡ 0) (known : Option (List ℕ)) →
+pub never_fails : {S : Type 0} (remaining : S → Option (List ℕ)) (failures : S → ℕ) (none : (s : S) → failures s ≡ 0) (known : Option (List ℕ)) →
     SourceFails remaining failures known → ⊥
 never_fails remaining failures none known h = never_rises (failures h.opened) (failures h.left) (none h.opened) (none h.left) h.fails
 
@@ -58,3 +58,11 @@ pub all_read : {S : Type 0} (remaining : SavedSource S → Option (List ℕ)) (b
 all_read remaining bytes files (Ok done) h = tt
 all_read remaining bytes files (Err fault) h =
     told (SourceFails remaining (source_failures (λ _. 0))) (never_fails remaining (source_failures (λ _. 0)) saved_never) bytes files (unread_by fault) h
+
+-- a file that isn't read is one for which memory ran out, or too long
+pub left_of : {S : Type 0} (remaining : SavedSource S → Option (List ℕ)) (known : Option (List ℕ)) (fault : InputFault)
+    → ReportsUnread (SourceFails remaining (source_failures (λ _. 0))) known 0 0 fault → IsLeft known fault
+left_of remaining known inputs.Memory h = tt
+left_of remaining known inputs.TooLong h = h.2
+left_of remaining known inputs.Device h =
+    unread (SourceFails remaining (source_failures (λ _. 0))) (never_fails remaining (source_failures (λ _. 0)) saved_never) known h

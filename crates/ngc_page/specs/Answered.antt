@@ -1,17 +1,20 @@
 -- The result of a call.
-use Rattle.std.specs.Prelude.{◌≡◌, ◌<◌, ℕ, List, [], ◌++◌, length, take, drop, min, Bool, Option, Some}
-use Rattle.std.specs.Prelude.{IfErr, Result}
+use Rattle.std.specs.Prelude.{◌≡◌, ◌<◌, ◌⊎◌, ℕ, List, [], ◌++◌, length, take, drop, min, Bool, Option, Some}
+use Rattle.std.specs.Prelude.{Err, IfErr, IfSome, IsSomeAnd, Result}
 use Rattle.ngc_text.specs.declared.input_fault.InputFault.{InputFault}
-use Rattle.ngc_text.specs.declared.input_fault.InputFault.TheVariants.{Device}
+use Rattle.ngc_text.specs.declared.input_fault.InputFault.TheVariants.{Device, Memory, TooLong}
 use Rattle.ngc_command_line.specs.declared.options.Options.{Options}
+use Rattle.ngc_dialect_choice.specs.Choice.{IsChosen, deciding_file}
 use Rattle.ngc_saved_files.specs.Files.{saved_bytes}
 use Rattle.ngc_saved_files.specs.Lines.{lines_of}
 use Rattle.ngc_saved_files.specs.Notes.{IsNoted}
 use Rattle.ngc_simulator.specs.Answers.{ResultsBy, Prints, status_of}
 use Rattle.ngc_inputs.specs.Setups.{FileBytes}
 use Rattle.ngc_inputs.specs.Unread.{unread_by}
+use Rattle.ngc_inputs.specs.declared.setup.TheConstants.{FILE_LIMIT}
 use Rattle.ngc_simulator.specs.declared.done.Done.{Done}
 use Rattle.ngc_inputs.specs.declared.fault.AnswerFault.{AnswerFault}
+use Rattle.ngc_inputs.specs.declared.fault.AnswerFault.TheVariants.{Input as Unread}
 
 -- a file couldn't be opened, or reading it failed
 abbrev pub ReportsUnreadable : Option InputFault → Type 0
@@ -33,12 +36,37 @@ pub record TellsOf (outcome : Result Done AnswerFault) (status : ℕ) (errors : 
   pub noted : IsNoted is_wide status told (Some errors) missed failed
   pub keeps : 0 < failed → length errors ≡ LINES_KEPT
 
+-- memory ran out while a file was read, or it is too long
+abbrev pub IsLeft : Option (List ℕ) → InputFault → Type 0
+IsLeft known Memory = Unit {0}
+IsLeft known TooLong = IfSome known (λ text. FILE_LIMIT < length text)
+IsLeft known Device = ⊥
+
+-- The command was done on a program in the language that the options or the machine file name.
+pub record IsDoneIn (files : FileBytes) (options : Options) (output : List ℕ) (outcome : Result Done AnswerFault) :
+    Type 0 where
+  pub chosen : Options
+  pub choice : IsChosen files options chosen
+  pub comes : ResultsBy files chosen (Some []) (Some output) outcome
+
+-- Nothing was done, since the machine file that decides on the language wasn't read.
+pub record IsHeld (files : FileBytes) (options : Options) (output : List ℕ) (outcome : Result Done AnswerFault) :
+    Type 0 where
+  pub fault : InputFault
+  pub left : IsSomeAnd (deciding_file options) (λ file. IsLeft (files (Some file)) fault)
+  pub nothing : output ≡ []
+  pub reports : outcome ≡ Err (Unread fault)
+
+abbrev pub ComesIn : FileBytes → Options → List ℕ → Result Done AnswerFault → Type 0
+ComesIn files options output outcome =
+    IsDoneIn files options output outcome ⊎ IsHeld files options output outcome
+
 -- The result of `ngc` with these options on these files as an editor saves them: its output, the lines of its
 -- standard error, and its status. No file is unreadable.
 pub record IsResult (files : FileBytes) (options : Options) (output errors : List ℕ) (status : ℕ) :
     Type 0 where
   pub outcome : Result Done AnswerFault
-  pub comes : ResultsBy (saved_bytes (lines_of options) files) options (Some []) (Some output) outcome
+  pub comes : ComesIn (saved_bytes (lines_of options) files) options output outcome
   pub says : status ≡ status_of outcome
   pub read : IfErr outcome (λ fault. ¬ ReportsUnreadable (unread_by fault))
   pub lines : TellsOf outcome status errors

@@ -1,0 +1,45 @@
+-- Words that have no line breaks are the lines of their text.
+use Rattle.std.proofs.Common.{◌≡◌, ◌∙◌, ◌≤◌, ◌-◌, ◌==◌, ◌||◌, ℕ, List, [], ◌∷◌, ◌++◌, Bool, true, false, length, ap, arith, refl}
+use Rattle.std.specs.List.{list_any, onto_first, slice_index, slice_split}
+use Rattle.std.specs.Str.Lines.{lines, lines_of_parts, strip_carriage_return}
+use Rattle.std.proofs.lemmas.List.Splits.{length-slice_split, slice_split-cons_no}
+use Rattle.ngc_page.specs.JobCalls.{has_break, is_break, lines_text}
+
+neither : (a b : Bool) → (a || b) ≡ false → (a ≡ false) × (b ≡ false)
+neither true b h = absurd h
+neither false b h = (refl, h)
+
+
+-- a word and a line feed are a part of their own
+split_word : (word rest : List ℕ) → has_break word ≡ false
+    → slice_split (λ b. b == 10) (word ++ (10 ∷ rest)) ≡ word ∷ slice_split (λ b. b == 10) rest
+split_word [] rest plain = refl
+split_word (b ∷ word) rest plain =
+    slice_split-cons_no (λ b. b == 10) b (word ++ (10 ∷ rest)) (neither (b == 10) (b == 13) (neither (is_break b) (has_break word) plain).1).1
+    ∙ ap (onto_first b) (split_word word rest (neither (is_break b) (has_break word) plain).2)
+
+-- its last byte is no carriage return
+ends_plain : (word : List ℕ) → has_break word ≡ false → (slice_index word (length word - 1) == 13) ≡ false
+ends_plain [] plain = refl
+ends_plain (b ∷ []) plain = (neither (b == 10) (b == 13) (neither (is_break b) false plain).1).2
+ends_plain (b ∷ c ∷ word) plain = ends_plain (c ∷ word) (neither (is_break b) (has_break (c ∷ word)) plain).2
+
+unstripped : (word : List ℕ) → has_break word ≡ false → strip_carriage_return word ≡ word
+unstripped word plain = rw (ends_plain word plain) refl
+
+first_line : (part : List ℕ) (parts : List (List ℕ)) → 1 ≤ length parts
+    → lines_of_parts (part ∷ parts) ≡ strip_carriage_return part ∷ lines_of_parts parts
+first_line part [] some = absurd (omega (arith, some))
+first_line part (next ∷ parts) some = refl
+
+some_parts : (text : List ℕ) → 1 ≤ length (slice_split (λ b. b == 10) text)
+some_parts text = omega (arith, length-slice_split (λ b. b == 10) text)
+
+pub words_same : (words : List (List ℕ)) → list_any has_break words ≡ false → lines (lines_text words) ≡ words
+words_same [] plain = refl
+words_same (word ∷ words) plain =
+    let alone : has_break word ≡ false = (neither (has_break word) (list_any has_break words) plain).1 in
+    let others : list_any has_break words ≡ false = (neither (has_break word) (list_any has_break words) plain).2 in
+    ap lines_of_parts (split_word word (lines_text words) alone)
+    ∙ (first_line word (slice_split (λ b. b == 10) (lines_text words)) (some_parts (lines_text words))
+    ∙ (ap (λ w. w ∷ lines (lines_text words)) (unstripped word alone) ∙ ap (λ ws. word ∷ ws) (words_same words others)))
