@@ -57,7 +57,7 @@ module _ {S : Type 0} (remaining : SavedSource S → Option (List ℕ)) (files :
   }
   result_in (Stopped stop) =
       let left : IsSomeAnd (deciding_file options) (λ file. IsLeft (saved_bytes (lines_of options) files (Some file)) stop.fault) =
-          left_in remaining (deciding_file options) (saved_bytes (lines_of options) files) stop.fault stop.unread in
+      left_in remaining (deciding_file options) (saved_bytes (lines_of options) files) stop.fault stop.unread in
       record {
         outcome = Err (Unread stop.fault);
         comes = inr (record { fault = stop.fault; left = left; nothing = ap (λ it. unwrap_or it []) stop.untouched; reports = refl });
@@ -70,12 +70,12 @@ module _ {S : Type 0} (remaining : SavedSource S → Option (List ℕ)) (files :
 pub result_of : {S : Type 0} (remaining : SavedSource S → Option (List ℕ)) (options : Options) (saved : SavedFiles PassedFiles) (output errors : Taking)
     (status : ℕ) (files : PassedFiles) (text lines : List ℕ) (failed : ℕ) (is_wide : Bool)
     → AnswersByMachine
-        (record {
-          bytes = saved_bytes saved.lines (bytes_of saved.inner);
-          fails = SourceFails remaining (source_failures (λ _. 0));
-          failures = 0;
-          failures_now = 0;
-        }) options output errors status
+    (record {
+      bytes = saved_bytes saved.lines (bytes_of saved.inner);
+      fails = SourceFails remaining (source_failures (λ _. 0));
+      failures = 0;
+      failures_now = 0;
+    }) options output errors status
     → saved.lines ≡ lines_of options → saved.inner ≡ files → output.old ≡ Some [] → output.new ≡ Some text
     → errors.old ≡ Some [] → errors.failures ≡ 0
     → IsNoted is_wide status errors.new (Some lines) errors.failures_now failed → (0 < failed → length lines ≡ LINES_KEPT)

@@ -1,5 +1,5 @@
 -- Words that have no line breaks are the lines of their text.
-use Rattle.std.proofs.Common.{◌≡◌, ◌∙◌, ◌≤◌, ◌-◌, ◌==◌, ◌||◌, ℕ, List, [], ◌∷◌, ◌++◌, Bool, true, false, length, ap, arith, refl}
+use Rattle.std.proofs.Common.{◌≡◌, ◌∙◌, ◌≤◌, ◌-◌, ◌==◌, ◌||◌, ℕ, List, [], ◌∷◌, ◌++◌, Bool, true, false, length, map, ap, arith, refl}
 use Rattle.std.specs.List.{list_any, onto_first, slice_index, slice_split}
 use Rattle.std.specs.Str.Lines.{lines, lines_of_parts, strip_carriage_return}
 use Rattle.std.proofs.lemmas.List.Splits.{length-slice_split, slice_split-cons_no}
@@ -8,7 +8,6 @@ use Rattle.ngc_page.specs.JobCalls.{has_break, is_break, lines_text}
 neither : (a b : Bool) → (a || b) ≡ false → (a ≡ false) × (b ≡ false)
 neither true b h = absurd h
 neither false b h = (refl, h)
-
 
 -- a word and a line feed are a part of their own
 split_word : (word rest : List ℕ) → has_break word ≡ false
@@ -43,3 +42,8 @@ words_same (word ∷ words) plain =
     ap lines_of_parts (split_word word (lines_text words) alone)
     ∙ (first_line word (slice_split (λ b. b == 10) (lines_text words)) (some_parts (lines_text words))
     ∙ (ap (λ w. w ∷ lines (lines_text words)) (unstripped word alone) ∙ ap (λ ws. word ∷ ws) (words_same words others)))
+
+-- a test of what a function makes of each element
+pub any_of_map : {X Y : Type 0} (test : Y → Bool) (f : X → Y) (xs : List X) → list_any test (map f xs) ≡ list_any (λ x. test (f x)) xs
+any_of_map test f [] = refl
+any_of_map test f (x ∷ xs) = ap (λ rest. test (f x) || rest) (any_of_map test f xs)

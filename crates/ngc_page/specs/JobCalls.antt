@@ -69,14 +69,21 @@ pub record IsReadWith (files : FileBytes) (words : List (List ℕ)) (output erro
   pub call : IsCall (λ _. ⊥) files none_missed words result
   pub tells : Tells result output errors status
 
+-- the words are the lines of a text
+abbrev pub ReadsText : FileBytes → List ℕ → Space → Space → ℕ → Type 0
+ReadsText files text output errors status =
+    IsReadWith files (lines text) output errors status ⊎ IsUnread output errors status
+
+pub record TellsNoText (output errors : Space) (status : ℕ) : Type 0 where
+  pub says : status ≡ 2
+  pub tells : TellsOnly (codes "error: a word of the command line is no UTF-8 text\n") output errors
+
 -- The words or the name are no text in UTF-8.
 pub record IsNoText (words name : List ℕ) (output errors : Space) (status : ℕ) : Type 0 where
   pub wrong : ¬ (IsUtf8 words × IsUtf8 name)
-  pub says : status ≡ 2
-  pub tells : TellsOnly (codes "error: a word of the command line is no UTF-8 text\n") output errors
+  pub told : TellsNoText output errors status
 
 -- the call whose words are the lines of a text, with a job file of this name
 abbrev pub CalledWith : List ℕ → List ℕ → List ℕ → Space → Space → ℕ → Type 0
 CalledWith name job text output errors status =
-    IsReadWith (job_passed name job) (lines text) output errors status
-    ⊎ IsNoText text name output errors status ⊎ IsUnread output errors status
+    ReadsText (job_passed name job) text output errors status ⊎ IsNoText text name output errors status

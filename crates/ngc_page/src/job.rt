@@ -1,11 +1,8 @@
 //! The words of a call with its job file.
-ghost use Rattle.std.specs.Prelude.{◌≡◌, ◌++◌, IfOk, OnOk, map, string_bytes};
+ghost use Rattle.std.specs.Prelude.{◌≡◌, IfOk, map};
 ghost use Rattle.std.specs.List.{list_any};
-ghost use Rattle.std.specs.Str.{IsUtf8};
-ghost use Rattle.std.specs.Str.Lines.{lines};
 ghost use Rattle.ngc_job_calls.specs.Calls.{call_in};
 ghost use Rattle.ngc_page.specs.Answered.{space};
-ghost use Rattle.ngc_page.specs.Commanded.{IsUnread};
 ghost use Rattle.ngc_page.specs.JobCalls as spec;
 ghost use Rattle.ngc_page.specs.Files.{job_bytes_of};
 
@@ -27,10 +24,16 @@ fn has_break(word: &[u8]) -> bool
     word.iter().any(|byte| is_break(*byte))
 }
 
+fn have_break_in(words: &[&str]) -> bool
+    ensures { result ≡ list_any (λ w. spec.has_break w.now) words.now }
+{
+    words.iter().any(|word| has_break(word.as_bytes()))
+}
+
 fn have_break(words: &[&str]) -> bool
     ensures { result ≡ list_any spec.has_break (map (λ w. w.now) words.now) }
 {
-    words.iter().any(|word| has_break(word.as_bytes()))
+    have_break_in(words)
 }
 
 // Returns a text with the words as its lines.
@@ -67,17 +70,18 @@ fn hand_words(
     let Ok(text) = lines_text(alloc, words.as_slice()) else {
         return tell_unread(output, errors, lengths);
     };
-    hand_over(text.as_slice(), call.note.as_slice(), output, errors, lengths);
+    hand_over(
+        text.as_slice(),
+        call.note.as_slice(),
+        output,
+        errors,
+        lengths,
+    );
     0
 }
 
 // Hands over why a call isn't begun.
-fn hand_fault(
-    fault: &CallFault,
-    output: &mut [u8],
-    errors: &mut [u8],
-    lengths: &mut Lengths,
-) -> u32
+fn hand_fault(fault: &CallFault, output: &mut [u8], errors: &mut [u8], lengths: &mut Lengths) -> u32
     ensures { spec.IsRefused fault.now (space output.old output.new lengths.new.output)
         (space errors.old errors.new lengths.new.errors) result }
 {
@@ -104,6 +108,34 @@ fn read_with(
     }
 }
 
+// Reads the words of a call, which are the lines of a text, with those that a job file of this name adds.
+fn read_text(
+    alloc: Global,
+    text: &str,
+    job: PassedJob<'_>,
+    output: &mut [u8],
+    errors: &mut [u8],
+    lengths: &mut Lengths,
+) -> u32
+    ensures { spec.ReadsText (job_bytes_of job.entry) text.now
+        (space output.old output.new lengths.new.output)
+        (space errors.old errors.new lengths.new.errors) result }
+{
+    let Ok(words) = words_in(alloc, text) else {
+        return tell_unread(output, errors, lengths);
+    };
+    read_with(alloc, words.as_slice(), job, output, errors, lengths)
+}
+
+fn tell_no_text(output: &mut [u8], errors: &mut [u8], lengths: &mut Lengths) -> u32
+    ensures { spec.TellsNoText (space output.old output.new lengths.new.output)
+        (space errors.old errors.new lengths.new.errors) result }
+{
+    let fault = b"error: a word of the command line is no UTF-8 text\n";
+    tell_only(fault, output, errors, lengths);
+    2
+}
+
 /// Reads the words of a call, which are the lines of a text, with those that a job file of this name
 /// adds. It writes them to the front of the output, a line each, and the line on the job file to the
 /// front of the errors, as far as there is space, and returns the status.
@@ -120,14 +152,12 @@ pub fn job_into(
         (space output.old output.new lengths.new.output)
         (space errors.old errors.new lengths.new.errors) result }
 {
-    let (Ok(text), Ok(name)) = (str::from_utf8(text), str::from_utf8(name)) else {
-        let fault = b"error: a word of the command line is no UTF-8 text\n";
-        tell_only(fault, output, errors, lengths);
-        return 2;
+    let Ok(text) = str::from_utf8(text) else {
+        return tell_no_text(output, errors, lengths);
     };
-    let Ok(words) = words_in(alloc, text) else {
-        return tell_unread(output, errors, lengths);
+    let Ok(name) = str::from_utf8(name) else {
+        return tell_no_text(output, errors, lengths);
     };
     let job = PassedJob { name, job };
-    read_with(alloc, words.as_slice(), job, output, errors, lengths)
+    read_text(alloc, text, job, output, errors, lengths)
 }

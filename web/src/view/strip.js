@@ -22,7 +22,7 @@ function certificateChip(certificate, verdict, failure, actions) {
 }
 
 function jobChip(job, lack, note, actions) {
-  const about = lack ? 'a file is missing' : note.startsWith('ngc: ') ? 'adds to each call' : note ? 'refused' : 'adds nothing';
+  const about = lack ? 'a file is missing' : /^ngc: .* adds /.test(note) ? 'adds to each call' : note ? 'refused' : 'adds nothing';
   return h('div', { class: `chip job ${lack || about === 'refused' ? 'bad' : ''}` }, h('span', { class: 'label' }, 'Job'), h('span', { class: 'name', title: job.name }, job.name),
     h('span', { class: 'about', title: lack ?? note }, about), h('button', { class: 'close', type: 'button', 'aria-label': 'Forget the job file', onclick: actions.forgetJob }, '\u00d7'));
 }
