@@ -11,7 +11,7 @@ use Rattle.ngc_inputs.specs.declared.fault.AnswerFault.{AnswerFault}
 use Rattle.ngc_saved_files.specs.Files.{source_failures}
 use Rattle.ngc_saved_files.specs.declared.source.SavedSource.{SavedSource}
 use Rattle.ngc_saved_files.specs.declared.source.SavedSource.TheVariants as sources
-use Rattle.ngc_page.specs.Answered.{IsLeft, ReportsUnreadable}
+use Rattle.ngc_page.specs.Answered.{ReportsUnreadable}
 
 -- a count that stays 0 doesn't rise
 never_rises : (old new : ℕ) → old ≡ 0 → new ≡ 0 → Rises old new → ⊥
@@ -19,7 +19,7 @@ never_rises old new is_none stays (inl h) = absurd (omega arith)
 never_rises old new is_none stays (inr h) = absurd (omega arith)
 
 module _ (fails : Option (List ℕ) → Type 0) (never : (known : Option (List ℕ)) → fails known → ⊥) where
-  unread : (known : Option (List ℕ)) → ReportsUnread fails known 0 0 inputs.Device → ⊥
+  pub unread : (known : Option (List ℕ)) → ReportsUnread fails known 0 0 inputs.Device → ⊥
   unread known (inl rises) = never_rises 0 0 refl refl rises
   unread known (inr h) = never known h.1
 
@@ -59,10 +59,10 @@ all_read remaining bytes files (Ok done) h = tt
 all_read remaining bytes files (Err fault) h =
     told (SourceFails remaining (source_failures (λ _. 0))) (never_fails remaining (source_failures (λ _. 0)) saved_never) bytes files (unread_by fault) h
 
--- a file that isn't read is one for which memory ran out, or too long
-pub left_of : {S : Type 0} (remaining : SavedSource S → Option (List ℕ)) (known : Option (List ℕ)) (fault : InputFault)
-    → ReportsUnread (SourceFails remaining (source_failures (λ _. 0))) known 0 0 fault → IsLeft known fault
-left_of remaining known inputs.Memory h = tt
-left_of remaining known inputs.TooLong h = h.2
-left_of remaining known inputs.Device h =
-    unread (SourceFails remaining (source_failures (λ _. 0))) (never_fails remaining (source_failures (λ _. 0)) saved_never) known h
+-- the report on a file that isn't read is one where no source fails
+pub stops_of : {S : Type 0} (remaining : SavedSource S → Option (List ℕ)) (known : Option (List ℕ)) (fault : InputFault)
+    → ReportsUnread (SourceFails remaining (source_failures (λ _. 0))) known 0 0 fault → ReportsUnread (λ _. ⊥) known 0 0 fault
+stops_of remaining known inputs.Memory h = h
+stops_of remaining known inputs.TooLong h = h
+stops_of remaining known inputs.Device h =
+    absurd (unread (SourceFails remaining (source_failures (λ _. 0))) (never_fails remaining (source_failures (λ _. 0)) saved_never) known h)

@@ -19,7 +19,7 @@ module _ (Fails : Option (List ℕ) → Type 0) (never : (known : Option (List �
 
   unread : (file : File) → IsUnread Fails bytes none_missed file → IsUnread (λ _. ⊥) bytes none_missed file
   unread file (inl missed) = inl missed
-  unread file (inr left) = inr (left.1, stops (bytes (Some file.name)) left.2)
+  unread file (inr left) = inr (left.0, stops (bytes (Some file.name)) left.1)
 
   with_file : (file : File) (words : List (List ℕ)) (result : Result JobCall CallFault) → IsWithFile Fails bytes none_missed file words result
       → IsWithFile (λ _. ⊥) bytes none_missed file words result

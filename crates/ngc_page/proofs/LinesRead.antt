@@ -1,30 +1,32 @@
 -- Words that have no line breaks are the lines of their text.
-use Rattle.std.proofs.Common.{◌≡◌, ◌∙◌, ◌≤◌, ◌-◌, ◌==◌, ◌||◌, ℕ, List, [], ◌∷◌, ◌++◌, Bool, true, false, length, map, ap, arith, refl}
+use Rattle.std.proofs.Common.{◌≡◌, ◌∙◌, ◌≤◌, ◌-◌, ◌==◌, ◌||◌, ℕ, suc, List, [], ◌∷◌, ◌++◌, Bool, true, false, if◌then◌else◌, length, map, take, ap, arith, refl}
 use Rattle.std.specs.List.{list_any, onto_first, slice_index, slice_split}
 use Rattle.std.specs.Str.Lines.{lines, lines_of_parts, strip_carriage_return}
+use Rattle.std.proofs.lemmas.Bool.{or_parts}
 use Rattle.std.proofs.lemmas.List.Splits.{length-slice_split, slice_split-cons_no}
 use Rattle.ngc_page.specs.JobCalls.{has_break, is_break, lines_text}
-
-neither : (a b : Bool) → (a || b) ≡ false → (a ≡ false) × (b ≡ false)
-neither true b h = absurd h
-neither false b h = (refl, h)
 
 -- a word and a line feed are a part of their own
 split_word : (word rest : List ℕ) → has_break word ≡ false
     → slice_split (λ b. b == 10) (word ++ (10 ∷ rest)) ≡ word ∷ slice_split (λ b. b == 10) rest
 split_word [] rest plain = refl
 split_word (b ∷ word) rest plain =
-    slice_split-cons_no (λ b. b == 10) b (word ++ (10 ∷ rest)) (neither (b == 10) (b == 13) (neither (is_break b) (has_break word) plain).1).1
-    ∙ ap (onto_first b) (split_word word rest (neither (is_break b) (has_break word) plain).2)
+    slice_split-cons_no (λ b. b == 10) b (word ++ (10 ∷ rest)) (or_parts (b == 10) (b == 13) (or_parts (is_break b) (has_break word) plain).0).0
+    ∙ ap (onto_first b) (split_word word rest (or_parts (is_break b) (has_break word) plain).1)
 
 -- its last byte is no carriage return
+last_index : (b c : ℕ) (word : List ℕ) → length (b ∷ c ∷ word) - 1 ≡ suc (length (c ∷ word) - 1)
+last_index b c word = omega arith
+
 ends_plain : (word : List ℕ) → has_break word ≡ false → (slice_index word (length word - 1) == 13) ≡ false
 ends_plain [] plain = refl
-ends_plain (b ∷ []) plain = (neither (b == 10) (b == 13) (neither (is_break b) false plain).1).2
-ends_plain (b ∷ c ∷ word) plain = ends_plain (c ∷ word) (neither (is_break b) (has_break (c ∷ word)) plain).2
+ends_plain (b ∷ []) plain = (or_parts (b == 10) (b == 13) (or_parts (is_break b) false plain).0).1
+ends_plain (b ∷ c ∷ word) plain =
+    ap (λ (i : ℕ). slice_index (b ∷ c ∷ word) i == 13) (last_index b c word)
+    ∙ ends_plain (c ∷ word) (or_parts (is_break b) (has_break (c ∷ word)) plain).1
 
 unstripped : (word : List ℕ) → has_break word ≡ false → strip_carriage_return word ≡ word
-unstripped word plain = rw (ends_plain word plain) refl
+unstripped word plain = ap (λ (ends : Bool). if ends then take (length word - 1) word else word) (ends_plain word plain)
 
 first_line : (part : List ℕ) (parts : List (List ℕ)) → 1 ≤ length parts
     → lines_of_parts (part ∷ parts) ≡ strip_carriage_return part ∷ lines_of_parts parts
@@ -37,8 +39,8 @@ some_parts text = omega (arith, length-slice_split (λ b. b == 10) text)
 pub words_same : (words : List (List ℕ)) → list_any has_break words ≡ false → lines (lines_text words) ≡ words
 words_same [] plain = refl
 words_same (word ∷ words) plain =
-    let alone : has_break word ≡ false = (neither (has_break word) (list_any has_break words) plain).1 in
-    let others : list_any has_break words ≡ false = (neither (has_break word) (list_any has_break words) plain).2 in
+    let alone : has_break word ≡ false = (or_parts (has_break word) (list_any has_break words) plain).0 in
+    let others : list_any has_break words ≡ false = (or_parts (has_break word) (list_any has_break words) plain).1 in
     ap lines_of_parts (split_word word (lines_text words) alone)
     ∙ (first_line word (slice_split (λ b. b == 10) (lines_text words)) (some_parts (lines_text words))
     ∙ (ap (λ w. w ∷ lines (lines_text words)) (unstripped word alone) ∙ ap (λ ws. word ∷ ws) (words_same words others)))

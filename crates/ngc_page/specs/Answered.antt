@@ -1,17 +1,16 @@
 -- The result of a call.
 use Rattle.std.specs.Prelude.{◌≡◌, ◌<◌, ◌⊎◌, ℕ, List, [], ◌++◌, length, take, drop, min, Bool, Option, Some}
-use Rattle.std.specs.Prelude.{Err, IfErr, IfSome, IsSomeAnd, Result}
+use Rattle.std.specs.Prelude.{Err, IfErr, Result}
 use Rattle.ngc_text.specs.declared.input_fault.InputFault.{InputFault}
-use Rattle.ngc_text.specs.declared.input_fault.InputFault.TheVariants.{Device, Memory, TooLong}
+use Rattle.ngc_text.specs.declared.input_fault.InputFault.TheVariants.{Device}
 use Rattle.ngc_command_line.specs.declared.options.Options.{Options}
-use Rattle.ngc_dialect_choice.specs.Choice.{IsChosen, deciding_file}
+use Rattle.ngc_dialect_choice.specs.Choice.{IsChosen, StopsChoosing}
 use Rattle.ngc_saved_files.specs.Files.{saved_bytes}
 use Rattle.ngc_saved_files.specs.Lines.{lines_of}
 use Rattle.ngc_saved_files.specs.Notes.{IsNoted}
 use Rattle.ngc_simulator.specs.Answers.{ResultsBy, Prints, status_of}
 use Rattle.ngc_inputs.specs.Setups.{FileBytes}
 use Rattle.ngc_inputs.specs.Unread.{unread_by}
-use Rattle.ngc_inputs.specs.declared.setup.TheConstants.{FILE_LIMIT}
 use Rattle.ngc_simulator.specs.declared.done.Done.{Done}
 use Rattle.ngc_inputs.specs.declared.fault.AnswerFault.{AnswerFault}
 use Rattle.ngc_inputs.specs.declared.fault.AnswerFault.TheVariants.{Input as Unread}
@@ -36,12 +35,6 @@ pub record TellsOf (outcome : Result Done AnswerFault) (status : ℕ) (errors : 
   pub noted : IsNoted is_wide status told (Some errors) missed failed
   pub keeps : 0 < failed → length errors ≡ LINES_KEPT
 
--- memory ran out while a file was read, or it is too long
-abbrev pub IsLeft : Option (List ℕ) → InputFault → Type 0
-IsLeft known Memory = Unit {0}
-IsLeft known TooLong = IfSome known (λ text. FILE_LIMIT < length text)
-IsLeft known Device = ⊥
-
 -- The command was done on a program in the language that the options or the machine file name.
 pub record IsDoneIn (files : FileBytes) (options : Options) (output : List ℕ) (outcome : Result Done AnswerFault) :
     Type 0 where
@@ -49,11 +42,12 @@ pub record IsDoneIn (files : FileBytes) (options : Options) (output : List ℕ) 
   pub choice : IsChosen files options chosen
   pub comes : ResultsBy files chosen (Some []) (Some output) outcome
 
--- Nothing was done, since the machine file that decides on the language wasn't read.
+-- Nothing was done, since the machine file that decides on the language wasn't read. Each file can be opened, and
+-- no source fails: memory ran out, or the file is too long.
 pub record IsHeld (files : FileBytes) (options : Options) (output : List ℕ) (outcome : Result Done AnswerFault) :
     Type 0 where
   pub fault : InputFault
-  pub left : IsSomeAnd (deciding_file options) (λ file. IsLeft (files (Some file)) fault)
+  pub stops : StopsChoosing (λ _. ⊥) files options 0 0 fault
   pub nothing : output ≡ []
   pub reports : outcome ≡ Err (Unread fault)
 

@@ -32,10 +32,11 @@ lines_text (word ∷ words) = word ++ codes "\n" ++ lines_text words
 
 -- ---- what a call gets
 
--- The words for the command are handed over as the lines of a text, and what the job file added as a line of
--- standard error.
+-- The words for the command are handed over as the lines of a text, since none has a line break, and what the job
+-- file added as a line of standard error.
 pub record AreHanded (call : Call) (output errors : Space) (status : ℕ) : Type 0 where
   pub text : List ℕ
+  pub unbroken : list_any has_break (all_words call) ≡ false
   pub written : text ≡ lines_text (all_words call)
   pub same : lines text ≡ all_words call
   pub says : status ≡ 0
@@ -83,7 +84,12 @@ pub record IsNoText (words name : List ℕ) (output errors : Space) (status : �
   pub wrong : ¬ (IsUtf8 words × IsUtf8 name)
   pub told : TellsNoText output errors status
 
+-- The words and the name are texts in UTF-8, and the words are read.
+pub record IsTextRead (words name job : List ℕ) (output errors : Space) (status : ℕ) : Type 0 where
+  pub utf8 : IsUtf8 words × IsUtf8 name
+  pub reads : ReadsText (job_passed name job) words output errors status
+
 -- the call whose words are the lines of a text, with a job file of this name
 abbrev pub CalledWith : List ℕ → List ℕ → List ℕ → Space → Space → ℕ → Type 0
 CalledWith name job text output errors status =
-    ReadsText (job_passed name job) text output errors status ⊎ IsNoText text name output errors status
+    IsTextRead text name job output errors status ⊎ IsNoText text name output errors status

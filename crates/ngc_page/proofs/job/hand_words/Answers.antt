@@ -19,6 +19,7 @@ returns c =
     c.in-Ok-lines_text.ensures ∙ ap lines_text given in
     inl (record {
       text = c.in-Ok-lines_text.text.items;
+      unbroken = plain;
       written = written;
       same = ap lines written ∙ words_same (all_words (call_in c.args.call.now)) plain;
       says = search rules;

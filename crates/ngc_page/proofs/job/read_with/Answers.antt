@@ -1,5 +1,7 @@
-use Rattle.std.proofs.Common.{◌≡◌, Err, Ok, map, refl, rules, subst}
+use Rattle.std.proofs.Common.{◌≡◌, Err, Ok, Result, map, refl, rules, subst}
 use Rattle.ngc_job_calls.specs.Calls.{IsCall}
+use Rattle.ngc_job_calls.specs.declared.call.JobCall.{JobCall}
+use Rattle.ngc_job_calls.specs.declared.fault.CallFault.{CallFault}
 use Rattle.ngc_page.proofs.JobReading.{call_in_memory}
 use Rattle.ngc_page.specs.Files.{job_bytes_of}
 use Rattle.ngc_page.specs.JobCalls.{none_missed}
@@ -11,7 +13,7 @@ returns-in-Ok c =
     record {
       result = Ok c.in-Ok.call;
       call =
-          subst (λ r. IsCall (λ _. ⊥) (job_bytes_of c.args.job) none_missed (map (λ w. w.now) c.args.words.now) r) is
+          subst (λ (r : Result JobCall CallFault). IsCall (λ _. ⊥) (job_bytes_of c.args.job) none_missed (map (λ w. w.now) c.args.words.now) r) is
           (call_in_memory _ _ (λ _. refl) _ _ _ c.with_job.ensures.call);
       tells = c.hand_words.ensures;
     }
@@ -22,7 +24,7 @@ returns-in-Err c =
     record {
       result = Err c.in-Err.fault;
       call =
-          subst (λ r. IsCall (λ _. ⊥) (job_bytes_of c.args.job) none_missed (map (λ w. w.now) c.args.words.now) r) is
+          subst (λ (r : Result JobCall CallFault). IsCall (λ _. ⊥) (job_bytes_of c.args.job) none_missed (map (λ w. w.now) c.args.words.now) r) is
           (call_in_memory _ _ (λ _. refl) _ _ _ c.with_job.ensures.call);
       tells = c.hand_fault.ensures;
     }
