@@ -1,6 +1,6 @@
 -- The corners of a box, ordered.
 use Rattle.std.proofs.Common.{◌≡◌, ℕ, ◌≤◌, ℤ, ◌<ℤ◌, Bool, true, false, arith}
-use Rattle.std.specs.Prelude.{int_le, int_lt, unsigned_abs, ◌&&◌, if◌then◌else◌}
+use Rattle.std.specs.Prelude.{int_lt, unsigned_abs, ◌&&◌, if◌then◌else◌}
 use Rattle.std.proofs.lemmas.Bool.{and_parts}
 use Rattle.std.proofs.lemmas.Int.{ints}
 use Rattle.ngc_fixed_length.specs.declared.points.Point3.{Point3}
@@ -13,16 +13,16 @@ picked_sized limit a b false h i = i
 
 pub least_sized : (limit : ℕ) (p q : Point3) → IsSized limit p → IsSized limit q → IsSized limit (least p q)
 least_sized limit p q h i = record {
-  x = picked_sized limit p.x q.x (int_le p.x q.x) h.x i.x;
-  y = picked_sized limit p.y q.y (int_le p.y q.y) h.y i.y;
-  z = picked_sized limit p.z q.z (int_le p.z q.z) h.z i.z;
+  x = picked_sized limit q.x p.x (int_lt q.x p.x) i.x h.x;
+  y = picked_sized limit q.y p.y (int_lt q.y p.y) i.y h.y;
+  z = picked_sized limit q.z p.z (int_lt q.z p.z) i.z h.z;
 }
 
 pub greatest_sized : (limit : ℕ) (p q : Point3) → IsSized limit p → IsSized limit q → IsSized limit (greatest p q)
 greatest_sized limit p q h i = record {
-  x = picked_sized limit q.x p.x (int_le p.x q.x) i.x h.x;
-  y = picked_sized limit q.y p.y (int_le p.y q.y) i.y h.y;
-  z = picked_sized limit q.z p.z (int_le p.z q.z) i.z h.z;
+  x = picked_sized limit p.x q.x (int_lt q.x p.x) h.x i.x;
+  y = picked_sized limit p.y q.y (int_lt q.y p.y) h.y i.y;
+  z = picked_sized limit p.z q.z (int_lt q.z p.z) h.z i.z;
 }
 
 less_from : (a b : ℤ) → int_lt a b ≡ true → a <ℤ b

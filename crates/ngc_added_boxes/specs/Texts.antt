@@ -1,8 +1,9 @@
 -- The values of two options: `--fixture "left clamp=54:-30,20,-10,-5,40,15"` is a name, a coordinate
 -- system and two opposite corners in millimetres; `--stock 54:0,0,-20,100,60,0` has no name. Our own.
-use Rattle.std.specs.Prelude.{ℕ, ◌+◌, ◌==◌, ℤ, int_le, int_lt, nat_le, nat_lt, Bool, true, false}
+use Rattle.std.specs.Prelude.{ℕ, ◌+◌, ◌==◌, ℤ, int_lt, nat_le, nat_lt, Bool, true, false}
 use Rattle.std.specs.Prelude.{not, ◌&&◌, List, [], ◌∷◌, ◌++◌, length, take, drop, fold, Option, Some}
 use Rattle.std.specs.Prelude.{None, Result, Ok, Err, if◌then◌else◌}
+use Rattle.std.specs.Int.{int_min, int_max}
 use Rattle.std.specs.List.{prefix_len}
 use Rattle.std.specs.Path.{rsplit_once}
 use Rattle.ngc_fixed_length.specs.declared.points.Point3.{Point3}
@@ -69,18 +70,12 @@ corners_in limit text =
 
 -- ---- a box
 
-abbrev pub lesser : ℤ → ℤ → ℤ
-lesser a b = if int_le a b then a else b
-
-abbrev pub greater : ℤ → ℤ → ℤ
-greater a b = if int_le a b then b else a
-
 -- the lowest and the highest corner of the box that has these two
 abbrev pub least : Point3 → Point3 → Point3
-least p q = record { x = lesser p.x q.x; y = lesser p.y q.y; z = lesser p.z q.z }
+least p q = record { x = int_min p.x q.x; y = int_min p.y q.y; z = int_min p.z q.z }
 
 abbrev pub greatest : Point3 → Point3 → Point3
-greatest p q = record { x = greater p.x q.x; y = greater p.y q.y; z = greater p.z q.z }
+greatest p q = record { x = int_max p.x q.x; y = int_max p.y q.y; z = int_max p.z q.z }
 
 abbrev pub has_volume : Point3 → Point3 → Bool
 has_volume low high = int_lt low.x high.x && (int_lt low.y high.y && int_lt low.z high.z)

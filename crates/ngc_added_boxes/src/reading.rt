@@ -1,4 +1,5 @@
 ghost use Rattle.std.specs.Prelude.{◌≡◌, ◌≤◌, IfOk, MatchResult, Ok, Err, map, option_map};
+ghost use Rattle.std.specs.Int.{int_min, int_max};
 ghost use Rattle.std.specs.Path.{rsplit_once};
 ghost use Rattle.ngc_machine_files.specs.Ranges.{CORNER_LIMIT, PLACE_LIMIT, IsSized};
 ghost use Rattle.ngc_added_boxes.specs.Boxes.{IsAdded, IsBox};
@@ -33,15 +34,15 @@ pub struct RefusedBox<'a> {
 }
 
 fn lesser(a: Nm, b: Nm) -> Nm
-    ensures { result ≡ spec.lesser a b }
+    ensures { result ≡ int_min a b }
 {
-    if a <= b { a } else { b }
+    if b < a { b } else { a }
 }
 
 fn greater(a: Nm, b: Nm) -> Nm
-    ensures { result ≡ spec.greater a b }
+    ensures { result ≡ int_max a b }
 {
-    if a <= b { b } else { a }
+    if b < a { a } else { b }
 }
 
 fn least(p: &Point3, q: &Point3) -> Point3

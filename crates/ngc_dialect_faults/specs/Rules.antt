@@ -59,7 +59,7 @@ compensation_words compensation.TooFar = codes "a place over 4 metres, or a radi
 compensation_words compensation.PlaneYz = codes "no cutter compensation in G19"
 compensation_words compensation.AlreadyOn = codes "cutter compensation is on already"
 
--- polar words are refused
+-- polar words are refused, or an arc of several turns
 abbrev pub polar_words : PolarRefusal → List ℕ
 polar_words polar.Twice = codes "@ or ^ is on the line twice"
 polar_words polar.AxisBeside = codes "X or Y beside @ or ^"
@@ -68,6 +68,7 @@ polar_words polar.OtherPlane = codes "@ and ^ need the plane XY"
 polar_words polar.AtOrigin = codes "@ and ^ at the origin, which has no angle"
 polar_words polar.BelowZero = codes "@ leads to a distance below 0"
 polar_words polar.TooFar = codes "@ and ^ lead over 100 metres away"
+polar_words (polar.Arc refusal) = arc_words refusal
 
 -- a line is refused
 abbrev pub rule_words : RuleCause → List ℕ

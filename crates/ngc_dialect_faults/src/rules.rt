@@ -81,6 +81,7 @@ pub(crate) fn polar_words(refusal: PolarRefusal) -> &'static [u8]
         PolarRefusal::AtOrigin => b"@ and ^ at the origin, which has no angle",
         PolarRefusal::BelowZero => b"@ leads to a distance below 0",
         PolarRefusal::TooFar => b"@ and ^ lead over 100 metres away",
+        PolarRefusal::Arc(refusal) => arc_words(refusal),
     }
 }
 

@@ -64,6 +64,7 @@ kind_text kinds.ProgramEnd = codes "a program without M2 and M30"
 kind_text kinds.PolarWords = codes "@ and ^"
 kind_text kinds.SeveralTurns = codes "arcs of several turns"
 kind_text kinds.CutterRadius = codes "cutter compensation"
+kind_text kinds.MovedCentre = codes "arcs whose radii differ"
 
 -- what execution does
 unfoldable pub remark_text : Kind → List ℕ
@@ -121,3 +122,4 @@ remark_text kinds.PolarWords = codes "X and Y are rounded to the nanometre"
 remark_text kinds.SeveralTurns = codes "heights between turns are rounded to the nanometre"
 remark_text kinds.CutterRadius =
     codes "the path is that of the radius in the tool table, or of half of D of G41.1 and G42.1"
+remark_text kinds.MovedCentre = codes "the centre is moved by at most 0.025 mm along each axis"

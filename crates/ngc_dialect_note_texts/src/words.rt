@@ -72,6 +72,7 @@ pub(crate) fn kind_text(kind: Kind) -> &'static [u8]
         Kind::PolarWords => b"@ and ^",
         Kind::SeveralTurns => b"arcs of several turns",
         Kind::CutterRadius => b"cutter compensation",
+        Kind::MovedCentre => b"arcs whose radii differ",
     }
 }
 
@@ -134,5 +135,6 @@ pub(crate) fn remark_text(kind: Kind) -> &'static [u8]
         Kind::SeveralTurns => b"heights between turns are rounded to the nanometre",
         Kind::CutterRadius =>
             b"the path is that of the radius in the tool table, or of half of D of G41.1 and G42.1",
+        Kind::MovedCentre => b"the centre is moved by at most 0.025 mm along each axis",
     }
 }

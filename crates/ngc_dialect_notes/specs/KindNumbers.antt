@@ -55,3 +55,4 @@ number_of kinds.ProgramEnd = 47
 number_of kinds.PolarWords = 48
 number_of kinds.SeveralTurns = 49
 number_of kinds.CutterRadius = 50
+number_of kinds.MovedCentre = 51

@@ -56,3 +56,4 @@ class_of kinds.ProgramEnd = Told
 class_of kinds.PolarWords = Bound
 class_of kinds.SeveralTurns = Bound
 class_of kinds.CutterRadius = Bound
+class_of kinds.MovedCentre = Bound

@@ -6,5 +6,6 @@ pub mod Motions
 pub mod Notes
 pub mod CodeNotes
 pub mod WordNotes
+pub mod MovedCentres
 pub mod MotionNotes
 pub mod Noted

@@ -1,5 +1,5 @@
--- What is noted of the motion that a line makes, in other dialects than LinuxCNC's, whose motions
--- were compared. Our own.
+-- What is noted of the motion that a line makes: of all dialects a centre that is moved, and the rest
+-- of other dialects than LinuxCNC's, whose motions were compared. Our own.
 use Rattle.std.specs.Prelude.{ℕ, Bool, false, not, ◌&&◌, ◌||◌, List, [], ◌∷◌, Option, Some, None}
 use Rattle.std.specs.Prelude.{is_some, if◌then◌else◌}
 use Rattle.ngc_dialect_names.specs.declared.dialect.Dialect.{Dialect}
@@ -21,6 +21,7 @@ use Rattle.ngc_dialect_notes.specs.declared.notes.Said.{Said}
 use Rattle.ngc_dialect_notes.specs.CodeNotes.{is_in_milliseconds}
 use Rattle.ngc_dialect_notes.specs.Dialects.{is_grbl, is_mach3, keeps_words}
 use Rattle.ngc_dialect_notes.specs.InForce.{depth_letter, plane_on, u_letter, v_letter}
+use Rattle.ngc_dialect_notes.specs.MovedCentres.{has_moved_centre}
 use Rattle.ngc_dialect_notes.specs.Notes.{all_noted, note_if}
 
 -- ---- arcs
@@ -97,11 +98,16 @@ special_noted line k codes words code n =
     if is_among tables.ARCS code then all_noted line (by_arc k n.said codes words) n else (
     if is_among tables.CYCLES code then all_noted line (by_cycle k n.said codes code words) n else n)
 
-abbrev pub motion_by : ℕ → Known → List Code → List Word → Code → Notes → Notes
-motion_by line k codes words code n =
+abbrev pub other_by : ℕ → Known → List Code → List Word → Code → Notes → Notes
+other_by line k codes words code n =
     if is_linuxcnc k.dialect then n
     else special_noted line k codes words code
     (note_if (is_unsaid_motion k.dialect n.said) line kinds.FirstTraverse n)
+
+abbrev pub motion_by : ℕ → Known → List Code → List Word → Code → Notes → Notes
+motion_by line k codes words code n =
+    other_by line k codes words code
+    (note_if (has_moved_centre k codes words code) line kinds.MovedCentre n)
 
 abbrev pub motion_noted : ℕ → Known → List Code → List Word → Option Code → Notes → Notes
 motion_noted line k codes words None n = n

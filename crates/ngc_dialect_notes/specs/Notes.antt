@@ -59,4 +59,4 @@ abbrev pub hearing : List Code → Notes → Notes
 hearing line n = record n { said = said_with line n.said }
 
 abbrev pub no_notes : Notes
-no_notes = record { places = replicate 51 None; said = nothing_said }
+no_notes = record { places = replicate 52 None; said = nothing_said }

@@ -130,6 +130,8 @@ pub enum Kind {
     SeveralTurns,
     /// G41, G41.1, G42 and G42.1.
     CutterRadius,
+    /// An arc whose centre is moved so that its radii agree.
+    MovedCentre,
 }
 
 impl Kind {
@@ -187,7 +189,8 @@ impl Kind {
             | Kind::PeckClearance
             | Kind::ChipBreaking
             | Kind::KeptWords => Class::Chosen,
-            Kind::PolarWords | Kind::SeveralTurns | Kind::CutterRadius => Class::Bound,
+            Kind::PolarWords | Kind::SeveralTurns | Kind::CutterRadius | Kind::MovedCentre =>
+                Class::Bound,
         }
     }
 
@@ -248,6 +251,7 @@ impl Kind {
             Kind::PolarWords => 48,
             Kind::SeveralTurns => 49,
             Kind::CutterRadius => 50,
+            Kind::MovedCentre => 51,
         }
     }
 }

@@ -8,6 +8,7 @@ mod in_force;
 mod kind;
 mod motion;
 mod motion_notes;
+mod moved_centre;
 mod noted;
 mod notes;
 mod word_notes;

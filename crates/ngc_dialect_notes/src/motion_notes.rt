@@ -8,6 +8,7 @@ use crate::dialect::{is_grbl, is_mach3, keeps_words};
 use crate::in_force::{depth_letter, plane_on, u_letter, v_letter};
 use crate::kind::Kind;
 use crate::motion::has_offsets;
+use crate::moved_centre::has_moved_centre;
 use crate::noted;
 use crate::notes::{Notes, Said};
 use ngc_dialect_names::Dialect;
@@ -139,6 +140,17 @@ impl Notes {
         }
     }
 
+    fn add_other_by(&mut self, line: u32, known: &Known, codes: &[Code], words: &[Word], code: Code)
+        ensures { self.new ≡ spec.other_by line known.now codes.now words.now code self.old }
+    {
+        if is_linuxcnc(known.dialect) {
+            return;
+        }
+        let unsaid = is_unsaid_motion(known.dialect, self.said);
+        self.note_if(unsaid, line, Kind::FirstTraverse);
+        self.add_special(line, known, codes, words, code);
+    }
+
     fn add_motion_by(
         &mut self,
         line: u32,
@@ -149,12 +161,9 @@ impl Notes {
     )
         ensures { self.new ≡ spec.motion_by line known.now codes.now words.now code self.old }
     {
-        if is_linuxcnc(known.dialect) {
-            return;
-        }
-        let unsaid = is_unsaid_motion(known.dialect, self.said);
-        self.note_if(unsaid, line, Kind::FirstTraverse);
-        self.add_special(line, known, codes, words, code);
+        let moved = has_moved_centre(known, codes, words, code);
+        self.note_if(moved, line, Kind::MovedCentre);
+        self.add_other_by(line, known, codes, words, code);
     }
 
     pub(crate) fn add_motion(

@@ -10,7 +10,7 @@ use ngc_dialect_parameters::{Statement, Word};
 use ngc_dialect_rules::{Code, Known, add_codes, codes, has};
 
 /// The number of kinds.
-pub const KIND_COUNT: usize = 51;
+pub const KIND_COUNT: usize = 52;
 
 /// A kind that occurred.
 #[derive(Clone, Copy)]

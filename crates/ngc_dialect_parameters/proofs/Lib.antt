@@ -1,5 +1,7 @@
 -- One more part, and how it changes the numbers of values and statements.
 pub mod Steps
+-- Words whose value is a number.
+pub mod NumberWords
 -- Each part of a line that was read finds its values.
 pub mod Balance
 -- A name that is set.

@@ -59,7 +59,7 @@ pushed_two v point s =
     let g = popped (pop s).stack in
     record { stack = omega (arith, e, f, g); done = omega arith }
 
-said : (statement : Statement) (s : Sums) → Grows 0 0 s (say statement s)
+pub said : (statement : Statement) (s : Sums) → Grows 0 0 s (say statement s)
 said statement s = let e = length_push s.done statement in record { stack = omega arith; done = omega (arith, e) }
 
 said_one : (statement : Statement) (s : Sums) → Grows 1 0 s (say statement (pop s))
@@ -112,7 +112,7 @@ step_grows k text kinds.GoTo s = said_one _ s
 step_grows k text kinds.Loop s = said_two _ s
 step_grows k text kinds.EndLoop s = said_one _ s
 
-put_most : (kind : PartKind) → put kind ≤ 1
+pub put_most : (kind : PartKind) → put kind ≤ 1
 put_most (kinds.Delete level) = omega arith
 put_most kinds.LineNumber = omega arith
 put_most kinds.Percent = omega arith

@@ -8,4 +8,5 @@ pub mod Stored
 pub mod Storing
 pub mod Known
 pub mod Evaluation
+pub mod NumberWords
 pub mod Heights

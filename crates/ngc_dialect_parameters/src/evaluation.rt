@@ -1,9 +1,11 @@
-ghost use Rattle.std.specs.Prelude.{◌≡◌, ◌<◌};
+ghost use Rattle.std.specs.Prelude.{◌≡◌, ◌<◌, drop, IfSome};
 ghost use Rattle.arrayvec.specs.ArrayVec.{array_vec_len};
 ghost use Rattle.ngc_line_reader.specs.Scan.{Gives};
 ghost use Rattle.ngc_dialect_parameters.specs.Known.{known, found};
 ghost use Rattle.ngc_dialect_parameters.specs.Evaluation as spec;
 ghost use Rattle.ngc_dialect_parameters.specs.Evaluation.{sums_of};
+ghost use Rattle.ngc_dialect_parameters.specs.NumberWords.{BeginWord, number_said};
+ghost use Rattle.ngc_dialect_reader.specs.declared.part.PartKind.TheVariants as kinds;
 
 use crate::control::Control;
 use crate::fault::{Cause, EvaluationFault};
@@ -13,7 +15,7 @@ use crate::parameters::Parameters;
 use crate::statement::{Statement, Word};
 use crate::values::LineValues;
 use ngc_dialect_numbers::Number;
-use ngc_dialect_reader::{DialectLine, Function, Literal, Name, Operator, PartKind};
+use ngc_dialect_reader::{DialectLine, Function, Literal, Name, Operator, Part, PartKind};
 use std::alloc::Allocator;
 
 fn literal(literal: Literal, values: &mut LineValues) -> Result<(), Cause>
@@ -65,6 +67,49 @@ fn word(letter: u8, values: &mut LineValues)
             value,
             point,
         }));
+    }
+}
+
+// Says a word whose value is a number: what the number's part and the word's do after each other.
+#[inline(always)]
+fn number_word(number: Literal, letter: u8, values: &mut LineValues) -> Result<(), Cause>
+    requires { array_vec_len values.old.statements < 128 }
+    ensures { Gives (λ _. sums_of values.new) result
+        (number_said number letter (sums_of values.old)) }
+{
+    let value = valued(Number::from_trillionths(number.value))?;
+    values.say_word(letter, value, number.point);
+    Ok(())
+}
+
+fn word_of(first: PartKind, second: PartKind) -> Option<(Literal, u8)>
+    ensures { IfSome result (λ x. (first ≡ kinds.Number x.0) × (second ≡ kinds.Word x.1)) }
+{
+    match (first, second) {
+        (PartKind::Number(number), PartKind::Word(letter)) => Some((number, letter)),
+        _ => None,
+    }
+}
+
+// Returns the number and the letter of a word, if parts begin with one whose value is a number.
+#[inline(always)]
+fn number_first(parts: &[Part]) -> Option<(Literal, u8)>
+    ensures { IfSome result (λ x. BeginWord x.0 x.1 parts.now) }
+{
+    match parts {
+        [first, second, ..] => word_of(first.kind, second.kind),
+        _ => None,
+    }
+}
+
+// Returns the parts after the first.
+#[inline(always)]
+fn others(parts: &[Part]) -> &[Part]
+    ensures { result.now ≡ drop 1 parts.now }
+{
+    match parts {
+        [_, others @ ..] => others,
+        [] => parts,
     }
 }
 
@@ -214,12 +259,21 @@ impl<A: Allocator + Copy> Parameters<A> {
             line.now.parts.items) }
     {
         values.clear();
-        for part in line.parts.as_slice() {
-            if values.is_stopped(part.kind) {
-                values.pop();
-                return Ok(());
-            }
-            match self.step(control, line, part.kind, values) {
+        let mut rest = line.parts.as_slice();
+        while let [part, after @ ..] = rest {
+            // Most parts are a number and the word that takes it: these need no stack.
+            let done = if let Some((number, letter)) = number_first(rest) {
+                rest = others(after);
+                number_word(number, letter, values)
+            } else {
+                if values.is_stopped(part.kind) {
+                    values.pop();
+                    return Ok(());
+                }
+                rest = after;
+                self.step(control, line, part.kind, values)
+            };
+            match done {
                 Ok(()) => {}
                 Err(cause) => {
                     return Err(EvaluationFault {

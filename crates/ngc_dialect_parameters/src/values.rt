@@ -1,10 +1,10 @@
-ghost use Rattle.std.specs.Prelude.{◌≡◌, ◌≤◌, ◌<◌, []};
+ghost use Rattle.std.specs.Prelude.{◌≡◌, ◌≤◌, ◌<◌, [], Some};
 ghost use Rattle.arrayvec.specs.ArrayVec.{array_vec_len};
 ghost use Rattle.ngc_dialect_parameters.specs.Evaluation as spec;
 ghost use Rattle.ngc_dialect_parameters.specs.Evaluation.{sums_of};
 
 use crate::operation::number_of;
-use crate::statement::Statement;
+use crate::statement::{Statement, Word};
 use arrayvec::ArrayVec;
 use ngc_dialect_numbers::Number;
 use ngc_dialect_reader::PartKind;
@@ -95,5 +95,20 @@ impl LineValues {
         ensures { sums_of self.new ≡ spec.say statement (sums_of self.old) }
     {
         self.statements.push(statement);
+    }
+
+    // Says the word of a number, which then need not be put on top.
+    #[inline]
+    pub(crate) fn say_word(&mut self, letter: u8, value: Number, point: bool)
+        requires { array_vec_len self.old.statements < 128 }
+        ensures { sums_of self.new
+            ≡ spec.word letter (spec.push (Some value) point (sums_of self.old)) }
+    {
+        self.point = point;
+        self.say(Statement::Word(Word {
+            letter,
+            value,
+            point,
+        }));
     }
 }

@@ -1,10 +1,11 @@
--- Why polar words are refused, and steps that may refuse them. Our own.
+-- Why polar words, and arcs of several turns, are refused, and steps that may refuse them. Our own.
 use Rattle.std.specs.Prelude.{ℕ, ℤ, Option, Some, None, Result, Ok, Err}
 use Rattle.ngc_fixed_length.specs.Limits.{LENGTH_LIMIT}
 use Rattle.ngc_fixed_length.specs.NumberFault.{within}
 use Rattle.ngc_fixed_length.specs.declared.fault.NumberFault.{NumberFault}
 use Rattle.ngc_dialect_numbers.specs.Numbers.{limited}
 use Rattle.ngc_dialect_numbers.specs.declared.fault.NoValue.{NoValue}
+use Rattle.ngc_dialect_arcs.specs.Refusals.{refusal_number as arc_number}
 use Rattle.ngc_dialect_rules.specs.declared.fault.Fault.{Fault}
 use Rattle.ngc_dialect_repeats.specs.declared.refusal.PolarRefusal.{PolarRefusal}
 use Rattle.ngc_dialect_repeats.specs.declared.refusal.PolarRefusal.TheVariants as why
@@ -13,6 +14,7 @@ use Rattle.ngc_dialect_repeats.specs.declared.refusal.PolarFault.TheVariants as 
 
 abbrev pub refusal_number : PolarRefusal → ℕ
 refusal_number why.TooFar = 101
+refusal_number (why.Arc refusal) = arc_number refusal
 refusal_number _ = 211
 
 infixl 10 ◌>>=◌

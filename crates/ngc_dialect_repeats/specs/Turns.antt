@@ -19,6 +19,7 @@ use Rattle.ngc_dialect_names.specs.declared.dialect.Dialect.{Dialect}
 use Rattle.ngc_dialect_arcs.specs.Centre.{by_radius}
 use Rattle.ngc_dialect_arcs.specs.Lines.{counts_turns}
 use Rattle.ngc_dialect_arcs.specs.declared.refusal.ArcRefusal.{ArcRefusal}
+use Rattle.ngc_dialect_arcs.specs.declared.refusal.ArcRefusal.TheVariants as arcs
 use Rattle.ngc_dialect_numbers.specs.Circles.{TURN}
 use Rattle.ngc_dialect_parameters.specs.declared.statement.Word.{Word}
 use Rattle.ngc_dialect_rules.specs.declared.code.Code.{Code}
@@ -167,10 +168,10 @@ modes_of k line = record {
   is_absolute_centre = centres_by k.front.absolute_centres (code_in codes.CENTRES line);
 }
 
--- why a centre is refused says the rule for the arc
+-- an arc of one turn may be refused
 abbrev pub or_refused : Result Point2 ArcRefusal → Result Point2 PolarRefusal
 or_refused (Ok centre) = Ok centre
-or_refused (Err e) = Err why.TooFar
+or_refused (Err refusal) = Err (why.Arc refusal)
 
 -- the vector from the start to the centre: by R that of the arc of one turn, or by the offsets
 abbrev pub centre_by :
@@ -181,10 +182,11 @@ centre_by m code start end words None =
 centre_by m code start end words (Some r) =
     or_refused (by_radius m.dialect m.units (turn_of code) end r)
 
+-- an R that is no length is over 100 metres
 abbrev pub centre_of :
     ArcModes → Code → Point2 → Point2 → List Word → Result (Option ℤ) Fault → Result Point2 PolarRefusal
 centre_of m code start end words (Ok r) = centre_by m code start end words r
-centre_of m code start end words (Err e) = Err why.TooFar
+centre_of m code start end words (Err e) = Err (why.Arc arcs.TooFar)
 
 -- the offset or the coordinate of a centre along an axis, as the line's modes read it
 abbrev pub offset_word : ArcModes → ℕ → ℤ → ℤ → Word
@@ -224,6 +226,7 @@ abbrev pub turning_here : Known → List Code → List Word → Code → ℕ →
 turning_here k line words code count =
     program_place k >>= λ place. turning_with (modes_of k line) place words code count
 
+-- a line whose turns are refused is left to the rules of arcs, which refuse it
 abbrev pub accepted : {A E : Type 0} → Result A E → Option A
 accepted (Ok x) = Some x
 accepted (Err e) = None

@@ -37,8 +37,8 @@ pub struct Barred {
     pub turns: bool,
 }
 
-/// The groups. The lines of an arc's turns repeat none of its codes, so more groups bar turns: polar
-/// words become X and Y, which are used with their line's codes.
+/// The groups. Polar words become X and Y of the same line. An arc of several turns becomes several
+/// lines, of which only the first has the codes: so more groups bar turns.
 pub const BARRED: [Barred; 9] = [
     Barred {
         group: Group::NonModal,

@@ -1,10 +1,11 @@
-//! Why polar words are refused.
+//! Why polar words, and arcs of several turns, are refused.
 ghost use Rattle.std.specs.Prelude.{◌≡◌};
 ghost use Rattle.ngc_dialect_repeats.specs.Refusals as spec;
 
+use ngc_dialect_arcs::ArcRefusal;
 use ngc_dialect_rules::Fault;
 
-/// The reasons why polar words are refused.
+/// The reasons why polar words are refused, or an arc of several turns.
 #[derive(Clone, Copy)]
 pub enum PolarRefusal {
     /// `@` or `^` is on the line twice.
@@ -21,6 +22,8 @@ pub enum PolarRefusal {
     BelowZero,
     /// The point is over 100 metres away.
     TooFar,
+    /// The arc of one turn is refused.
+    Arc(ArcRefusal),
 }
 
 impl PolarRefusal {
@@ -30,6 +33,7 @@ impl PolarRefusal {
     {
         match self {
             PolarRefusal::TooFar => 101,
+            PolarRefusal::Arc(refusal) => refusal.number(),
             _ => 211,
         }
     }

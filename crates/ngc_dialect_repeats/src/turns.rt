@@ -14,7 +14,7 @@ use crate::point::{difference, direction, length, length_word};
 use crate::polar::{is_count, is_incremental, made_with, units_by};
 use crate::refusal::PolarRefusal;
 use arrayvec::ArrayVec;
-use ngc_dialect_arcs::by_radius;
+use ngc_dialect_arcs::{ArcRefusal, by_radius};
 use ngc_dialect_names::Dialect;
 use ngc_dialect_numbers::Number;
 use ngc_dialect_parameters::Word;
@@ -349,7 +349,7 @@ fn radius_centre(
 {
     match by_radius(modes.dialect, modes.units, turn_of(code), end, radius) {
         Ok(centre) => Ok(centre),
-        Err(_) => Err(PolarRefusal::TooFar),
+        Err(refusal) => Err(PolarRefusal::Arc(refusal)),
     }
 }
 
@@ -383,7 +383,7 @@ fn centre_of(
     match word_length(modes.units, b'R', words) {
         Ok(None) => offsets_centre(modes, start, words),
         Ok(Some(radius)) => radius_centre(modes, code, end, radius),
-        Err(_) => Err(PolarRefusal::TooFar),
+        Err(_) => Err(PolarRefusal::Arc(ArcRefusal::TooFar)),
     }
 }
 

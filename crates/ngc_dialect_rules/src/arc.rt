@@ -102,8 +102,10 @@ fn turn_word(line: &[Code], words: &[Word]) -> Result<Option<Value>, Fault>
     }
 }
 
+/// Returns an arc's line as the crate of arcs reads it, by what is in force after the line's modes.
+/// Refuses a length over 100 metres, and a P that isn't a whole number from 0 up.
 #[tactic(auto, unfolding(crate::specs::Arcs::arc_line))]
-fn arc_line(
+pub fn arc_line(
     known: &Known,
     line: &[Code],
     words: &[Word],
@@ -143,8 +145,9 @@ fn or_refused<T: Copy>(code: Code, found: Result<T, ArcRefusal>) -> Result<T, Fa
     }
 }
 
-// Returns I, J and K. If the units in force can't write the arc, it is one of a line in millimetres.
-fn offsets_of(units: Units, code: Code, arc: &ArcLine) -> Result<AxisLengths, Fault>
+/// Returns I, J and K as they are executed, along X, Y and Z from the start, or why the arc is refused. If
+/// the units in force can't write the arc, it is one of a line in millimetres.
+pub fn offsets_of(units: Units, code: Code, arc: &ArcLine) -> Result<AxisLengths, Fault>
     ensures { result ≡ spec.offsets_of units code arc.now }
 {
     let offsets = or_refused(code, arc.plain_offsets(units))?;

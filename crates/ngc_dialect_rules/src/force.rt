@@ -138,9 +138,10 @@ fn units_after(known: &Known, line: &[Code]) -> Units
     units_by(known.modes.units, code_in(&codes::UNITS, line))
 }
 
-/// Returns what is in force after a line's modes.
+/// Returns what is in force after a line's modes, if F of the line is `f`. Refuses a tool length of G43.1
+/// over 100 metres.
 #[tactic(auto, unfolding(crate::specs::Force::force_of))]
-pub(crate) fn force_of(
+pub fn force_of(
     known: &Known,
     line: &[Code],
     words: &[Word],

@@ -22,8 +22,10 @@ mod word;
 
 pub use action::{has_no_feed, is_mode, no_lengths};
 pub use amount::seconds;
+pub use arc::{arc_line, offsets_of};
 pub use code::Code;
 pub use fault::{About, Cause, Fault, LeftOut, about_code, about_letter};
+pub use force::force_of;
 pub use front::{Front, KeptSeries, Known};
 pub use length::{is_exact, length_in, limited, word_length};
 pub use offsets::origin_of;

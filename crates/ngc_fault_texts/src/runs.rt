@@ -157,8 +157,8 @@ pub(crate) fn shell() -> &'static [Row]
         Row {
             number: 901,
             rule: "A file can't be opened or read: correct its name or its permissions (our own).\n\
-             A machine file, tool table, events file, program for `ngc adapt` or dump of GRBL's settings has\n\
-             at most 20,000,000 bytes.",
+             A machine file, tool table, job file, events file, dump of GRBL's settings, or program for\n\
+             `ngc adapt` or with `--dialect` has at most 20,000,000 bytes.",
             example: "command `ngc list --program none.ngc`",
             answer: "`ngc: fault 901`",
             place: Some("1"),

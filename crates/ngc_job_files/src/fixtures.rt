@@ -4,10 +4,10 @@ ghost use Rattle.toml.specs.View.{view, items_view};
 ghost use Rattle.ngc_machine_figures.specs.Reading.{ok_map};
 ghost use Rattle.ngc_job_files.specs.Clamps as spec;
 
-use crate::each::{Numbered, each};
 use crate::job::JobFixture;
 use ngc_machine_figures::{
-    FileRefusal, Key, Wrong, corners_of, fixture_box, fixture_keys, only_known, optional,
+    FileRefusal, Key, Numbered, Wrong, corners_of, each, fixture_box, fixture_keys, only_known,
+    optional,
 };
 use std::alloc::{AllocError, Global};
 use toml::Value;
@@ -27,10 +27,10 @@ fn fixture_of(number: u16, table: &Value) -> Result<JobFixture, FileRefusal>
     })
 }
 
-impl Numbered for JobFixture {
-    ghost reading = { spec.clamp_of };
+impl Numbered<()> for JobFixture {
+    ghost reading = { λ _. spec.clamp_of };
 
-    fn read(number: u16, value: &Value) -> Result<JobFixture, FileRefusal> {
+    fn read(_context: &(), number: u16, value: &Value) -> Result<JobFixture, FileRefusal> {
         fixture_of(number, value)
     }
 }
@@ -52,7 +52,7 @@ fn few_fixtures(
         ≡ spec.few_clamps (items_view values.now)) }
 {
     if is_few(values) {
-        each(alloc, values)
+        each(alloc, &(), values)
     } else {
         Ok(Err(FileRefusal {
             key: Key::Fixtures,

@@ -1,7 +1,6 @@
 //! Job files: what a call of a command may leave out, written once for the programs of a folder.
 #![tactic(auto)]
 
-mod each;
 mod fixtures;
 mod job;
 mod keys;

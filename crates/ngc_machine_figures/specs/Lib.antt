@@ -9,3 +9,4 @@ pub mod Sheets
 pub mod Boxes
 pub mod Fixtures
 pub mod Files
+pub mod Version

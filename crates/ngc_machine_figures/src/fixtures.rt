@@ -6,8 +6,8 @@ ghost use Rattle.ngc_machine_figures.specs.Reading.{ok_map};
 ghost use Rattle.ngc_machine_figures.specs.Boxes as boxes;
 ghost use Rattle.ngc_machine_figures.specs.Fixtures as spec;
 
+use crate::array::{Numbered, each};
 use crate::boxes::{BoxKeys, corners_of, near, near_sum};
-use crate::each::{Numbered, each};
 use crate::found::only_known;
 use crate::key::{Key, fixture_keys};
 use crate::refusal::{FileRefusal, Wrong};
@@ -86,7 +86,7 @@ fn fixture_of(
     Ok(FixtureSheet { name, corners })
 }
 
-impl Numbered for FixtureSheet {
+impl Numbered<[Option<Place>; 9]> for FixtureSheet {
     ghost reading = { spec.fixture_of };
 
     fn read(

@@ -2,9 +2,9 @@
 //! and the readers of single values, are here too.
 #![tactic(auto)]
 
+mod array;
 mod axes;
 mod boxes;
-mod each;
 mod fixtures;
 mod found;
 mod head;
@@ -18,8 +18,10 @@ mod refusal;
 mod sheet;
 mod stock;
 mod tool_key;
+mod version;
 mod written;
 
+pub use array::{Numbered, each};
 pub use boxes::{BoxKeys, corners_of};
 pub use fixtures::fixture_box;
 pub use found::only_known;
@@ -35,4 +37,5 @@ pub use sheet::{
 };
 pub use stock::stock_at;
 pub use tool_key::{ToolKey, ToolWrong};
+pub use version::is_written;
 pub use written::{Written, optional, required};

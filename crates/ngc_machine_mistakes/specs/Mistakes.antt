@@ -2,13 +2,13 @@
 use Rattle.std.specs.Prelude.{ℕ, List, [], ◌++◌, codes, Option, Some, None, Result, Ok, Err}
 use Rattle.std.specs.Prelude.{if◌then◌else◌}
 use Rattle.toml.specs.Data.{Data}
+use Rattle.ngc_machine_figures.specs.Version.{is_written}
 use Rattle.ngc_machine_files.specs.Machine.{MachineFile}
 use Rattle.ngc_machine_files.specs.Tree.{tree_of}
 use Rattle.ngc_machine_files.specs.declared.fault.FileFault.{FileFault}
 use Rattle.ngc_refused_files.specs.Refusals as keys
 use Rattle.ngc_setup_sheet.specs.Mistakes.{machine_mistake_text}
 use Rattle.ngc_written_machines.specs.Machines.{written_machine}
-use Rattle.ngc_written_machines.specs.Reading.{is_written}
 use Rattle.ngc_written_machines.specs.declared.refusal.WrittenRefusal.{WrittenRefusal}
 use Rattle.ngc_written_machines.specs.declared.refusal.WrittenRefusal.TheVariants as refusals
 use Rattle.ngc_machine_mistakes.specs.Sentences.{figures_text}

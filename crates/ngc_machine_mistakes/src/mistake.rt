@@ -9,12 +9,13 @@ ghost use Rattle.ngc_machine_mistakes.specs.Mistakes as spec;
 ghost use Rattle.ngc_written_machines.specs.Machines.{written_machine as machine_of};
 
 use crate::sentence::say_figures;
+use ngc_machine_figures::is_written;
 use ngc_machine_files::{FileFault, read_tree};
 use ngc_refused_files::write_refusal;
 use ngc_sentences::{Page, Part, say};
 use ngc_setup_sheet::write_machine_mistake;
 use ngc_text::{Sink, WriteFault};
-use ngc_written_machines::{WrittenFault, WrittenRefusal, is_written, written_machine};
+use ngc_written_machines::{WrittenFault, WrittenRefusal, written_machine};
 use std::alloc::Global;
 use toml::Value;
 

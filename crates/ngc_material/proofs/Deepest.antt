@@ -61,10 +61,10 @@ deeper_some false g In Next t u less more h i = record {
   greatest = λ k d e. elim e [ inl x ↦ h.greatest k d x | inr y ↦ (let p = i.greatest k d y in let q = more refl in omega (arith, p, q)) ];
 }
 
-less_of : (m n : ℕ) → ltb m n ≡ true → m ≤ n
+pub less_of : (m n : ℕ) → ltb m n ≡ true → m ≤ n
 less_of m n e = let p = ltb-true m n e in omega (arith, p)
 
-more_of : (m n : ℕ) → ltb m n ≡ false → n ≤ m
+pub more_of : (m n : ℕ) → ltb m n ≡ false → n ≤ m
 more_of m n e = elim (cases_lt m n) [ inl less ↦ absurd (let p = lt-ltb m n less in cc) | inr more ↦ more ]
 
 pub deeper_of : (g : Grid) (In Next : ℕ → ℕ → Type 0) (one other : Option Touch) → IsDeepestOf g In one → IsDeepestOf g Next other →

@@ -18,3 +18,7 @@ pub mod Ends
 pub mod Depths
 -- The feeds of the remaining commands, after those of one.
 pub mod LaterFeeds
+-- How deep a feed is, from what a probe finds.
+pub mod FeedDepths
+-- The deepest feeds of a walk, one of each tool, and what that means.
+pub mod DeepestFeeds

@@ -66,7 +66,7 @@ kept_found s first r next all left later c old new found more tested longer e fe
     (subst (λ (l : List Command). (xs : List Found) × (found ++ xs ≡ more ++ rest) × AreFound s r old (length all - length left) l xs feed.0) (sym e)
     (one_more s r old new (length all - length left) c later found more rest feed.0 others followed feed.2 j))
 
-no_commands : (left : List Command) → length left ≡ 0 → left ≡ []
+pub no_commands : (left : List Command) → length left ≡ 0 → left ≡ []
 no_commands [] e = refl
 no_commands (c ∷ cs) e = absurd (omega (arith, e))
 
@@ -94,7 +94,7 @@ fed_on s t (Line a b) (Feed f) old new part touch h = absurd h
 fed_on s t (Arc arc) Rapid old new part touch h = absurd h
 fed_on s t (Arc arc) (Feed f) old new part touch h = absurd h
 
-fed_step : (s : Stock) (tool : Option Tool) (action : Action) (old new : List ℕ) (part : ℕ) (touch : Touch) → IsTouched s tool action old new part touch → IsStep s tool (as_feed action) old new
+pub fed_step : (s : Stock) (tool : Option Tool) (action : Action) (old new : List ℕ) (part : ℕ) (touch : Touch) → IsTouched s tool action old new part touch → IsStep s tool (as_feed action) old new
 fed_step s None action old new part touch h = absurd h
 fed_step s (Some t) (Move m) old new part touch h = fed_on s t m.way m.pace old new part touch h
 fed_step s (Some t) (Mount x) old new part touch h = absurd h
@@ -106,7 +106,7 @@ fed_step s (Some t) Stop old new part touch h = absurd h
 fed_step s (Some t) OptionalStop old new part touch h = absurd h
 fed_step s (Some t) End old new part touch h = absurd h
 
-fed_after : (r : Reached) (action : Action) → after r (as_feed action) ≡ after r action
+pub fed_after : (r : Reached) (action : Action) → after r (as_feed action) ≡ after r action
 fed_after r (Move m) = refl
 fed_after r (Mount x) = refl
 fed_after r (Dwell x) = refl
@@ -124,7 +124,7 @@ first_index s r heights index [] f fs feeds h = absurd (cc h.0)
 first_index s r heights index (c ∷ cs) f fs feeds (next, others, feed, inl h) = let p = first_index s (after r c.action) next (index + 1) cs f fs others h.1 in omega (arith, p)
 first_index s r heights index (c ∷ cs) f fs feeds (next, others, feed, inr h) = let e : f ≡ h.0 = cc h.2 in let p = ap (λ (x : Found). x.command) e in omega (arith, p, h.3.command)
 
-not_yet : (m n : ℕ) → n + 1 ≤ m → (m == n) ≡ false
+pub not_yet : (m n : ℕ) → n + 1 ≤ m → (m == n) ≡ false
 not_yet m n h = grind arith
 
 pub fed_silent : (s : Stock) (r : Reached) (heights : List ℕ) (index : ℕ) (commands : List Command) (found feeds : List Found) →
@@ -241,7 +241,7 @@ tool_after_by : (v : Bool) (b : Command) (before : List Command) (r : Reached) (
 tool_after_by true b before r index f fs rest all = ap (λ (x : Reached). after_all x (with_feeds index before fs)) (fed_after r b.action) ∙ rest (after r b.action)
 tool_after_by false b before r index f fs rest all = all (after r b.action)
 
-tool_after : (before : List Command) (r : Reached) (index : ℕ) (found : List Found) → after_all r (with_feeds index before found) ≡ after_all r before
+pub tool_after : (before : List Command) (r : Reached) (index : ℕ) (found : List Found) → after_all r (with_feeds index before found) ≡ after_all r before
 tool_after [] r index found = refl
 tool_after (b ∷ before) r index [] = tool_after before (after r b.action) (index + 1) []
 tool_after (b ∷ before) r index (f ∷ fs) =

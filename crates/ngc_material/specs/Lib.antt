@@ -3,3 +3,4 @@ pub mod Chords
 pub mod Touches
 pub mod Walks
 pub mod Silences
+pub mod Cuts

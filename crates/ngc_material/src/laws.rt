@@ -1,4 +1,5 @@
 //! Laws about what a walk reports.
+ghost use Rattle.ngc_material.specs.Cuts.{DeepestCuts};
 ghost use Rattle.ngc_material.specs.Silences.{ClearFeeds, Clearness, Nothing, Unreported};
 
 /// States that the lowest part of a tool may touch no material in a traverse exactly if no cell is in
@@ -24,4 +25,11 @@ pub fn unreported()
 /// traverses before it, have left.
 pub fn clear_feeds()
     ensures { ClearFeeds }
+{}
+
+/// States that what the cutter of a straight feed, smaller by a margin, meets of the material that the
+/// feeds and the reported traverses before it have left is less than the depth of its tool's cut above
+/// the lower of the feed's two tips.
+pub fn deepest_cuts()
+    ensures { DeepestCuts }
 {}

@@ -1,5 +1,6 @@
 ghost use Rattle.std.specs.Prelude.{◌≡◌, ◌≤◌, ◌<◌, ◌+◌, ◌*◌, ◌-ℤ◌, ◌+ℤ◌, unsigned_abs};
 ghost use Rattle.ngc_fixed_length.specs.Signed.{same};
+ghost use Rattle.ngc_stock.specs.Cuts.{lower_tip, whole};
 ghost use Rattle.ngc_stock.specs.Stocks.{is_slope, pieces, rise, piece, point_at, flat, tip, highest_tip, lowest_tip};
 
 use ngc_cells::{Spot, Stretch};
@@ -86,6 +87,18 @@ impl Line {
         }
     }
 
+    /// Returns the whole line in the plane.
+    pub(crate) fn whole(&self) -> Stretch
+        ensures { result ≡ whole self.now.start self.now.end }
+    {
+        Stretch {
+            start: flat(&self.start),
+            end: flat(&self.end),
+            parts: 1,
+            part: 0,
+        }
+    }
+
     /// Returns the end of the line in the plane.
     pub(crate) fn end_point(&self) -> Stretch
         ensures { result ≡ point_at self.now.end }
@@ -126,6 +139,16 @@ impl Line {
     {
         let lowest = self.tip(tool, part).min(self.tip(tool, part + 1));
         lowest.div_euclid(i64::from(self.pieces()))
+    }
+
+    /// Returns the height of a tool's tip at the lower end of the line.
+    pub(crate) fn lower_tip(&self, tool: &Tool) -> i64
+        ensures value { result ≡ lower_tip tool.now self.now.start self.now.end }
+        ensures bound { unsigned_abs result ≤ 200000000000 }
+    {
+        let (start, end) = (self.start.z.nanometres(), self.end.z.nanometres());
+        let lower = if end < start { end } else { start };
+        lower + tool.bottom.nanometres()
     }
 
     /// Returns the height of a tool's tip at the end of the line.

@@ -2,6 +2,7 @@
 ghost use Rattle.ngc_material.specs.Heights.{AreHeights, AreWithin};
 
 use crate::cutting::cut;
+use crate::depth::depth_of;
 use crate::line::Line;
 use crate::sweep::cut_arc;
 use crate::touch::{PartTouch, first_touch};
@@ -24,6 +25,7 @@ impl<A: Allocator> Material<A> {
     ghost use Rattle.std.specs.Prelude.{◌≡◌, IfNone, IfSome, IfOk, IsTrue};
     ghost use Rattle.ngc_commands.specs.declared.movement.Feed.{Feed};
     ghost use Rattle.ngc_cells.specs.Grids.{IsGrid};
+    ghost use Rattle.ngc_stock.specs.Cuts.{IsDepthOf, IsDepthOn};
     ghost use Rattle.ngc_stock.specs.Feeds.{IsFeedClear, IsFeedClearOn};
     ghost use Rattle.ngc_stock.specs.Walk.{IsStep, IsMotion, AreCut, IsArcCut, uncut};
     ghost use Rattle.ngc_material.specs.Heights.{is_action_reached, is_way_reached, is_reached};
@@ -182,6 +184,46 @@ impl<A: Allocator> Material<A> {
                 first_touch(&self.stock, self.heights.as_slice(), tool, 1, &line)
             }
             Way::Arc(_) => None,
+        }
+    }
+
+    /// Returns how deep an action with the mounted tool cuts in the material, if it is a straight feed,
+    /// or else 0.
+    pub(crate) fn depth(&self, tool: &Option<Tool>, action: &Action) -> u64
+        requires { IsTrue (is_action_reached action.now) }
+        ensures { IsDepthOf self.now.stock tool.now action.now self.now.heights.items result }
+    {
+        match (tool, action) {
+            (Some(tool), Action::Move(motion)) => self.motion_depth(tool, motion),
+            _ => 0,
+        }
+    }
+
+    fn motion_depth(&self, tool: &Tool, motion: &Motion) -> u64
+        requires { IsTrue (is_way_reached motion.now.way) }
+        ensures { IsDepthOn self.now.stock tool.now motion.now.way motion.now.pace self.now.heights.items result }
+    {
+        match motion.pace {
+            Pace::Rapid => 0,
+            Pace::Feed(_) => self.feed_depth(tool, &motion.way),
+        }
+    }
+
+    fn feed_depth(&self, tool: &Tool, way: &Way) -> u64
+        requires { IsTrue (is_way_reached way.now) }
+        ensures { (f : Feed) → IsDepthOn self.now.stock tool.now way.now (Pace.Feed f) self.now.heights.items result }
+    {
+        match way {
+            Way::Line { start, end } => {
+                let (start, end) = (*start, *end);
+                depth_of(
+                    &self.stock,
+                    self.heights.as_slice(),
+                    tool,
+                    &Line { start, end },
+                )
+            }
+            Way::Arc(_) => 0,
         }
     }
 }

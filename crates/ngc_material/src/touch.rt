@@ -56,7 +56,7 @@ fn deeper(first: Option<Touch>, second: Option<Touch>) -> Option<Touch>
 }
 
 /// Returns a deepest cell of those that a probe finds, or `None` if it finds none.
-fn touch_at(stock: &Stock, heights: &[u32], probe: &Probe) -> Option<Touch>
+pub(crate) fn touch_at(stock: &Stock, heights: &[u32], probe: &Probe) -> Option<Touch>
     requires heights { AreHeights stock.now heights.now }
     requires within { AreWithin stock.now heights.now }
     requires stretch { IsStretch probe.now.stretch }

@@ -1,17 +1,19 @@
 //! A walk over the commands of a program.
-ghost use Rattle.std.specs.Prelude.{◌≡◌, ◌↔◌, IfOk, IfErr, OnOk, IsTrue};
+ghost use Rattle.std.specs.Prelude.{◌≡◌, ◌↔◌, [], IfOk, IfErr, OnOk, IsTrue};
 ghost use Rattle.ngc_cells.specs.Grids.{IsGrid};
 ghost use Rattle.ngc_stock.specs.Walk.{uncut};
+ghost use Rattle.ngc_material.specs.Cuts.{AreCuts};
 ghost use Rattle.ngc_material.specs.Heights.{are_reached, is_action_reached};
 ghost use Rattle.ngc_material.specs.Walks.{AreFound, IsFollowed, IsTested};
 
 use crate::change::tool_number;
+use crate::cuts::measure;
 use crate::material::Material;
 use crate::reach::are_reached;
 use crate::touch::{PartTouch, Touch};
 use ngc_commands::{Command, Reached};
 use ngc_machine_files::Tool;
-use ngc_stock::Stock;
+use ngc_stock::{Cut, Stock};
 use std::alloc::{AllocError, Allocator};
 
 /// A straight motion that may touch material.
@@ -28,13 +30,15 @@ pub struct Found {
     pub touch: Touch,
 }
 
-/// The straight motions of a program that may touch material, in order.
+/// The straight motions of a program that may touch material, in order, and its deepest feeds.
 #[derive(Drop)]
 pub struct Touches<A: Allocator> {
     /// Traverses, with any part of a tool.
     pub traverses: Vec<Found, A>,
     /// Feeds, with a part above the cutter.
     pub feeds: Vec<Found, A>,
+    /// The deepest straight feed of each tool.
+    pub cuts: Vec<Cut, A>,
 }
 
 /// Why a walk isn't made.
@@ -101,7 +105,7 @@ fn test<A: Allocator>(
 /// commands at a setting of block delete, from a state with the material uncut. A traverse is tested
 /// with each part of the tool; if it is found, it then counts as a feed. A feed is tested with the parts
 /// above the cutter in the material that it leaves. An arc isn't tested, but cuts. Motions without a tool
-/// are left out.
+/// are left out. Of each tool the deepest straight feed is returned too, in the material before it.
 ///
 /// It fails if memory is refused, or if the end of a motion is far from the machine's zero.
 pub fn find_touches<A: Allocator + Copy>(
@@ -112,6 +116,7 @@ pub fn find_touches<A: Allocator + Copy>(
 ) -> Result<Touches<A>, WalkFault>
     requires { IsGrid stock.now.grid }
     ensures found { IfOk result (λ v. AreFound stock.now start.now (uncut stock.now) 0 commands.now v.traverses.items v.feeds.items) }
+    ensures cuts { IfOk result (λ v. AreCuts stock.now start.now (uncut stock.now) 0 commands.now v.traverses.items [] v.cuts.items) }
     ensures near { IfOk result (λ v. IsTrue (are_reached commands.now)) }
     ensures far { IfErr result (λ e. (e ≡ WalkFault.Far) ↔ ¬ (IsTrue (are_reached commands.now))) }
 {
@@ -123,10 +128,15 @@ pub fn find_touches<A: Allocator + Copy>(
     };
     let mut traverses = Vec::new(alloc);
     let mut feeds = Vec::new(alloc);
+    let mut cuts = Vec::new(alloc);
     let mut reached = *start;
     let mut left = commands;
     while let Some((command, later)) = left.split_first() {
         let index = commands.len() - left.len();
+        match measure(&material, &mut cuts, &reached.tool, index, command) {
+            Ok(()) => {}
+            Err(_) => return Err(WalkFault::Memory),
+        }
         match follow(&mut material, &mut traverses, &reached.tool, index, command) {
             Ok(()) => {}
             Err(_) => return Err(WalkFault::Memory),
@@ -138,5 +148,9 @@ pub fn find_touches<A: Allocator + Copy>(
         reached = reached.after(&command.action);
         left = later;
     }
-    Ok(Touches { traverses, feeds })
+    Ok(Touches {
+        traverses,
+        feeds,
+        cuts,
+    })
 }

@@ -9,6 +9,7 @@ use Rattle.ngc_cells.specs.declared.grid.Grid.{Grid}
 use Rattle.ngc_cells.specs.declared.stretch.Spot.{Spot}
 use Rattle.ngc_stock.specs.declared.below.AllBelow.{AllBelow}
 use Rattle.ngc_stock.specs.declared.change.Change.{Change}
+use Rattle.ngc_stock.specs.declared.cut.Cut.{Cut}
 use Rattle.ngc_stock.specs.declared.stock.Stock.{Stock}
 use Rattle.ngc_stock.specs.Below.{all_below}
 use Rattle.ngc_stock.specs.Changes.{changes}
@@ -178,6 +179,26 @@ below_text form (Some a) = all_below_text form a
 abbrev pub depths_text : Form → Spot → Stock → Reached → List Command → List ℕ
 depths_text form origin s r commands =
     changes_text form origin s r commands ++ below_text form (all_below s r 0 commands None)
+
+-- ---- how deep straight feeds cut
+
+unfoldable pub cut_words : Cut → List ℕ
+cut_words c =
+    codes "With tool " ++ decimal c.tool ++ codes " straight feeds cut at most " ++ size_text c.depth
+    ++ codes " mm deep, the deepest in line " ++ decimal c.line ++ codes ".\n"
+
+unfoldable pub cut_fact : Cut → List ℕ
+cut_fact c =
+    codes ",\n{\"fact\":\"material_cut\",\"line\":" ++ decimal c.line ++ codes ",\"command\":" ++ decimal c.command
+    ++ codes ",\"tool\":" ++ decimal c.tool ++ codes ",\"depth\":" ++ decimal c.depth ++ codes "}"
+
+abbrev pub cut_text : Form → Cut → List ℕ
+cut_text Words c = cut_words c
+cut_text Json c = cut_fact c
+
+-- one of each tool
+abbrev pub cuts_text : Form → List Cut → List ℕ
+cuts_text form cuts = flat_map (cut_text form) cuts
 
 -- ---- what isn't tested
 

@@ -3,7 +3,8 @@
 //! A line of standard input begins with `program` and a name; the program begins at 0 0 0 in an uncut
 //! stock without a tool. Its lines are `stock` with the number of a stock, `tool` with a number, of which
 //! 0 is none, and `traverse` or `feed` with the coordinates of an end, in nanometres of the machine. The
-//! line `untested` prints what isn't tested.
+//! line `untested` prints what isn't tested. With the line `depths` a program also prints how deep its
+//! feeds cut with each tool.
 #![tactic(auto)]
 
 mod stocks;
@@ -17,7 +18,7 @@ use ngc_commands::{Action, Command, Feed, Motion, Pace, Reached, Way};
 use ngc_fixed_length::{Nm, Plane, Point3, Turn, Units};
 use ngc_machine_files::Tool;
 use ngc_material::{Touches, WalkFault, find_touches};
-use ngc_material_report::{write_touches, write_untested};
+use ngc_material_report::{write_cuts, write_touches, write_untested};
 use ngc_report::Form;
 use ngc_text::{Device, Sink, WriteFault, write_all};
 use std::alloc::{Allocator, Global};
@@ -41,6 +42,8 @@ struct Program {
     commands: Vec<Command, Global>,
     /// Whether memory was refused for a command.
     is_cut: bool,
+    /// Whether the depths of cuts are printed.
+    has_depths: bool,
 }
 
 fn origin() -> Point3 {
@@ -86,6 +89,7 @@ impl Program {
             place: origin(),
             commands: Vec::new(alloc),
             is_cut: false,
+            has_depths: false,
         }
     }
 
@@ -181,9 +185,29 @@ impl Program {
         }
         let stock = numbered(self.stock);
         match find_touches(alloc, &stock, &start, self.commands.as_slice()) {
-            Ok(touches) => write_found(&origin_of(self.stock), &touches, output),
+            Ok(touches) => {
+                match write_found(&origin_of(self.stock), &touches, output) {
+                    Ok(()) => self.write_depths(&touches, output),
+                    Err(fault) => Err(fault),
+                }
+            }
             Err(WalkFault::Memory) => write_all(output, b"  no memory\n"),
             Err(WalkFault::Far) => write_all(output, b"  far from zero\n"),
+        }
+    }
+
+    fn write_depths<W: Sink>(
+        &self,
+        touches: &Touches<Global>,
+        output: &mut W,
+    ) -> Result<(), WriteFault> {
+        let cuts = touches.cuts.as_slice();
+        if !self.has_depths || cuts.is_empty() {
+            return Ok(());
+        }
+        match write_cuts(Form::Words, cuts, output) {
+            Ok(()) => end_line(write_cuts(Form::Json, cuts, output), output),
+            Err(fault) => Err(fault),
         }
     }
 }
@@ -249,6 +273,8 @@ fn main(rt: HostRuntime) -> io::Result<()> {
             written(program.write(alloc, &mut output))?;
             written(end_line(write_all(&mut output, text.as_bytes()), &mut output))?;
             program = Program::new(alloc);
+        } else if text == "depths" {
+            program.has_depths = true;
         } else if text == "untested" {
             written(write_all_limits(program.stock, alloc, &mut output))?;
         } else if !program.take_text(alloc, number, text) {

@@ -14,7 +14,8 @@ use Rattle.ngc_margins.specs.Laws.{IsNear}
 use Rattle.ngc_margins.specs.Margins.{with_margins, lowered, raised}
 use Rattle.ngc_margins.proofs.MarginLaws.{margin_law}
 use Rattle.ngc_margins.proofs.Tests.{and, both, le_of, le_test}
-use Rattle.ngc_motors.specs.Counts.{MotorData, IsMotor, commanded, commanded_place, count}
+use Rattle.ngc_motors.specs.Counts.{MotorData, is_motor, commanded, commanded_place, count}
+use Rattle.ngc_motors.proofs.Sizes.{least_step}
 use Rattle.ngc_motors.proofs.Quotients.{nearest_law, rises_law, times_rises}
 use Rattle.ngc_motor_laws.specs.Commanded.{IsSafePlace, FitsAxis, FitsMachine, CommandedIsSafe, AreCommandedSafe, CommandedRunsSafely}
 
@@ -35,8 +36,8 @@ above margin step low high place fits some h = let f = follows step low place so
 below : (margin step low high place : ℤ) → FitsAxis margin step low high → pos 0 <ℤ step → place ≤ℤ high → commanded_place step place ≤ℤ high
 below margin step low high place fits some h = let f = follows step place high some h in omega (arith, ints, f, fits.high_whole)
 
-some_step : (grid step : ℤ) → IsStep grid → IsMotor grid step → pos 0 <ℤ step
-some_step grid step is motor = omega (arith, ints, is.least, motor.least)
+some_step : (grid step : ℤ) → IsStep grid → IsTrue (is_motor grid step) → pos 0 <ℤ step
+some_step grid step is motor = let l = least_step grid step motor in omega (arith, ints, is.least, l)
 
 -- ---- a position
 

@@ -1,5 +1,5 @@
 -- Worked rows: a grid of 0.0025 mm with a motor of 0.01 mm, and one of 0.005292 mm with 0.025 mm.
-use Rattle.std.proofs.Common.{◌≡◌, refl, ℤ, pos, negsuc, ◌*ℤ◌}
+use Rattle.std.proofs.Common.{◌≡◌, refl, pos, negsuc, ◌*ℤ◌}
 use Rattle.ngc_motors.specs.Counts.{count}
 
 -- 0.0125 mm is 1.25 steps; 0.015 mm is 1.5 steps, a tie, and so is -0.015 mm

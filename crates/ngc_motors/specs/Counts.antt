@@ -1,6 +1,6 @@
 -- Motors of which one step may be longer than a step of the path's grid. A motor stands at a whole
 -- number of its steps, its count. Our own.
-use Rattle.std.specs.Prelude.{ℤ, pos, ◌+ℤ◌, ◌*ℤ◌, ◌≤ℤ◌, int_le, Bool, ◌&&◌, Option, Some, None, if◌then◌else◌}
+use Rattle.std.specs.Prelude.{ℤ, pos, ◌+ℤ◌, ◌*ℤ◌, int_le, Bool, ◌&&◌, IsTrue, Option, Some, None, if◌then◌else◌}
 use Rattle.std.specs.Int.{int_div_euclid}
 use Rattle.ngc_fixed_length.specs.Length.{IsStep}
 use Rattle.ngc_fixed_length.specs.declared.points.Point3.{Point3}
@@ -12,19 +12,14 @@ pub record MotorData : Type 0 where
   pub steps : Point3
 
 -- a motor's step is not shorter than the grid's, and at most a millimetre
-pub record IsMotor (grid step : ℤ) : Type 0 where
-  pub least : grid ≤ℤ step
-  pub greatest : step ≤ℤ pos 1000000
+abbrev pub is_motor : ℤ → ℤ → Bool
+is_motor grid step = int_le grid step && int_le step (pos 1000000)
 
 pub record AreMotors (m : MotorData) : Type 0 where
   pub grid : IsStep m.grid
-  pub x : IsMotor m.grid m.steps.x
-  pub y : IsMotor m.grid m.steps.y
-  pub z : IsMotor m.grid m.steps.z
-
--- the same as a test; and the motors with steps that pass it
-abbrev pub is_motor : ℤ → ℤ → Bool
-is_motor grid step = int_le grid step && int_le step (pos 1000000)
+  pub x : IsTrue (is_motor m.grid m.steps.x)
+  pub y : IsTrue (is_motor m.grid m.steps.y)
+  pub z : IsTrue (is_motor m.grid m.steps.z)
 
 abbrev pub motors_with : ℤ → Point3 → Option MotorData
 motors_with grid steps =

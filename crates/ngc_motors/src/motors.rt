@@ -1,7 +1,7 @@
-ghost use Rattle.std.specs.Prelude.{◌≡◌, ◌≤◌, ◌<ℤ◌, ◌*ℤ◌, pos, unsigned_abs};
+ghost use Rattle.std.specs.Prelude.{◌≡◌, ◌≤◌, ◌<ℤ◌, ◌*ℤ◌, pos, unsigned_abs, IsTrue};
 ghost use Rattle.ngc_fixed_length.specs.Grid.{IsInRange};
 ghost use Rattle.ngc_fixed_length.specs.Length.{IsStep};
-ghost use Rattle.ngc_motors.specs.Counts.{AreMotors, IsMotor, MotorData};
+ghost use Rattle.ngc_motors.specs.Counts.{AreMotors, MotorData};
 ghost use Rattle.ngc_motors.specs.Counts as spec;
 
 use ngc_fixed_length::{Nm, Point3, StepPos};
@@ -71,7 +71,7 @@ fn count_at(step: i64, place: i64) -> i64
 // Returns a motor's count for a place on its axis in steps of the grid.
 fn count(grid: Nm, step: Nm, place: i32) -> i32
     requires grid { IsStep grid }
-    requires motor { IsMotor grid step }
+    requires motor { IsTrue (spec.is_motor grid step) }
     requires place { unsigned_abs place ≤ 200000000 }
     ensures { result ≡ spec.count step (place *ℤ grid) }
 {

@@ -1,5 +1,5 @@
--- When a word is nearly the name of a unit: by one letter more, less or other, or by two neighbours in
--- each other's place. Capitals don't count. Our own.
+-- When a word is nearly a name: by one letter more, less or other, or by two neighbours in each other's
+-- place. Capitals don't count. Our own.
 use Rattle.std.specs.Prelude.{ℕ, ◌==◌, ◌&&◌, ◌||◌, Bool, false, List, ◌∷◌, drop, find, Option, None, if◌then◌else◌}
 use Rattle.std.specs.Char.{eq_ignore_ascii_case}
 use Rattle.std.specs.List.{common_prefix_len, count_by}
@@ -31,10 +31,13 @@ is_one_off word name =
 abbrev pub shared_length : List ℕ → List ℕ → ℕ
 shared_length word name = common_prefix_len is_same_letter word name
 
+unfoldable pub is_nearly : List ℕ → List ℕ → Bool
+is_nearly word name =
+    let shared = shared_length word name in
+    is_one_off (drop shared word) (drop shared name)
+
 abbrev pub is_near : List ℕ → Unit → Bool
-is_near word unit =
-    let shared = shared_length word (name_of unit) in
-    is_one_off (drop shared word) (drop shared (name_of unit))
+is_near word unit = is_nearly word (name_of unit)
 
 -- the one unit that is near, or none if there are two
 abbrev pub nearest : List ℕ → List Unit → Option Unit

@@ -56,12 +56,20 @@ fn is_one_off(word: &[u8], name: &[u8]) -> bool
         || is_swapped(word, name)
 }
 
+/// Returns whether a word is a name but for capitals and one letter more, less or other, or two letters in
+/// each other's place.
+#[tactic(auto, unfolding(crate::specs::Near::is_nearly))]
+pub fn is_nearly(word: &[u8], name: &[u8]) -> bool
+    ensures { result ≡ spec.is_nearly word.now name.now }
+{
+    let shared = shared_length(word, name);
+    is_one_off(&word[shared..], &name[shared..])
+}
+
 fn is_near(word: &[u8], unit: Unit) -> bool
     ensures { result ≡ spec.is_near word.now unit }
 {
-    let name = unit.name();
-    let shared = shared_length(word, name);
-    is_one_off(&word[shared..], &name[shared..])
+    is_nearly(word, unit.name())
 }
 
 fn near_count(word: &[u8], units: &[Unit]) -> usize

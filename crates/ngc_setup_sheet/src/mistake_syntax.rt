@@ -19,7 +19,7 @@ fn asked(rule: Rule) -> &'static [u8]
 {
     match rule {
         Rule::Version =>
-            b"It must be 1, or 2 where the file has `axis_rate`: the version of this format.\n",
+            b"It must be 1, 2 where the file has `axis_rate`, or 3 where its lengths have a unit: the version of this format.\n",
         Rule::Step =>
             b"It must be a whole number from 500 to 50,000: the length of a step in nm.\n",
         Rule::TicksPerSecond =>

@@ -20,7 +20,7 @@ use Rattle.ngc_stock.proofs.Bounds.{AreBounds, fewer}
 use Rattle.ngc_stock.proofs.Silences.{step_keeps, parts_safe, at_first}
 
 -- the heights after some commands bound what they have left
-after_bounds : (s : Stock) (grid : IsGrid s.grid) (commands : List Command) (r : Reached) (old new : List ℕ) (Left : Point3 → Type 0) →
+pub after_bounds : (s : Stock) (grid : IsGrid s.grid) (commands : List Command) (r : Reached) (old new : List ℕ) (Left : Point3 → Type 0) →
     ((q : Point3) → Left q → IsInStock s q) → AreBounds s old Left → AreAfter s r old commands new → AreBounds s new (λ q. Left q × ¬ (IsCutInAny r commands q))
 after_bounds s grid [] r old new Left stock bounds e =
     subst (λ (l : List ℕ). AreBounds s l (λ q. Left q × ¬ (IsCutInAny r [] q))) (sym e) (fewer s old Left (λ q. Left q × ¬ (IsCutInAny r [] q)) (λ q h. h.0) bounds)

@@ -12,3 +12,5 @@ pub mod FreeTools
 pub mod AboveFeeds
 -- The law of feeds whose upper parts are clear.
 pub mod ClearFeeds
+-- What a feed meets is less than its depth above the lower of its tips.
+pub mod CutDepths

@@ -5,3 +5,4 @@ pub mod Silence
 pub mod Changes
 pub mod Below
 pub mod Feeds
+pub mod Cuts

@@ -1,6 +1,7 @@
 //! The laws of silence.
 ghost use Rattle.ngc_stock.specs.Below.{AllAbove};
 ghost use Rattle.ngc_stock.specs.Changes.{FreeChange, FreeChanges};
+ghost use Rattle.ngc_stock.specs.Cuts.{CutDepth};
 ghost use Rattle.ngc_stock.specs.Feeds.{ClearFeed};
 ghost use Rattle.ngc_stock.specs.Silence.{Silence};
 
@@ -32,4 +33,11 @@ pub fn free_changes()
 /// bottom is reported.
 pub fn all_above()
     ensures { AllAbove }
+{}
+
+/// States that what the cutter of a straight feed, smaller by a margin, meets of the material that the
+/// feeds before it have left is less than the feed's depth above the lower of its two tips, if no
+/// traverse before it is reported.
+pub fn cut_depth()
+    ensures { CutDepth }
 {}

@@ -15,7 +15,7 @@ use Rattle.ngc_commands.specs.Reached.{at_start}
 use Rattle.ngc_cells.specs.Stretches.{spot}
 use Rattle.ngc_cells.specs.declared.stretch.Spot.{Spot}
 use Rattle.ngc_material.specs.declared.walk.Found.{Found}
-use Rattle.ngc_material_report.specs.Sentences.{touches_text, depths_text, untested_text}
+use Rattle.ngc_material_report.specs.Sentences.{touches_text, depths_text, cuts_text, untested_text}
 use Rattle.ngc_report.specs.declared.form.Form.{Form}
 use Rattle.ngc_report.specs.declared.form.Form.TheVariants.{Words, Json}
 use Rattle.ngc_stock_report.specs.Placed.{origin_at}
@@ -81,17 +81,20 @@ abbrev pub unwalked_text : Form → Option StockBox → List ℕ
 unwalked_text form None = []
 unwalked_text form (Some b) = far_line form
 
--- the tool changes below the top of the material, the feeds below its bottom, and what isn't tested
+-- the tool changes below the top of the material, the feeds below its bottom, how deep feeds cut, and what
+-- isn't tested
 abbrev pub rest_text : Form → MachineFile → List Tool → List Command → WalkData → List ℕ
 rest_text form m tools commands w =
-    depths_text form (block_origin m m.stock) w.stock (at_start m) commands ++ untested_text form w.stock.grid tools
+    depths_text form (block_origin m m.stock) w.stock (at_start m) commands
+    ++ (cuts_text form w.cuts ++ untested_text form w.stock.grid tools)
 
 abbrev pub walk_text : Form → MachineFile → List Tool → List Command → WalkData → List ℕ
 walk_text form m tools commands w =
     touches_text form MOST_LINES (block_origin m m.stock) w.found w.feeds
     ++ (arcs_line form commands (found_or w.found w.feeds) ++ rest_text form m tools commands w)
 
--- the motions that may touch material, the tool changes in it, the feeds below it, and what isn't tested
+-- the motions that may touch material, the tool changes in it, the feeds below it, how deep feeds cut, and
+-- what isn't tested
 abbrev pub material_text : Form → MachineFile → List Tool → List Command → Option WalkData → List ℕ
 material_text form m tools commands None = unwalked_text form m.stock
 material_text form m tools commands (Some w) = walk_text form m tools commands w

@@ -1,21 +1,26 @@
--- What the traverses and the feeds of a program may touch of a machine's material. Our own.
-use Rattle.std.specs.Prelude.{◌≡◌, ◌⊎◌, List, Option, Some, None, IsTrue}
+-- What the traverses and the feeds of a program may touch of a machine's material, and how deep its feeds
+-- cut. Our own.
+use Rattle.std.specs.Prelude.{◌≡◌, ◌⊎◌, List, [], Option, Some, None, IsTrue}
 use Rattle.ngc_machine_files.specs.Machine.{MachineFile}
 use Rattle.ngc_commands.specs.declared.command.Command.{Command}
 use Rattle.ngc_commands.specs.Reached.{at_start}
 use Rattle.ngc_cells.specs.Grids.{IsGrid}
+use Rattle.ngc_stock.specs.declared.cut.Cut.{Cut}
 use Rattle.ngc_stock.specs.declared.stock.Stock.{Stock}
 use Rattle.ngc_stock.specs.Walk.{uncut}
 use Rattle.ngc_material.specs.declared.walk.Found.{Found}
+use Rattle.ngc_material.specs.Cuts.{AreCuts}
 use Rattle.ngc_material.specs.Heights.{are_reached}
 use Rattle.ngc_material.specs.Walks.{AreFound}
 use Rattle.ngc_stock_report.specs.Placed.{IsPlaced}
 
--- the material in the machine, and the straight traverses and the feeds that may touch it
+-- the material in the machine, the straight traverses and the feeds that may touch it, and the deepest feed
+-- of each tool
 pub record WalkData : Type 0 where
   pub stock : Stock
   pub found : List Found
   pub feeds : List Found
+  pub cuts : List Cut
 
 -- some of the cells, or the end of a motion, is more than two metres from the machine's zero
 abbrev pub IsFar : Stock → List Command → Type 0
@@ -32,6 +37,7 @@ pub record IsWalk (m : MachineFile) (commands : List Command) (w : WalkData) : T
   pub grid : IsGrid w.stock.grid
   pub near : IsTrue (are_reached commands)
   pub found : AreFound w.stock (at_start m) (uncut w.stock) 0 commands w.found w.feeds
+  pub cuts : AreCuts w.stock (at_start m) (uncut w.stock) 0 commands w.found [] w.cuts
 
 -- no walk without a block of material, and none where it or a motion is far
 abbrev pub IsWalked : MachineFile → List Command → Option WalkData → Type 0

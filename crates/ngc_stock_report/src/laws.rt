@@ -1,5 +1,5 @@
 //! The law of a report that says nothing of material.
-ghost use Rattle.ngc_stock_report.specs.Silent.{SilentFeeds, SilentReport};
+ghost use Rattle.ngc_stock_report.specs.Silent.{DeepestReport, SilentFeeds, SilentReport};
 
 /// States that if a walk over a program's commands finds no traverse, no straight traverse meets material
 /// that the feeds before it have left, for each part of the tool, smaller by a margin and raised by a
@@ -12,4 +12,11 @@ pub fn silent_report()
 /// the feeds up to this one, and the reported traverses before it, have left.
 pub fn silent_feeds()
     ensures { SilentFeeds }
+{}
+
+/// States that what the cutter of a straight feed, smaller by a margin, meets of the material that the
+/// feeds and the reported traverses before it have left is less than the depth of its tool, which the
+/// report names, above the lower of the feed's two tips.
+pub fn deepest_report()
+    ensures { DeepestReport }
 {}

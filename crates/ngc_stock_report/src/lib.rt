@@ -1,5 +1,5 @@
-//! What the straight traverses and feeds of a program may touch of the material of a machine file, and the
-//! lines of a report about it.
+//! What the straight traverses and feeds of a program may touch of the material of a machine file, how deep
+//! its feeds cut, and the lines of a report about it.
 #![tactic(auto)]
 
 mod arcs;

@@ -13,7 +13,8 @@ use ngc_stock::Stock;
 use std::alloc::{AllocError, Allocator};
 use std::marker::Model;
 
-/// The material of a machine, and the straight traverses and feeds of a program that may touch it.
+/// The material of a machine, the straight traverses and feeds of a program that may touch it, and its
+/// deepest feeds.
 #[derive(Drop)]
 pub struct Walk<A: Allocator> {
     pub(crate) stock: Stock,
@@ -26,13 +27,14 @@ impl<A: Allocator> Model for Walk<A> {
 
     ghost Value = { WalkData };
 
-    ghost view = { λ w. record { stock = w.stock; found = w.touches.traverses.items; feeds = w.touches.feeds.items } };
+    ghost view = { λ w. record { stock = w.stock; found = w.touches.traverses.items; feeds = w.touches.feeds.items; cuts = w.touches.cuts.items } };
 
     ghost invariant = { λ w. Unit {0} };
 }
 
 /// Returns the straight traverses of a program that may touch the material of its machine, and the
-/// straight feeds whose shank or holder may: `commands` are its commands at a setting of block delete.
+/// straight feeds whose shank or holder may, and the deepest straight feed of each tool: `commands` are
+/// its commands at a setting of block delete.
 /// It returns `None` if the machine has no block of material, or if some of it, or the end of a motion,
 /// is more than two metres from the machine's zero.
 ///

@@ -14,7 +14,7 @@ use ngc_cells::Spot;
 use ngc_commands::{Command, Reached};
 use ngc_machine_files::{Machine, Tool};
 use ngc_material::Found;
-use ngc_material_report::{write_depths, write_touches, write_untested};
+use ngc_material_report::{write_cuts, write_depths, write_touches, write_untested};
 use ngc_report::Form;
 use ngc_text::{Sink, WriteFault, write_all};
 use std::alloc::Allocator;
@@ -85,8 +85,8 @@ fn unwalked<A: Allocator>(form: Form, machine: &Machine<A>) -> &'static [u8]
     }
 }
 
-// Writes the tool changes below the top of the material, the feeds below its bottom, and what isn't
-// tested.
+// Writes the tool changes below the top of the material, the feeds below its bottom, how deep feeds cut,
+// and what isn't tested.
 fn write_rest<A: Allocator, B: Allocator, W: Sink>(
     form: Form,
     machine: &Machine<B>,
@@ -103,7 +103,9 @@ fn write_rest<A: Allocator, B: Allocator, W: Sink>(
 {
     let origin = block_origin(machine);
     let start = Reached::at_start(machine);
+    let cuts = walk.touches.cuts.as_slice();
     write_depths(form, &origin, &walk.stock, &start, commands, output)?;
+    write_cuts(form, cuts, output)?;
     write_untested(form, &walk.stock.grid, tools, output)
 }
 
@@ -131,9 +133,9 @@ fn write_walk<A: Allocator, B: Allocator, W: Sink>(
 }
 
 /// Writes what a walk has found: the straight traverses and feeds that may touch material, the tool changes
-/// below its top, the feeds below its bottom, and what isn't tested. `commands` are those of the walk. Without
-/// a block of material nothing is written; if the walk wasn't made because of a distance, one line says
-/// so.
+/// below its top, the feeds below its bottom, how deep straight feeds cut with each tool, and what isn't
+/// tested. `commands` are those of the walk. Without a block of material nothing is written; if the walk
+/// wasn't made because of a distance, one line says so.
 ///
 /// After a fault (902, only if the sink failed) a prefix of the text is written.
 pub fn write_material<A: Allocator, B: Allocator, W: Sink>(

@@ -2,12 +2,13 @@
 use Rattle.std.specs.Prelude.{ℕ, List, [], ◌++◌, codes, Option, Some, None, Result, Ok, Err}
 use Rattle.std.specs.Prelude.{if◌then◌else◌}
 use Rattle.toml.specs.Data.{Data}
+use Rattle.ngc_machine_figures.specs.Version.{is_written}
 use Rattle.ngc_machine_files.specs.Tree.{tree_of}
 use Rattle.ngc_machine_files.specs.declared.fault.FileFault.{FileFault}
 use Rattle.ngc_machine_files.specs.declared.tools.Tool.{Tool}
 use Rattle.ngc_refused_files.specs.Refusals as keys
 use Rattle.ngc_setup_sheet.specs.Mistakes.{tools_mistake_text}
-use Rattle.ngc_written_tools.specs.Reading.{written_tools, is_written}
+use Rattle.ngc_written_tools.specs.Reading.{written_tools}
 use Rattle.ngc_written_tools.specs.declared.refusal.ToolsRefusal.{ToolsRefusal}
 use Rattle.ngc_written_tools.specs.declared.refusal.ToolsRefusal.TheVariants as refusals
 

@@ -9,12 +9,13 @@ ghost use Rattle.ngc_sentences.specs.Saying.{Says};
 ghost use Rattle.ngc_tool_mistakes.specs.Mistakes as spec;
 ghost use Rattle.ngc_written_tools.specs.Reading.{written_tools as tools_of};
 
+use ngc_machine_figures::is_written;
 use ngc_machine_files::{FileFault, read_tree};
 use ngc_refused_files::write_refusal;
 use ngc_sentences::{Page, Part, say};
 use ngc_setup_sheet::write_tools_mistake;
 use ngc_text::{Sink, WriteFault};
-use ngc_written_tools::{ToolsFault, ToolsRefusal, is_written, written_tools};
+use ngc_written_tools::{ToolsFault, ToolsRefusal, written_tools};
 use std::alloc::Global;
 use toml::Value;
 

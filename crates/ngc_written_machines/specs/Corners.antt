@@ -1,6 +1,6 @@
 -- Places and boxes as the contents of a machine file have them. Our own.
-use Rattle.std.specs.Prelude.{ℕ, ℤ, pos, ◌-ℤ◌, int_lt, int_rem, List, [], Option, Some, None}
-use Rattle.std.specs.Prelude.{if◌then◌else◌}
+use Rattle.std.specs.Prelude.{ℕ, ℤ, pos, ◌-ℤ◌, int_rem, List, [], Option, Some, None}
+use Rattle.std.specs.Int.{int_min, int_max}
 use Rattle.ngc_quantities.specs.declared.range.Place.{Place}
 use Rattle.ngc_machine_figures.specs.declared.sheet.BoxSheet.{BoxSheet}
 use Rattle.ngc_machine_figures.specs.declared.sheet.FixtureSheet.{FixtureSheet}
@@ -20,26 +20,20 @@ on_grid step c = c -ℤ int_rem c (pos step)
 abbrev pub place_on_grid : ℕ → Place → Coordinates
 place_on_grid step p = record { x = on_grid step p.x; y = on_grid step p.y; z = on_grid step p.z }
 
-abbrev pub lesser : ℤ → ℤ → ℤ
-lesser a b = if int_lt b a then b else a
-
-abbrev pub greater : ℤ → ℤ → ℤ
-greater a b = if int_lt a b then b else a
-
 -- the corner with the least coordinates
 abbrev pub low_of : BoxSheet → Coordinates
 low_of b = record {
-  x = lesser b.from.x b.to.x;
-  y = lesser b.from.y b.to.y;
-  z = lesser b.from.z b.to.z;
+  x = int_min b.from.x b.to.x;
+  y = int_min b.from.y b.to.y;
+  z = int_min b.from.z b.to.z;
 }
 
 -- the corner with the greatest coordinates
 abbrev pub high_of : BoxSheet → Coordinates
 high_of b = record {
-  x = greater b.from.x b.to.x;
-  y = greater b.from.y b.to.y;
-  z = greater b.from.z b.to.z;
+  x = int_max b.from.x b.to.x;
+  y = int_max b.from.y b.to.y;
+  z = int_max b.from.z b.to.z;
 }
 
 -- no characters without a name

@@ -1,5 +1,6 @@
 //! Places and boxes as the contents of a machine file have them.
 ghost use Rattle.std.specs.Prelude.{◌≡◌, ◌<◌};
+ghost use Rattle.std.specs.Int.{int_min, int_max};
 ghost use Rattle.ngc_written_machines.specs.Corners as spec;
 
 use ngc_machine_figures::{BoxSheet, FixtureSheet, StockSheet, System};
@@ -38,15 +39,15 @@ pub(crate) fn place_on_grid(step: u32, place: Place) -> Coordinates
 }
 
 fn lesser(a: i64, b: i64) -> i64
-    ensures { result ≡ spec.lesser a b }
+    ensures { result ≡ int_min a b }
 {
     if b < a { b } else { a }
 }
 
 fn greater(a: i64, b: i64) -> i64
-    ensures { result ≡ spec.greater a b }
+    ensures { result ≡ int_max a b }
 {
-    if a < b { b } else { a }
+    if b < a { a } else { b }
 }
 
 fn low_of(corners: &BoxSheet) -> Coordinates

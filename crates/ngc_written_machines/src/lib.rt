@@ -9,5 +9,5 @@ mod reading;
 mod refusal;
 
 pub use machine::written_machine;
-pub use reading::{is_written, read_machine};
+pub use reading::read_machine;
 pub use refusal::{WrittenFault, WrittenRefusal};

@@ -7,19 +7,10 @@ ghost use Rattle.ngc_written_machines.specs.Reading as spec;
 
 use crate::machine::written_machine;
 use crate::refusal::WrittenFault;
-use ngc_machine_files::{FileFault, Machine, read_tree, whole_at};
+use ngc_machine_figures::is_written;
+use ngc_machine_files::{FileFault, Machine, read_tree};
 use std::alloc::Global;
 use toml::Value;
-
-/// Returns whether a machine file's tree is one of version 3.
-pub fn is_written(tree: &Value) -> bool
-    ensures { result ≡ spec.is_written (view tree.now) }
-{
-    match whole_at(tree, "version") {
-        Some(version) => version == 3,
-        None => false,
-    }
-}
 
 fn file_fault(fault: WrittenFault) -> FileFault
     ensures { result ≡ spec.file_fault fault }

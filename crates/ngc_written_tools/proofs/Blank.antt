@@ -4,7 +4,7 @@ use Rattle.toml.specs.Data.{Data, get, as_integer}
 use Rattle.toml.specs.Errors.{IsBlank}
 use Rattle.ngc_machine_files.specs.Tree.{tree_of, ◌>>=◌}
 use Rattle.ngc_machine_files.proofs.BlankFiles.{read-blank}
-use Rattle.ngc_written_tools.specs.Reading.{is_third, is_written}
+use Rattle.ngc_machine_figures.specs.Version.{is_third, is_written}
 
 keyed : (o : Option Data) → is_third (o >>= as_integer) ≡ true → IsSome o
 keyed None h = cc

@@ -10,7 +10,6 @@
 //! ```
 #![tactic(auto)]
 
-mod each;
 mod entries;
 mod holder;
 mod kinds;
@@ -21,5 +20,5 @@ mod shape;
 mod sheet;
 mod table;
 
-pub use reading::{is_written, read_tools, written_tools};
+pub use reading::{read_tools, written_tools};
 pub use refusal::{ToolsFault, ToolsRefusal};

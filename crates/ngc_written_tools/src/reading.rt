@@ -10,7 +10,8 @@ use crate::entries::contents_of;
 use crate::refusal::{ToolsFault, ToolsRefusal};
 use crate::sheet::MeasuredTool;
 use crate::table::sheets_of;
-use ngc_machine_files::{FileFault, Tools, read_tree, whole_at};
+use ngc_machine_figures::is_written;
+use ngc_machine_files::{FileFault, Tools, read_tree};
 use std::alloc::Global;
 use toml::Value;
 
@@ -46,16 +47,6 @@ pub fn written_tools(alloc: Global, tree: &Value) -> Result<Tools<Global>, Tools
         Ok(Ok(tools)) => tools_by(alloc, tools.as_slice()),
         Ok(Err(refusal)) => Err(ToolsFault::Refused(ToolsRefusal::Key(refusal))),
         Err(_) => Err(ToolsFault::Memory),
-    }
-}
-
-/// Returns whether a tool table's tree is one of version 3.
-pub fn is_written(tree: &Value) -> bool
-    ensures { result ≡ spec.is_written (view tree.now) }
-{
-    match whole_at(tree, "version") {
-        Some(version) => version == 3,
-        None => false,
     }
 }
 

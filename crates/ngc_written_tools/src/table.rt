@@ -4,13 +4,12 @@ ghost use Rattle.toml.specs.View.{view, items_view};
 ghost use Rattle.ngc_machine_figures.specs.Reading.{ok_map};
 ghost use Rattle.ngc_written_tools.specs.Tables as spec;
 
-use crate::each::{Listed, each};
 use crate::holder::holder_at;
 use crate::numbers::check_numbers;
 use crate::shape::measured;
 use crate::sheet::{MeasuredTool, ToolSheet};
 use ngc_machine_figures::{
-    FileRefusal, Key, ToolKey, ToolWrong, Wrong, only_known, optional, required,
+    FileRefusal, Key, Numbered, ToolKey, ToolWrong, Wrong, each, only_known, optional, required,
 };
 use ngc_machine_files::Name;
 use std::alloc::{AllocError, Global};
@@ -70,11 +69,11 @@ fn tool_of(tool: u16, table: &Value) -> Result<MeasuredTool, FileRefusal>
     measured(tool, &sheet, &holder)
 }
 
-impl Listed for MeasuredTool {
-    ghost reading = { spec.tool_of };
+impl Numbered<()> for MeasuredTool {
+    ghost reading = { λ _. spec.tool_of };
 
-    fn read(place: u16, value: &Value) -> Result<MeasuredTool, FileRefusal> {
-        tool_of(place, value)
+    fn read(_context: &(), number: u16, value: &Value) -> Result<MeasuredTool, FileRefusal> {
+        tool_of(number, value)
     }
 }
 
@@ -86,7 +85,7 @@ fn different_tools(
     ensures { IfOk result (λ said. ok_map (λ v. v.items) said
         ≡ spec.different_tools (items_view values.now)) }
 {
-    let tools = match each(alloc, values)? {
+    let tools = match each(alloc, &(), values)? {
         Ok(tools) => tools,
         Err(refusal) => return Ok(Err(refusal)),
     };

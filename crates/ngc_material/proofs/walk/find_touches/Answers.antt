@@ -1,4 +1,5 @@
 use Rattle.std.proofs.Common.{length, arith, ◌∙◌, ◌-◌}
+use Rattle.ngc_material.proofs.DeepestFeeds.{kept_cuts, all_cuts}
 use Rattle.ngc_material.proofs.Reports.{kept_found, all_found, later_reached}
 use Rattle.ngc_material.proofs.walk.find_touches.Goals as goal
 
@@ -13,6 +14,10 @@ loop-command-preserved g c =
           c.loop-command.material.heights.items c.follow.new.material.heights.items c.loop-command.traverses.items c.follow.new.traverses.items
           c.loop-command.feeds.items c.test.new.feeds.items
           e v.few c.after-reached.ensures (rw v.stock at c.in-Ok-follow.ensures.found) (rw (c.in-Ok-follow.ensures.stock ∙ v.stock) at c.in-Ok-test.ensures) v.found;
+      cuts = kept_cuts c.args.stock.now c.args.start.now c.loop-command.reached c.after-reached.result c.args.commands.now c.loop-command.left.now c.in-Some.later.now c.in-Some.command.now
+          c.loop-command.material.heights.items c.follow.new.material.heights.items c.loop-command.traverses.items c.follow.new.traverses.items
+          c.loop-command.cuts.items c.measure.new.cuts.items
+          e v.few c.after-reached.ensures (rw v.stock at c.in-Ok-follow.ensures.found) (rw v.stock at c.in-Ok-measure.ensures) v.cuts;
     }
 
 pub returns-clause-found : goal.returns-clause-found
@@ -20,3 +25,9 @@ returns-clause-found g c =
     let v = c.loop-command.invariant in
     all_found c.args.stock.now c.args.start.now c.loop-command.reached c.args.commands.now c.loop-command.left.now c.loop-command.material.heights.items
     (length c.args.commands.now - length c.loop-command.left.now) c.loop-command.traverses.items c.loop-command.feeds.items c.in_default-split_first.ensures.cases v.found
+
+pub returns-clause-cuts : goal.returns-clause-cuts
+returns-clause-cuts g c =
+    let v = c.loop-command.invariant in
+    all_cuts c.args.stock.now c.args.start.now c.loop-command.reached c.args.commands.now c.loop-command.left.now c.loop-command.material.heights.items
+    (length c.args.commands.now - length c.loop-command.left.now) c.loop-command.traverses.items c.loop-command.cuts.items c.in_default-split_first.ensures.cases v.cuts

@@ -1,20 +1,24 @@
-use Rattle.std.proofs.Common.{refl, sym, ◌∙◌, arith}
+use Rattle.std.proofs.Common.{ap, sym, drop, ◌∙◌}
 use Rattle.ngc_dialect_parameters.specs.Known.{known}
-use Rattle.ngc_dialect_parameters.specs.Evaluation.{sums_of}
-use Rattle.ngc_dialect_parameters.proofs.Steps.{part_done}
+use Rattle.ngc_dialect_parameters.specs.Evaluation.{line_values, sums_of}
+use Rattle.ngc_dialect_parameters.specs.NumberWords.{number_said}
+use Rattle.ngc_dialect_parameters.proofs.NumberWords.{Holds, given, after_number, after_part, whole_tail}
 use Rattle.ngc_dialect_parameters.proofs.parameters.Parameters.evaluate.Goals as goal
+use Rattle.ngc_dialect_parameters.proofs.parameters.Parameters.evaluate.Goals.{in-Some, in_default-number_first+else-is_stopped}
 
-pub loop-part-preserved : goal.loop-part-preserved
-loop-part-preserved g c =
+pub loop-rest-preserved : goal.loop-rest-preserved
+loop-rest-preserved g c =
     let k = known c.args.self.now (g.C.Control.number c.args.control.now) (g.C.Control.name c.args.control.now) in
-    let done = part_done k c.args.line.now.text.items c.as_slice-part-items.result.now c.loop-part.part-index _ _ (sums_of c.loop-part.values) (sums_of c.step.new.values)
-    c.loop-part-test.true refl (sym c.if-is_stopped.ensures) c.in-Ok.ensures in
-    let stack = done.stack in
-    let statements = done.statements in
-    let before = c.loop-part.invariant.stack in
-    let said = c.loop-part.invariant.done in
-    record {
-      rest = done.rest ∙ c.loop-part.invariant.rest;
-      stack = omega (arith, stack, before);
-      done = omega (arith, statements, said);
-    }
+    let text = c.args.line.now.text.items in
+    let before = c.loop-rest.invariant in
+    let all : Holds k text (line_values k text c.args.line.now.parts.items) c.match-number_first.rest.now (sums_of c.match-number_first.values) =
+    elim c.match-number_first.branch [
+      | in-Some w ↦
+          after_number _ _ _ _ _ _ _ _ _ _ w.in-Some.ensures (given (sums_of w.number_word-done.new.values) w.number_word-done.result c.in-Ok.field-0 (number_said w.in-Some.number w.in-Some.letter (sums_of c.loop-rest.values)) (sym w.done-is ∙ c.in-Ok.is) w.number_word-done.ensures)
+          (ap (λ r. r.now) w.rest-is ∙ w.others-rest.ensures ∙ ap (drop 1) (whole_tail _)) (ap sums_of w.values-is) before.rest before.stack before.done
+      | in_default-number_first+else-is_stopped w ↦
+          after_part _ _ _ _ _ _ _ _ _ c.in-len1-up.len_at_least (sym w.is_stopped.ensures ∙ w.if-is_stopped.false)
+          (given (sums_of w.step-done.new.values) w.step-done.result c.in-Ok.field-0 _ (sym w.done-is ∙ c.in-Ok.is) w.step-done.ensures)
+          (ap (λ r. r.now) w.rest-is ∙ whole_tail _) (ap sums_of w.values-is) before.rest before.stack before.done
+    ] in
+    record { rest = all.rest; stack = all.stack; done = all.done }
