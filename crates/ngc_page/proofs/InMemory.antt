@@ -15,7 +15,7 @@ use Rattle.ngc_saved_files.specs.Notes.{IsNoted}
 use Rattle.ngc_saved_files.specs.declared.files.SavedFiles.{SavedFiles}
 use Rattle.ngc_saved_files.specs.declared.lines.FilesInLines.{FilesInLines}
 use Rattle.ngc_saved_files.specs.declared.source.SavedSource.{SavedSource}
-use Rattle.ngc_simulator.specs.Answers.{Given, Taking}
+use Rattle.ngc_simulator.specs.Answers.{Given, Taking, inputs_of}
 use Rattle.ngc_page.proofs.FileReading.{all_read, stops_of, unread}
 use Rattle.ngc_page.specs.Answered.{IsResult, LINES_KEPT, ReportsUnreadable}
 use Rattle.ngc_page.specs.Files.{bytes_of}
@@ -51,7 +51,7 @@ module _ {S : Type 0} (remaining : SavedSource S → Option (List ℕ)) (files :
     outcome = done.answers.outcome;
     comes = inl (record { chosen = done.chosen; choice = done.choice; comes = done.answers.comes });
     says = done.answers.says;
-    read = all_read _ _ _ _ done.answers.unread;
+    read = all_read remaining (saved_bytes (lines_of options) files) (inputs_of done.chosen) done.answers.outcome done.answers.unread;
     lines =
         record { told = told; missed = missed; failed = failed; is_wide = is_wide; tells = done.answers.tells; noted = noted; keeps = keeps };
   }
@@ -60,7 +60,7 @@ module _ {S : Type 0} (remaining : SavedSource S → Option (List ℕ)) (files :
       stops_in remaining (deciding_file options) (saved_bytes (lines_of options) files) stop.fault stop.unread in
       record {
         outcome = Err (Unread stop.fault);
-        comes = inr (record { fault = stop.fault; stops = stops; nothing = ap (λ it. unwrap_or it []) stop.untouched; reports = refl });
+        comes = inr (record { fault = stop.fault; stops = stops; nothing = ap (λ (it : Option (List ℕ)). unwrap_or it []) stop.untouched; reports = refl });
         says = stop.says;
         read = readable (deciding_file options) (saved_bytes (lines_of options) files) stop.fault stops;
         lines = record { told = told; missed = missed; failed = failed; is_wide = is_wide; tells = stop.tells; noted = noted; keeps = keeps };

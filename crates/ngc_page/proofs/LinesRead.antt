@@ -1,5 +1,5 @@
 -- Words that have no line breaks are the lines of their text.
-use Rattle.std.proofs.Common.{◌≡◌, ◌∙◌, ◌≤◌, ◌-◌, ◌==◌, ◌||◌, ℕ, suc, List, [], ◌∷◌, ◌++◌, Bool, true, false, if◌then◌else◌, length, map, take, ap, arith, refl}
+use Rattle.std.proofs.Common.{◌≡◌, ◌∙◌, ◌≤◌, ◌-◌, ◌==◌, ◌||◌, ℕ, suc, List, [], ◌∷◌, ◌++◌, Bool, true, false, if◌then◌else◌, length, map, take, append_assoc, ap, arith, codes, refl}
 use Rattle.std.specs.List.{list_any, onto_first, slice_index, slice_split}
 use Rattle.std.specs.Str.Lines.{lines, lines_of_parts, strip_carriage_return}
 use Rattle.std.proofs.lemmas.Bool.{or_parts}
@@ -41,9 +41,11 @@ words_same [] plain = refl
 words_same (word ∷ words) plain =
     let alone : has_break word ≡ false = (or_parts (has_break word) (list_any has_break words) plain).0 in
     let others : list_any has_break words ≡ false = (or_parts (has_break word) (list_any has_break words) plain).1 in
-    ap lines_of_parts (split_word word (lines_text words) alone)
+    ap lines (append_assoc word (codes "\n") (lines_text words))
+    ∙ (ap lines_of_parts (split_word word (lines_text words) alone)
     ∙ (first_line word (slice_split (λ b. b == 10) (lines_text words)) (some_parts (lines_text words))
-    ∙ (ap (λ w. w ∷ lines (lines_text words)) (unstripped word alone) ∙ ap (λ ws. word ∷ ws) (words_same words others)))
+    ∙ (ap (λ (w : List ℕ). w ∷ lines (lines_text words)) (unstripped word alone)
+    ∙ ap (λ (ws : List (List ℕ)). word ∷ ws) (words_same words others))))
 
 -- a test of what a function makes of each element
 pub any_of_map : {X Y : Type 0} (test : Y → Bool) (f : X → Y) (xs : List X) → list_any test (map f xs) ≡ list_any (λ x. test (f x)) xs

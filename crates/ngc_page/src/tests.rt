@@ -561,6 +561,15 @@ const JOBS: &[JobRow] = &[
         b"",
         b"error: a word of the call has a line break\n",
     ),
+    // A carriage return before a line feed ends the line, and one within a word breaks it.
+    (b"report\r\n--all", b"", 0, b"report\n--all\n", b""),
+    (
+        b"report\n--program=a\rb",
+        b"",
+        2,
+        b"",
+        b"error: a word of the call has a line break\n",
+    ),
     (b"report\n\xff", b"", 2, b"", b"UTF-8"),
 ];
 
