@@ -1,13 +1,12 @@
 -- The result of a command whose files are in memory.
-use Rattle.std.proofs.Common.{◌≡◌, ◌∙◌, ◌<◌, ℕ, List, [], length, Bool, Option, Some, None, Result, Err, IfErr, MatchOption, inl, inr, ap, refl, subst}
+use Rattle.std.proofs.Common.{◌≡◌, ◌∙◌, ◌<◌, ℕ, List, [], length, Bool, Option, Some, None, Err, inl, inr, ap, refl, subst}
 use Rattle.std.specs.Prelude.{IsSomeAnd, unwrap_or}
 use Rattle.ngc_text.specs.declared.input_fault.InputFault.{InputFault}
 use Rattle.ngc_text.specs.declared.input_fault.InputFault.TheVariants as inputs
 use Rattle.ngc_command_line.specs.declared.options.Options.{Options}
 use Rattle.ngc_dialect_choice.specs.Choice.{AnswersByMachine, Done, Stopped, StopsChoosing, deciding_file}
 use Rattle.ngc_inputs.specs.Setups.{FileBytes}
-use Rattle.ngc_inputs.specs.Unread.{ReportsUnread, SourceFails, unread_by}
-use Rattle.ngc_inputs.specs.declared.fault.AnswerFault.{AnswerFault}
+use Rattle.ngc_inputs.specs.Unread.{ReportsUnread, SourceFails}
 use Rattle.ngc_inputs.specs.declared.fault.AnswerFault.TheVariants.{Input as Unread}
 use Rattle.ngc_saved_files.specs.Files.{saved_bytes, source_failures}
 use Rattle.ngc_saved_files.specs.Lines.{lines_of}

@@ -1,5 +1,5 @@
 -- What a call with its job file returns, where every file is in memory.
-use Rattle.std.proofs.Common.{◌≡◌, ℕ, List, Option, Some, None, Result, Ok, Err, inl, inr, refl}
+use Rattle.std.proofs.Common.{◌≡◌, ℕ, List, Option, Some, None, Result, Ok, Err, inl, inr}
 use Rattle.ngc_inputs.specs.Setups.{FileBytes}
 use Rattle.ngc_inputs.specs.Unread.{SourceFails}
 use Rattle.ngc_job_calls.specs.Calls.{IsAsked, IsCall, IsFor, IsUnread, IsWithFile, StopsIn}

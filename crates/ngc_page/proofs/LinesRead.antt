@@ -1,5 +1,5 @@
 -- Words that have no line breaks are the lines of their text.
-use Rattle.std.proofs.Common.{◌≡◌, ◌∙◌, ◌≤◌, ◌-◌, ◌==◌, ◌||◌, ℕ, suc, List, [], ◌∷◌, ◌++◌, Bool, true, false, if◌then◌else◌, length, map, take, append_assoc, ap, arith, codes, refl}
+use Rattle.std.proofs.Common.{◌≡◌, ◌∙◌, ◌≤◌, ◌-◌, ◌==◌, ◌||◌, ℕ, suc, List, [], ◌∷◌, ◌++◌, Bool, false, if◌then◌else◌, length, map, take, append_assoc, ap, arith, codes, refl}
 use Rattle.std.specs.List.{list_any, onto_first, slice_index, slice_split}
 use Rattle.std.specs.Str.Lines.{lines, lines_of_parts, strip_carriage_return}
 use Rattle.std.proofs.lemmas.Bool.{or_parts}

@@ -1,4 +1,4 @@
-use Rattle.std.proofs.Common.{◌≡◌, ℕ, rules, subst, sym}
+use Rattle.std.proofs.Common.{◌≡◌, ℕ, rules, subst}
 use Rattle.ngc_page.specs.Answered.{IsResult}
 use Rattle.ngc_page.specs.Files.{bytes_of}
 use Rattle.ngc_page.proofs.answering.answer_into.Goals as goal

@@ -1,4 +1,4 @@
-use Rattle.std.proofs.Common.{◌≡◌, ◌∙◌, Bool, List, ℕ, false, ap, inl, map, rules, sym}
+use Rattle.std.proofs.Common.{◌≡◌, ◌∙◌, false, ap, inl, map, rules, sym}
 use Rattle.std.specs.List.{list_any}
 use Rattle.std.specs.Str.Lines.{lines}
 use Rattle.ngc_job_calls.specs.Calls.{all_words, call_in}

@@ -1,4 +1,4 @@
-use Rattle.std.proofs.Common.{◌≡◌, ◌∙◌, sym}
+use Rattle.std.proofs.Common.{◌∙◌, sym}
 use Rattle.ngc_page.specs.JobCalls.{has_break}
 use Rattle.ngc_page.proofs.LinesRead.{any_of_map}
 use Rattle.ngc_page.proofs.job.have_break.Goals as goal
