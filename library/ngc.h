@@ -32,6 +32,12 @@ typedef struct {
    four files are named program, machine, tools and certificate, as in "--machine=machine"; a file that no word names may be empty.
    The other calls are single commands with few options. */
 uint32_t ngc_command(NGC_TEXT(words), NGC_TEXT(program), NGC_TEXT(machine), NGC_TEXT(tools), NGC_TEXT(certificate), NGC_WRITTEN);
+/* The words of a call, which are the lines of `words`, with those that the job file `job` of this name adds, for ngc_command: a word on
+   each line. The words name it, as "--job=plate/ngc.toml", or their program is in its folder. The errors are the line that says what was
+   added. The words name the machine file and the tool table by their paths: read these files, and change each word to the name of the
+   call, as "--machine=machine". Any other job file is empty. Refused words and a refused job file have the program's text and its status;
+   a word with a line feed or a carriage return has 2. */
+uint32_t ngc_job(NGC_TEXT(words), NGC_TEXT(name), NGC_TEXT(job), NGC_WRITTEN);
 /* The report of a part program; with `all` every command that nothing clears, with `json` as a JSON document. */
 uint32_t ngc_report(NGC_TEXT(program), NGC_TEXT(machine), NGC_TEXT(tools), bool all, bool json, NGC_WRITTEN);
 /* A picture as SVG, at a setting of block delete: from the front where `view` is 1, from the side where it is 2, else from the top. */

@@ -133,9 +133,9 @@ def named_by_the_machine(checks, page):
     page.do("ngc.actions.removeFixture(1)")
     checks.equal("  and when the machine is changed here", page.value(CONTROL), "own")
     page.give({"other.toml": named.replace("linuxcnc", "grbl")})
-    checks.equal("the next machine file answers again", page.value(CONTROL), "grbl")
+    checks.equal("the next machine file answers again", page.value(f"{CHOICE}.value"), "grbl")
     page.give({"none.toml": page.read(MACHINE)})
-    checks.equal("one that names none leaves it open", page.value(CONTROL), None)
+    checks.equal("one that names none leaves it open", [page.value(f"{CHOICE}.value"), page.value(CONTROL)], ["own", None])
 
 
 def keeping_control(checks, page):

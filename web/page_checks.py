@@ -15,6 +15,7 @@ from pathlib import Path
 from access_checks import access, contrast, keyboard, phone
 from browsers import Chromium, Fault
 from dialect_checks import DIALECT_GROUPS
+from job_checks import JOB_GROUPS
 from wasm_changes import memory_of, with_little_stack, with_most_memory
 
 # Nothing runs, and each result belongs to the files in use.
@@ -1334,7 +1335,7 @@ def quiet(checks, page):
 
 
 PICTURED = ("picture_and_player", "paper", "access", "keyboard", "phone", "quiet")
-GROUPS = {it.__name__: it for it in (verdicts, block_delete, editing, races, file_kinds, machine_and_zero, cuts, margins, material, *DIALECT_GROUPS, save, picture_and_player, search, paper, keeping, hostile, stopped_workers, ended_memory, traps, unable, access, keyboard, contrast, phone, quiet)}
+GROUPS = {it.__name__: it for it in (verdicts, block_delete, editing, races, file_kinds, machine_and_zero, cuts, margins, material, *DIALECT_GROUPS, *JOB_GROUPS, save, picture_and_player, search, paper, keeping, hostile, stopped_workers, ended_memory, traps, unable, access, keyboard, contrast, phone, quiet)}
 
 
 def take_pictures(page, folder):

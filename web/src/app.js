@@ -2,10 +2,11 @@
 
 import { current, firstState, inputsKey, keyOf, makeStore, reduce } from './core/store.js';
 import { makeJobs, notesOf, sentenceOfFailure } from './core/jobs.js';
-import { dialectNow, numberOf } from './core/controls.js';
+import { numberOf } from './core/controls.js';
+import { lackNow } from './core/job.js';
 import { keepTheme, keptTheme } from './core/storage.js';
 import { momentAt } from './core/motion.js';
-import { contactNow, pathNow, sceneNow, stockIn, timesNow } from './core/shown.js';
+import { contactNow, languageNow, pathNow, sceneNow, stockIn, timesNow } from './core/shown.js';
 import { fill, h, id } from './view/dom.js';
 import { makeDrawing, makePicture } from './view/picture.js';
 import { makeQuestion } from './view/control.js';
@@ -69,6 +70,7 @@ const actions = {
     try { out.textContent = (await jobs.run('side', 'explain', 'explain', { number: Math.min(65_535, Math.max(0, Math.trunc(number) || 0)) })).text; } catch (failure) { notice(sentenceOfFailure(failure), 'bad'); }
   },
   useProgram(program) { if (program) files.use('program', program.name, program.bytes, 'user'); },
+  forgetJob: files.forgetJob,
   forgetCertificate() { store.dispatch({ type: 'file', kind: 'certificate', file: null }); },
   addFixture(fixture) { files.changeMachine(text => withFixture(text, fixture), 'The fixture is in the machine file in use.'); },
   removeFixture(number) { files.changeMachine(text => withoutFixture(text, number), 'The fixture is no longer in the machine file in use.'); },
@@ -98,12 +100,13 @@ const actions = {
   removeStock() { files.changeMachine(withoutStock, 'The material is no longer in the machine file in use.'); },
   makeMachineOfFigures(figures) { files.makeMachineOfFigures(wordsOfFigures(figures), `${figures.travel.map(Math.round).join('x')}.toml`); },
   adapt() {
-    id('control').value = String(numberOf(dialectNow(store.state) ?? store.state.files.program.sign ?? 'linuxcnc'));
+    id('control').value = String(numberOf(languageNow(store.state) ?? store.state.files.program.sign ?? 'linuxcnc'));
     fill(id('adapt-notes'));
     id('adapt').showModal();
   },
   async rewrite() {
-    const { control } = id('adapt-form').elements, { files: { program }, blockDelete } = store.state, out = id('adapt-notes');
+    const { control } = id('adapt-form').elements, { files: { program }, blockDelete } = store.state, out = id('adapt-notes'), lack = lackNow(store.state);
+    if (lack) return notice(lack, 'bad');
     try {
       const got = await jobs.run('side', 'adapt', 'output', { name: 'ngc_adapt', options: [Number(control.value), Number(blockDelete)] });
       if (store.state.files.program !== program) return;

@@ -1,9 +1,10 @@
 // The files in use: from drops, choices, examples and edits.
 
 import { NO_DEMANDS, changesOf } from './core/changes.js';
-import { dialectOf, signOf } from './core/controls.js';
+import { optionFor, signOf } from './core/controls.js';
 import { ProgramText, startsOf } from './core/program_text.js';
 import { notesOf, sentenceOfFailure } from './core/jobs.js';
+import { isNamed, lackNow, namesIn } from './core/job.js';
 import { kindOf } from './core/sort_files.js';
 import { keepControl, keepDemands, keepFile, keptControl, keptDemands, keptFile } from './core/storage.js';
 import { current } from './core/store.js';
@@ -16,7 +17,7 @@ const SHORT = 200_000;         // bytes of a program whose lines are found at on
 const HEAD = 65_536;           // bytes of a program that are searched for signs of its control
 const MOST_CHECKED = 50;       // programs of one drop that get a verdict
 const OTHERWISE = 'The file is written in another form: change it in an editor.';
-const NAMES = { machine: 'machine files', tools: 'tool tables', certificate: 'certificates', grbl: 'lists of GRBL settings' };
+const NAMES = { job: 'job files', machine: 'machine files', tools: 'tool tables', certificate: 'certificates', grbl: 'lists of GRBL settings' };
 
 export function makeFiles(store, getJobs, notice) {
   let versions = 0, drops = 0, batches = 0;
@@ -32,9 +33,16 @@ export function makeFiles(store, getJobs, notice) {
     if (kind === 'program') Object.assign(file, { isOwn, sign: signOf(new TextDecoder('latin1').decode(bytes.subarray(0, HEAD))) });
     // Of a long program the worker finds where the lines start.
     const text = kind === 'program' && bytes.length < SHORT ? ProgramText.of(bytes, file.blob(), startsOf(bytes)) : null;
+    // A later drop of another file wins over the name in the job file.
+    const { job } = store.state.files, named = job?.names[kind];
+    if (named && !isNamed(job, kind, file)) {
+      forgetJob();
+      notice(`${job.name} is no longer in use: it names ${named}, and ${name} is in use now.`);
+    }
     store.dispatch({ type: 'file', kind, file, text });
     return file;
   }
+  const forgetJob = () => store.dispatch({ type: 'file', kind: 'job', file: null });
   // Puts a file back that was in use before.
   const putBack = (kind, file) => store.dispatch({ type: 'file', kind, file: { ...file, version: ++versions } });
 
@@ -47,7 +55,7 @@ export function makeFiles(store, getJobs, notice) {
   // ---- what is dropped or chosen
 
   async function read(files, isLatest) {
-    const found = { program: [], machine: [], tools: [], certificate: [], grbl: [], unknown: [] };
+    const found = { program: [], machine: [], tools: [], job: [], certificate: [], grbl: [], unknown: [] };
     for (const file of files) {
       if (file.size > LARGEST) { notice(`${file.name} has ${size(file.size)}; the largest file that is read has ${size(LARGEST)}.`, 'bad'); continue; }
       let bytes = null;
@@ -65,16 +73,42 @@ export function makeFiles(store, getJobs, notice) {
     if (isCut) notice(`Only the first ${files.length} files were read.`, 'bad');
     if (!files.length) { if (!unread.length) notice(folders ? 'There are no files in this folder.' : 'Nothing was dropped that can be read.', 'bad'); return; }
     const found = await read(files, isLatest);
-    if (!found) return;
+    if (!found || !await takeJob(found, isLatest)) return;
     for (const [kind, name] of Object.entries(NAMES)) {
       const [first, ...others] = found[kind];
       if (others.length) notice(`Of ${found[kind].length} ${name} ${first.name} is in use, not ${others.map(it => it.name).join(', ')}.`);
     }
     if (found.unknown.length) notice(`${found.unknown.map(it => it.name).join(', ')}: not a program, a machine file, a tool table or a certificate.`, 'bad');
     for (const kind of ['machine', 'tools']) if (found[kind].length) use(kind, found[kind][0].name, found[kind][0].bytes, 'user');
+    const lack = found.job.length ? lackNow(store.state) : null;
+    if (lack) notice(lack, 'bad');
     if (found.program.length) takePrograms(found.program);
     if (found.certificate.length) useCertificate(found.certificate[0]);
     if (found.grbl.length) makeMachine([found.grbl[0].bytes], found.grbl[0].name, isLatest);
+  }
+  // Takes a job file, and puts the files that it names first in their lists, whatever else they look like. Returns whether the drop is still the
+  // latest.
+  async function takeJob(found, isLatest) {
+    const [first] = found.job;
+    if (!first) return true;
+    const name = /[\r\n]/.test(first.name) ? 'ngc.toml' : first.name;
+    let said = null;
+    try { said = await getJobs().run('side', 'job', 'job', { name, bytes: first.bytes }); } catch (failure) { notice(`${name} isn't in use. ${sentenceOfFailure(failure)}`, 'bad'); return isLatest(); }
+    if (!isLatest()) return false;
+    const names = namesIn(said.added);
+    for (const [kind, wanted] of Object.entries(names)) {
+      const from = wanted && Object.values(found).find(list => list.some(it => it.name === wanted));
+      if (wanted && !from) {
+        if (found[kind].length) notice(`${found[kind].map(it => it.name).join(', ')}: not in use, since ${name} names ${wanted}.`, 'bad');
+        found[kind] = [];
+      }
+      if (!from) continue;
+      const [file] = from.splice(from.findIndex(it => it.name === wanted), 1);
+      found[kind].unshift(file);
+    }
+    store.dispatch({ type: 'file', kind: 'job', file: { ...fileOf(name, first.bytes, 'user'), names } });
+    if (!said.status) notice(said.note || `${name} is in use, and adds nothing.`);
+    return true;
   }
   function takePrograms(programs) {
     store.dispatch({ type: 'set', values: { programs: programs.length > 1 ? programs.map(it => ({ ...it, blob: new Blob([it.bytes]) })) : [] } });
@@ -90,7 +124,7 @@ export function makeFiles(store, getJobs, notice) {
     // A verdict for another machine is older than the files in use.
     store.dispatch({ type: 'set', values: { programs: store.state.programs.map(it => ({ ...it, verdict: undefined })) } });
     // More cuts were asked for one program. The one in use may be rewritten; those that were dropped are for the control.
-    const changes = { ...changesOf({ ...store.state, cuts: null }), dialect: dialectOf(store.state.control) };
+    const changes = { ...changesOf({ ...store.state, cuts: null }), dialect: optionFor(store.state.control) };
     for (const { name, bytes, blob } of store.state.programs.slice(0, MOST_CHECKED)) {
       let verdict = 'failed';
       try { verdict = (await getJobs().run('batch', 'batch', 'fits', { program: blob, changes })).fits ? 'fits' : 'refused'; } catch { /* It has no verdict. */ }
@@ -139,6 +173,7 @@ export function makeFiles(store, getJobs, notice) {
 
   // An example is as its file says: without the zeros, the margins and the control that were chosen before.
   function useExampleMachine() {
+    forgetJob();
     store.dispatch({ type: 'set', values: { origins: {}, demands: NO_DEMANDS, cuts: null, control: null } });
     for (const [kind, name] of Object.entries(EXAMPLE_MACHINE)) {
       const file = store.state.files[kind];
@@ -166,14 +201,10 @@ export function makeFiles(store, getJobs, notice) {
       if (machine.source !== 'example') { keepDemands(demands); keepControl(control); }
       for (const [kind, file] of Object.entries({ machine, tools })) if (file.source !== 'example') keepFile(kind, file.name, file.bytes);
     });
-    // Without an answer, programs are for the control that the machine file names.
-    store.watch(state => [current(state, 'scene')?.scene?.dialect ?? null, state.control], (named, control) => {
-      if (named && control === null) store.dispatch({ type: 'control', control: named });
-    });
     // All dropped programs are checked again on another machine, for another control, and with other zeros and margins.
-    store.watch(state => [state.files.machine, state.files.tools, state.origins, state.demands, state.control], () => { if (store.state.programs.length) checkPrograms(); });
+    store.watch(state => [state.files.machine, state.files.tools, state.files.job, state.origins, state.demands, state.control], () => { if (store.state.programs.length) checkPrograms(); });
   }
-  return { use, putBack, edited, take, makeMachine, makeMachineOfFigures, changeMachine, changeTools, useExample, useExampleMachine, start };
+  return { use, putBack, forgetJob, edited, take, makeMachine, makeMachineOfFigures, changeMachine, changeTools, useExample, useExampleMachine, start };
 }
 
 export function download(name, blob) {

@@ -19,7 +19,7 @@ never_rises old new is_none stays (inl h) = absurd (omega arith)
 never_rises old new is_none stays (inr h) = absurd (omega arith)
 
 module _ (fails : Option (List ℕ) → Type 0) (never : (known : Option (List ℕ)) → fails known → ⊥) where
-  unread : (known : Option (List ℕ)) → ReportsUnread fails known 0 0 inputs.Device → ⊥
+  pub unread : (known : Option (List ℕ)) → ReportsUnread fails known 0 0 inputs.Device → ⊥
   unread known (inl rises) = never_rises 0 0 refl refl rises
   unread known (inr h) = never known h.1
 
@@ -49,7 +49,7 @@ saved_never (sources.Whole text) = refl
 saved_never (sources.InLines text) = refl
 
 -- no source fails
-never_fails : {S : Type 0} (remaining : S → Option (List ℕ)) (failures : S → ℕ) (none : (s : S) → failures s ≡ 0) (known : Option (List ℕ)) →
+pub never_fails : {S : Type 0} (remaining : S → Option (List ℕ)) (failures : S → ℕ) (none : (s : S) → failures s ≡ 0) (known : Option (List ℕ)) →
     SourceFails remaining failures known → ⊥
 never_fails remaining failures none known h = never_rises (failures h.opened) (failures h.left) (none h.opened) (none h.left) h.fails
 
@@ -58,3 +58,11 @@ pub all_read : {S : Type 0} (remaining : SavedSource S → Option (List ℕ)) (b
 all_read remaining bytes files (Ok done) h = tt
 all_read remaining bytes files (Err fault) h =
     told (SourceFails remaining (source_failures (λ _. 0))) (never_fails remaining (source_failures (λ _. 0)) saved_never) bytes files (unread_by fault) h
+
+-- the report on a file that isn't read is one where no source fails
+pub stops_of : {S : Type 0} (remaining : SavedSource S → Option (List ℕ)) (known : Option (List ℕ)) (fault : InputFault)
+    → ReportsUnread (SourceFails remaining (source_failures (λ _. 0))) known 0 0 fault → ReportsUnread (λ _. ⊥) known 0 0 fault
+stops_of remaining known inputs.Memory h = h
+stops_of remaining known inputs.TooLong h = h
+stops_of remaining known inputs.Device h =
+    absurd (unread (SourceFails remaining (source_failures (λ _. 0))) (never_fails remaining (source_failures (λ _. 0)) saved_never) known h)

@@ -1,9 +1,10 @@
 -- The result of a call.
-use Rattle.std.specs.Prelude.{◌≡◌, ◌<◌, ℕ, List, [], ◌++◌, length, take, drop, min, Bool, Option, Some}
-use Rattle.std.specs.Prelude.{IfErr, Result}
+use Rattle.std.specs.Prelude.{◌≡◌, ◌<◌, ◌⊎◌, ℕ, List, [], ◌++◌, length, take, drop, min, Bool, Option, Some}
+use Rattle.std.specs.Prelude.{Err, IfErr, Result}
 use Rattle.ngc_text.specs.declared.input_fault.InputFault.{InputFault}
 use Rattle.ngc_text.specs.declared.input_fault.InputFault.TheVariants.{Device}
 use Rattle.ngc_command_line.specs.declared.options.Options.{Options}
+use Rattle.ngc_dialect_choice.specs.Choice.{IsChosen, StopsChoosing}
 use Rattle.ngc_saved_files.specs.Files.{saved_bytes}
 use Rattle.ngc_saved_files.specs.Lines.{lines_of}
 use Rattle.ngc_saved_files.specs.Notes.{IsNoted}
@@ -12,6 +13,7 @@ use Rattle.ngc_inputs.specs.Setups.{FileBytes}
 use Rattle.ngc_inputs.specs.Unread.{unread_by}
 use Rattle.ngc_simulator.specs.declared.done.Done.{Done}
 use Rattle.ngc_inputs.specs.declared.fault.AnswerFault.{AnswerFault}
+use Rattle.ngc_inputs.specs.declared.fault.AnswerFault.TheVariants.{Input as Unread}
 
 -- a file couldn't be opened, or reading it failed
 abbrev pub ReportsUnreadable : Option InputFault → Type 0
@@ -33,12 +35,32 @@ pub record TellsOf (outcome : Result Done AnswerFault) (status : ℕ) (errors : 
   pub noted : IsNoted is_wide status told (Some errors) missed failed
   pub keeps : 0 < failed → length errors ≡ LINES_KEPT
 
+-- The command was done on a program in the language that the options or the machine file name.
+pub record IsDoneIn (files : FileBytes) (options : Options) (output : List ℕ) (outcome : Result Done AnswerFault) :
+    Type 0 where
+  pub chosen : Options
+  pub choice : IsChosen files options chosen
+  pub comes : ResultsBy files chosen (Some []) (Some output) outcome
+
+-- Nothing was done, since the machine file that decides on the language wasn't read. Each file can be opened, and
+-- no source fails: memory ran out, or the file is too long.
+pub record IsHeld (files : FileBytes) (options : Options) (output : List ℕ) (outcome : Result Done AnswerFault) :
+    Type 0 where
+  pub fault : InputFault
+  pub stops : StopsChoosing (λ _. ⊥) files options 0 0 fault
+  pub nothing : output ≡ []
+  pub reports : outcome ≡ Err (Unread fault)
+
+abbrev pub ComesIn : FileBytes → Options → List ℕ → Result Done AnswerFault → Type 0
+ComesIn files options output outcome =
+    IsDoneIn files options output outcome ⊎ IsHeld files options output outcome
+
 -- The result of `ngc` with these options on these files as an editor saves them: its output, the lines of its
 -- standard error, and its status. No file is unreadable.
 pub record IsResult (files : FileBytes) (options : Options) (output errors : List ℕ) (status : ℕ) :
     Type 0 where
   pub outcome : Result Done AnswerFault
-  pub comes : ResultsBy (saved_bytes (lines_of options) files) options (Some []) (Some output) outcome
+  pub comes : ComesIn (saved_bytes (lines_of options) files) options output outcome
   pub says : status ≡ status_of outcome
   pub read : IfErr outcome (λ fault. ¬ ReportsUnreadable (unread_by fault))
   pub lines : TellsOf outcome status errors

@@ -3,3 +3,4 @@ pub mod Files
 pub mod Asked
 pub mod Answered
 pub mod Commanded
+pub mod JobCalls

@@ -11,3 +11,8 @@ passed program machine tools certificate (Some name) =
     else if bytes_eq name (codes "machine") then Some machine
     else if bytes_eq name (codes "tools") then Some tools
     else if bytes_eq name (codes "certificate") then Some certificate else Some []
+
+-- The job file has its name, and any other file and standard input are empty.
+abbrev pub job_passed : List ℕ → List ℕ → FileBytes
+job_passed name job None = Some []
+job_passed name job (Some other) = if bytes_eq other name then Some job else Some []

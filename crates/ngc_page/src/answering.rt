@@ -6,8 +6,8 @@ ghost use Rattle.ngc_page.specs.Files.{bytes_of};
 use crate::files::PassedFiles;
 use crate::lines::Lines;
 use ngc_command_line::Options;
+use ngc_dialect_choice::answer_by_machine;
 use ngc_saved_files::{SavedFiles, note_wide};
-use ngc_simulator::answer;
 use ngc_text::Device;
 use std::alloc::Global;
 use std::cell::Cell;
@@ -36,7 +36,7 @@ fn answer_in_memory(alloc: Global, options: &Options<'_>, files: PassedFiles<'_>
     let mut saved = SavedFiles::new(files, options, &is_wide);
     let mut output = Device::new(Vec::new(alloc));
     let mut errors = Lines::new();
-    let status = answer(alloc, options, &mut saved, &mut output, &mut errors);
+    let status = answer_by_machine(alloc, options, &mut saved, &mut output, &mut errors);
     note_wide(is_wide.get(), status, &mut errors);
     Answer {
         output: output.into_inner(),

@@ -11,21 +11,23 @@ use crate::files::PassedFiles;
 use ngc_command_line::{UsageFault, read_options};
 use std::alloc::{AllocError, Global};
 
-fn words_in(alloc: Global, text: &str) -> Result<Vec<&str>, AllocError>
+/// Returns the lines of a text.
+pub fn words_in(alloc: Global, text: &str) -> Result<Vec<&str>, AllocError>
     ensures { IfOk result (λ words. map (λ word. word.now) words.items ≡ lines text.now) }
 {
     text.lines().collect(alloc)
 }
 
-// Hands over lines of standard error, and no output.
-fn tell_only(text: &[u8], output: &mut [u8], errors: &mut [u8], lengths: &mut Lengths)
+/// Hands over lines of standard error, and no output.
+pub fn tell_only(text: &[u8], output: &mut [u8], errors: &mut [u8], lengths: &mut Lengths)
     ensures { TellsOnly text.now (space output.old output.new lengths.new.output)
         (space errors.old errors.new lengths.new.errors) }
 {
     hand_over(b"", text, output, errors, lengths);
 }
 
-fn tell_unread(output: &mut [u8], errors: &mut [u8], lengths: &mut Lengths) -> u32
+/// Hands over that memory ran out.
+pub fn tell_unread(output: &mut [u8], errors: &mut [u8], lengths: &mut Lengths) -> u32
     ensures { IsUnread (space output.old output.new lengths.new.output)
         (space errors.old errors.new lengths.new.errors) result }
 {

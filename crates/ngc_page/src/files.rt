@@ -1,5 +1,5 @@
 ghost use Rattle.std.specs.Prelude.{◌≡◌, []};
-ghost use Rattle.ngc_page.specs.Files.{bytes_of};
+ghost use Rattle.ngc_page.specs.Files.{bytes_of, job_bytes_of};
 
 use ngc_line_reader::ReadFault;
 use ngc_simulator::Files;
@@ -70,5 +70,27 @@ impl<'a> Files for PassedFiles<'a> {
             _ => b"",
         };
         Ok(PassedSource { rest })
+    }
+}
+
+/// A job file in memory. Any other file and standard input are empty, so each file can be opened.
+#[derive(Drop)]
+pub struct PassedJob<'a> {
+    pub name: &'a str,
+    pub job: &'a [u8],
+}
+
+impl<'a> Files for PassedJob<'a> {
+    type R = PassedSource<'a>;
+
+    ghost failures = { λ _. 0 };
+
+    ghost bytes = { job_bytes_of };
+
+    fn source(&mut self, name: Option<&str>) -> Result<PassedSource<'a>, ReadFault> {
+        match name {
+            Some(name) if name == self.name => Ok(PassedSource { rest: self.job }),
+            _ => Ok(PassedSource { rest: b"" }),
+        }
     }
 }

@@ -15,12 +15,14 @@ ghost use Rattle.ngc_page.specs.Answered.{Answered, space};
 ghost use Rattle.ngc_page.specs.Asked.{RequestsAdapt, RequestsCertify, RequestsCheck, RequestsDraw, RequestsExplain};
 ghost use Rattle.ngc_page.specs.Asked.{RequestsList, RequestsMachine, RequestsPulses, RequestsReport, RequestsShow};
 ghost use Rattle.ngc_page.specs.Commanded.{Commanded};
+ghost use Rattle.ngc_page.specs.JobCalls.{CalledWith};
 ghost use Rattle.ngc_page.specs.Passed.{passed};
 
 mod answering;
 mod asking;
 mod commanding;
 mod files;
+mod job;
 mod lines;
 #[cfg(test)]
 mod tests;
@@ -33,6 +35,7 @@ use crate::asking::{
 };
 use crate::commanding::command_into;
 use crate::files::PassedFiles;
+use crate::job::job_into;
 use ngc_command_line::Options;
 use std::alloc::Global;
 
@@ -65,6 +68,29 @@ pub extern "C" fn ngc_command(
         certificate,
     };
     command_into(alloc, words, files, output, errors, lengths)
+}
+
+/// Reads the words of a call, which are the lines of `words`, with those that a job file of this name
+/// adds, and writes them for `ngc_command`: a line each. The errors are the line that says what was
+/// added. Any file but the job file is empty, so a call whose job file has another name has none.
+///
+/// Returns what `ngc` returns if it refuses the words or the job file; the errors are then its text,
+/// and the output is empty. A word with a line break is refused too, with 2.
+#[unsafe(no_mangle)]
+pub extern "C" fn ngc_job(
+    alloc: Global,
+    words: &[u8],
+    name: &[u8],
+    job: &[u8],
+    output: &mut [u8],
+    errors: &mut [u8],
+    lengths: &mut Lengths,
+) -> u32
+    ensures { CalledWith name.now job.now words.now
+        (space output.old output.new lengths.new.output)
+        (space errors.old errors.new lengths.new.errors) result }
+{
+    job_into(alloc, words, name, job, output, errors, lengths)
 }
 
 /// Writes the report of a part program on a machine with its tools. With `all` it has every command

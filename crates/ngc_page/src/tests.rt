@@ -1,8 +1,8 @@
 //! Tests of the calls: each one once on files that it accepts, command lines, one call with little
-//! space for its output, and calls on a file and on words that are refused.
+//! space for its output, calls on a file and on words that are refused, and calls with job files.
 use crate::{
-    Lengths, ngc_adapt, ngc_certify, ngc_check, ngc_command, ngc_draw, ngc_explain, ngc_list,
-    ngc_machine, ngc_pulses, ngc_report, ngc_show,
+    Lengths, ngc_adapt, ngc_certify, ngc_check, ngc_command, ngc_draw, ngc_explain, ngc_job,
+    ngc_list, ngc_machine, ngc_pulses, ngc_report, ngc_show,
 };
 use std::alloc::{AllocError, Global};
 use std::process::Abort;
@@ -20,6 +20,25 @@ high = [300000000, 300000000, 0]
 start = [0, 0, 0]
 home28 = [0, 0, 0]
 home30 = [0, 0, 0]
+";
+
+const NAMING: &[u8] = b"version = 3
+dialect = \"linuxcnc\"
+[axis.x]
+motor = \"100 steps/mm\"
+travel = \"0 mm to 300 mm\"
+speed = \"2400 mm/min\"
+acceleration = \"500 mm/s2\"
+[axis.y]
+motor = \"100 steps/mm\"
+travel = \"0 mm to 300 mm\"
+speed = \"2400 mm/min\"
+acceleration = \"500 mm/s2\"
+[axis.z]
+motor = \"100 steps/mm\"
+travel = \"-100 mm to 0 mm\"
+speed = \"2400 mm/min\"
+acceleration = \"500 mm/s2\"
 ";
 
 const TOOLS: &[u8] = b"version = 1
@@ -205,6 +224,39 @@ impl Space {
             errors,
             lengths,
         ))
+    }
+
+    fn job(&mut self, alloc: Global, words: &[u8], job: &[u8]) -> u32 {
+        let output = self.output.as_mut_slice();
+        let errors = self.errors.as_mut_slice();
+        let lengths = &mut self.lengths;
+        ngc_job(
+            alloc,
+            words,
+            b"plate/ngc.toml",
+            job,
+            output,
+            errors,
+            lengths,
+        )
+    }
+
+    // Lists a program of LinuxCNC, on a machine file that names this control.
+    fn list_by_key(&mut self, alloc: Global, words: &[u8]) -> u32 {
+        let output = self.output.as_mut_slice();
+        let errors = self.errors.as_mut_slice();
+        let lengths = &mut self.lengths;
+        ngc_command(
+            alloc,
+            words,
+            b"#<x> = 1\nG21 G0 X#<x>\nM2\n",
+            NAMING,
+            TOOLS,
+            b"",
+            output,
+            errors,
+            lengths,
+        )
     }
 
     fn explain(&mut self, alloc: Global) -> u32 {
@@ -451,5 +503,99 @@ fn each_file_in_utf_16_is_refused_with_a_line_about_it(rt: HostRuntime) -> Resul
             && has(space.errors.as_slice(), b"UTF-16: save it as UTF-8\n");
         assert!(&rt; refused, "at {number}");
     }
+    Ok(())
+}
+
+/// The words of a call and a job file with the name plate/ngc.toml; the status, the output and a part of the errors.
+type JobRow = (
+    &'static [u8],
+    &'static [u8],
+    u32,
+    &'static [u8],
+    &'static [u8],
+);
+
+const JOBS: &[JobRow] = &[
+    // The file lies beside the program. The margin of the words wins.
+    (
+        b"report\n--program=plate/part.nc\n--margin=2",
+        b"machine = \"../mill.toml\"\nmargin = \"1 mm\"\n",
+        0,
+        b"report\n--program=plate/part.nc\n--margin=2\n--machine=plate/../mill.toml\n",
+        b"ngc: plate/ngc.toml adds --machine=plate/../mill.toml\n",
+    ),
+    (
+        b"list\n--job=plate/ngc.toml",
+        b"dialect = \"mach3\"\nmargin = \"1 mm\"\n",
+        0,
+        b"list\n--dialect=mach3\n",
+        b"ngc: plate/ngc.toml adds --dialect=mach3\n",
+    ),
+    // Another file is named, or none.
+    (
+        b"report\n--job=other.toml",
+        b"margin = \"1 mm\"\n",
+        0,
+        b"report\n",
+        b"",
+    ),
+    (
+        b"report\n--program=part.nc",
+        b"margin = \"1 mm\"\n",
+        0,
+        b"report\n--program=part.nc\n",
+        b"",
+    ),
+    (
+        b"report\n--job=plate/ngc.toml",
+        b"x = [",
+        3,
+        b"",
+        b"ngc: fault 269 job\n",
+    ),
+    (b"report\n--job", b"", 2, b"", b"--job <FILE>"),
+    (
+        b"report\n--job=plate/ngc.toml",
+        b"machine = \"a\\nb.toml\"\n",
+        2,
+        b"",
+        b"error: a word of the call has a line break\n",
+    ),
+    // A carriage return before a line feed ends the line, and one within a word breaks it.
+    (b"report\r\n--all", b"", 0, b"report\n--all\n", b""),
+    (
+        b"report\n--program=a\rb",
+        b"",
+        2,
+        b"",
+        b"error: a word of the call has a line break\n",
+    ),
+    (b"report\n\xff", b"", 2, b"", b"UTF-8"),
+];
+
+#[test]
+fn a_job_file_adds_words(rt: HostRuntime) -> Result<(), Fail> {
+    for row in JOBS {
+        let (words, job, wanted, text, errors) = *row;
+        let mut space = Space::new(rt.alloc(), 1000)?;
+        let status = space.job(rt.alloc(), words, job);
+        let same = status == wanted
+            && space.lengths.output == text.len()
+            && space.output.as_slice().starts_with(text)
+            && has(space.errors.as_slice(), errors);
+        assert!(&rt; same, "at {words:?}");
+    }
+    Ok(())
+}
+
+// In our own language a name in angle brackets is refused.
+#[test]
+fn the_key_of_the_machine_file_is_followed(rt: HostRuntime) -> Result<(), Fail> {
+    let words = b"list\n--program=program\n--machine=machine\n--tools=tools";
+    let own = b"list\n--program=program\n--machine=machine\n--tools=tools\n--dialect=ngc";
+    let mut space = Space::new(rt.alloc(), 1000)?;
+    let followed = space.list_by_key(rt.alloc(), words) == 0;
+    let replaced = space.list_by_key(rt.alloc(), own) == 3;
+    assert!(&rt; followed && replaced);
     Ok(())
 }

@@ -1,11 +1,12 @@
-// What a check replaces in the machine file: zeros, margins and the way of rapids; its cuts; and the program's dialect. Lengths are
-// nanometres.
+// What a check replaces in the machine file and the job file: zeros, margins and the way of rapids; its cuts; and the program's dialect.
+// Lengths are nanometres.
 
 import { dialectNow } from './controls.js';
+import { lackNow } from './job.js';
 import { AXES } from './systems.js';
 import { inUnit } from './units.js';
 
-// A margin or a way that is null is as the machine file says.
+// A margin or a way that is null is as these files say.
 export const NO_DEMANDS = { margin: null, travelMargin: null, rapids: null };
 export const MOST_MARGIN = 100e6;
 // How many pieces a motion is cut into at most: without another number, and where the page stops asking for more.
@@ -14,7 +15,8 @@ export const MOST_CUTS = 4096;
 const WAYS = ['straight', 'free'];
 
 export const hasDemands = demands => Object.values(demands).some(it => it !== null);
-export const changesOf = state => ({ origins: state.origins, ...state.demands, cuts: state.cuts, dialect: dialectNow(state) });
+// `lack` says which file the job file names that isn't here: then nothing is checked.
+export const changesOf = state => ({ origins: state.origins, ...state.demands, cuts: state.cuts, dialect: dialectNow(state), job: state.files.job?.name ?? null, lack: lackNow(state) });
 
 const millimetres = nm => inUnit(nm / 1e6, 'mm');
 const option = (name, value) => (value === null ? [] : [`--${name}=${value}`]);

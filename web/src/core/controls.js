@@ -8,10 +8,12 @@ const OPTIONS = Object.keys(CONTROLS);
 export const numberOf = control => OPTIONS.indexOf(control);
 // The same value if it is an answer, or null.
 export const controlIn = value => (value === OWN || OPTIONS.includes(value) ? value : null);
-// The dialect that an answer leads to, or null for our own language.
+// The dialect of that name, or null for our own language.
 export const dialectOf = control => (OPTIONS.includes(control) ? control : null);
-// The dialect of the program in use. An example is in our own language, and so is what `ngc adapt` printed.
-export const dialectNow = ({ files, control }) => (files.program?.isOwn ? null : dialectOf(control));
+// The option `--dialect` for an answer, where `ngc` is our own language. Without an answer the job file or the machine file decides.
+export const optionFor = control => (control === OWN ? 'ngc' : dialectOf(control));
+// The same for the program in use. An example is in our own language, and so is what `ngc adapt` printed.
+export const dialectNow = ({ files, control }) => optionFor(files.program?.isOwn ? OWN : control);
 
 // What only one control's programs have. The first one that a program has counts. Each looks within a line, so that a long text takes no
 // time.

@@ -3,7 +3,7 @@
 // the worker, since a call of the module can't be interrupted.
 
 const PATIENCE = 60;  // ms that an outdated job may still take before its worker is ended
-const KINDS = ['program', 'machine', 'tools'];
+const KINDS = ['program', 'machine', 'tools', 'job'];
 
 export function makeJobs(source, firstModule, filesNow) {
   const lanes = new Map();
@@ -37,10 +37,11 @@ export function makeJobs(source, firstModule, filesNow) {
     if (!lane.worker) start(lane);
     const job = lane.running = lane.waiting.shift(), files = filesNow();
     for (const kind of KINDS) {
-      if (!files[kind] || lane.sent[kind] === files[kind].version) continue;
-      lane.sent[kind] = files[kind].version;
+      const version = files[kind]?.version;
+      if (lane.sent[kind] === version) continue;
+      lane.sent[kind] = version;
       // A blob goes as a reference, so nothing is copied here.
-      lane.worker.postMessage({ file: kind, blob: files[kind].blob() });
+      lane.worker.postMessage({ file: kind, blob: files[kind]?.blob() ?? null });
     }
     lane.worker.postMessage({ id: job.id, name: job.name, options: job.options });
   }

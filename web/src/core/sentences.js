@@ -84,8 +84,11 @@ export function obstacleSentence(entry, unit, kept) {
     detail: 'Nothing is in the way of the whole motion, but a box of the certificate is too large. More cuts for each motion may clear it.' };
 }
 
+const REFUSED_FILES = { machine: 'machine file', tools: 'tool table', job: 'job file' };
 function refusedFileSentence(report) {
-  const name = report.refusedFile === 'machine' ? 'machine file' : 'tool table';
+  const name = REFUSED_FILES[report.refusedFile];
+  // What is wrong with a job file is said in lines of standard error.
+  if (report.refusedFile === 'job') return { kind: 'bad', title: `The ${name} can't be used. ${report.sentence.split('\n')[0].replace(/^error: /, '').replace(/[^.?!]$/, '$&.')}`, detail: report.sentence.split('\n').slice(1).filter(it => !/^ngc: fault |--help/.test(it)).join(' ').trim() };
   const [sentence = '', ...rest] = report.sentence.trim().split('\n').filter(it => !it.startsWith('`ngc explain'));
   return { kind: 'bad', title: `The ${name} can't be used. ${plain(sentence) || `${meaningOf(report.explanation).cause}.`}`, detail: rest.join(' ').trim() };
 }
@@ -191,6 +194,7 @@ export function certificateSentence({ name }, { fault, explanation }) {
 
 // Returns { kind, title, detail, line, column, note, isCareful }. `kind` is 'good' or 'bad'. The title says whose language was read.
 export function verdictOf(report, group, scene, unit) {
+  if (report.lack) return { kind: 'bad', title: report.lack, detail: 'Until then nothing is checked.' };
   if (report.refusedFile) return refusedFileSentence(report);
   const verdict = verdictOfProgram(report, group, scene, unit);
   return report.dialect ? { ...verdict, title: `${verdict.title} Read as ${CONTROLS[report.dialect]}.` } : verdict;

@@ -1,7 +1,7 @@
 // What the views show of the results that belong to the files in use. Each is computed once for the same results.
 
 import { contactOf } from './contact.js';
-import { looksForeign } from './controls.js';
+import { OWN, dialectOf, looksForeign } from './controls.js';
 import { groupAt, groupsOf, keptOf } from './facts.js';
 import { scaledTimes } from './motion.js';
 import { current } from './store.js';
@@ -17,6 +17,8 @@ const groupsOfReport = remembered(report => (report ? groupsOf(report.facts) : [
 const contact = remembered(contactOf), keptOfReport = remembered(report => keptOf(report?.facts ?? []));
 
 export const sceneNow = state => current(state, 'scene')?.scene ?? null;
+// The language of the program in use, or null for our own: the user's answer, or what the job file or the machine file says.
+export const languageNow = state => (state.files.program?.isOwn || state.control === OWN ? null : dialectOf(state.control) ?? sceneNow(state)?.dialect ?? null);
 // The corners of the block of material in the machine, or null.
 export const stockIn = scene => {
   if (!scene?.stock) return null;

@@ -35,13 +35,13 @@ const SLOTS = ['report', 'every', 'remarks', 'scene', 'path', 'index', 'place', 
 const EMPTY = { key: '', status: 'none', value: null, failure: null, begun: 0, took: 0 };
 
 export const firstState = {
-  files: { program: null, machine: null, tools: null, certificate: null },
+  files: { program: null, machine: null, tools: null, job: null, certificate: null },
   programs: [],                 // the programs that were dropped together
   text: null,                   // the program in use as a ProgramText
   origins: {},                  // origins for this check: system -> X, Y and Z in nanometres
   demands: NO_DEMANDS,          // margins and the way of rapids for this check
   cuts: null,                   // cuts of each motion for this check, or null for the program's own number
-  control: null,                // the control that programs are for, 'own' for our own language, or null before the first answer
+  control: null,                // the control that programs are for, 'own' for our own language, or null without an answer
   isAsking: false,              // whether the question for the control was opened
   blockDelete: false,
   slots: Object.fromEntries(SLOTS.map(slot => [slot, EMPTY])),
@@ -59,12 +59,13 @@ export const firstState = {
 
 // What a result depends on. A result with another key is older than the files in use, and is never shown.
 export const inputsKey = state =>
-  `${[state.files.program, state.files.machine, state.files.tools].map(it => it?.version ?? 0).join('.')} ${JSON.stringify(changesOf(state))}`;
+  `${[state.files.program, state.files.machine, state.files.tools, state.files.job].map(it => it?.version ?? 0).join('.')} ${JSON.stringify(changesOf(state))}`;
 export const shownKey = state => `${inputsKey(state)} ${state.blockDelete}`;
 export const keyOf = {
   report: inputsKey, every: inputsKey, remarks: inputsKey, place: inputsKey, path: shownKey,
   drawing: state => `${shownKey(state)} ${state.drawing}`,
-  scene: state => `${state.files.machine?.version}.${state.files.tools?.version} ${JSON.stringify(state.origins)}`,
+  // What a job file adds depends on all that replaces it.
+  scene: state => `${state.files.machine?.version}.${state.files.tools?.version}.${state.files.job?.version} ${JSON.stringify(state.files.job ? changesOf(state) : state.origins)}`,
   index: state => String(state.files.program?.base),
   search: state => `${state.files.program?.version} ${state.query}`,
   certificate: state => `${inputsKey(state)} ${state.files.certificate?.version}`,
@@ -86,7 +87,7 @@ export function reduce(state, action) {
     case 'file': {
       const next = { ...state, files: { ...state.files, [action.kind]: action.file } };
       if (action.kind === 'program') Object.assign(next, FRESH, { text: action.text });
-      if (action.kind === 'machine') Object.assign(next, { origins: {}, demands: NO_DEMANDS, cuts: null, control: null });
+      if (['machine', 'job'].includes(action.kind)) Object.assign(next, { origins: {}, demands: NO_DEMANDS, cuts: null, control: null });
       return next;
     }
     case 'control': {

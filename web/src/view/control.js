@@ -1,7 +1,7 @@
 // The control that a program is for: the choice beside the program's name, and the question that is asked once.
 
 import { CONTROLS, OWN } from '../core/controls.js';
-import { asksNow } from '../core/shown.js';
+import { asksNow, languageNow } from '../core/shown.js';
 import { fill, h, id } from './dom.js';
 
 const LANGUAGES = { [OWN]: 'no control', ...CONTROLS };
@@ -10,8 +10,8 @@ const LANGUAGES = { [OWN]: 'no control', ...CONTROLS };
 export function makeChoice(store, actions) {
   const choice = h('select', { id: 'language', 'aria-label': 'Control that the program is for', title: 'Control whose language the program is read in', autocomplete: 'off', onchange: () => actions.setControl(choice.value) },
     Object.entries(LANGUAGES).map(([value, name]) => h('option', { value }, name)));
-  store.watch(state => [state.files.program?.isOwn, state.control], (isOwn, control) => {
-    choice.value = isOwn ? OWN : control ?? OWN;
+  store.watch(state => [state.files.program?.isOwn, languageNow(state)], (isOwn, language) => {
+    choice.value = language ?? OWN;
     choice.disabled = choice.hidden = Boolean(isOwn);
   });
   return choice;

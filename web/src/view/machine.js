@@ -40,9 +40,10 @@ export function makeMachine(store, actions) {
     const remove = it => h('button', { class: 'link', type: 'button', 'aria-label': `Remove ${it.name || `fixture ${it.number}`}`, onclick: () => actions.removeFixture(it.number) }, 'remove');
     const removeTool = it => h('button', { class: 'link', type: 'button', 'aria-label': `Remove tool ${it.number}`, onclick: () => actions.removeTool(it.number) }, 'remove');
     fill(out,
+      value.note ? h('p', { class: 'quiet', id: 'job-note' }, value.note) : null,
       table(`Travel and speed, ${unit}`, ['Axis', 'From', 'To', `Speed, ${unit}/min`], AXES.map((axis, it) => [axis, at(scene.low[it]), at(scene.high[it]), at(Math.round(scene.rates.speeds[it] * 60 * 1000) / 1000)])),
-      scene.fixtures.length ? table(`Fixtures, ${unit}`, ['Fixture', ...AXES, ''], scene.fixtures.map(it => [it.name || `fixture ${it.number}`, ...AXES.map((_, axis) => `${at(it.low[axis])} to ${at(it.high[axis])}`), remove(it)])) : h('p', {}, 'The machine file describes no fixtures.'),
-      scene.stock ? table(`Material, ${unit}, in ${scene.stock.system ?? 'machine coordinates'}`, [...AXES, ''], [[...AXES.map((_, axis) => `${at(scene.stock.low[axis])} to ${at(scene.stock.high[axis])}`), h('button', { class: 'link', type: 'button', 'aria-label': 'Remove the material', onclick: actions.removeStock }, 'remove')]]) : null,
+      scene.fixtures.length ? table(`Fixtures, ${unit}`, ['Fixture', ...AXES, ''], scene.fixtures.map(it => [it.name || `fixture ${it.number}`, ...AXES.map((_, axis) => `${at(it.low[axis])} to ${at(it.high[axis])}`), it.isAdded ? 'job file' : remove(it)])) : h('p', {}, 'The machine file describes no fixtures.'),
+      scene.stock ? table(`Material, ${unit}, in ${scene.stock.system ?? 'machine coordinates'}`, [...AXES, ''], [[...AXES.map((_, axis) => `${at(scene.stock.low[axis])} to ${at(scene.stock.high[axis])}`), scene.stock.isAdded ? 'job file' : h('button', { class: 'link', type: 'button', 'aria-label': 'Remove the material', onclick: actions.removeStock }, 'remove')]]) : null,
       h('div', { class: 'wide' }, table(`Tools, ${unit}`, ['Tool', 'Reach', 'Offset', 'Parts from the tip up', ''], scene.tools.map(it => [`T${it.number}${it.name ? ` ${it.name}` : ''}`, at(-it.bottom), at(it.offset), it.parts.map(part => `\u00d8 ${at(part.radius * 2)} \u00d7 ${at(part.high - part.low)}`).join(', '), store.state.files.tools.source === 'example' ? '' : removeTool(it)]))),
       scene.warnings.length ? h('ul', { class: 'warned' }, scene.warnings.map(it => h('li', {}, it))) : null);
   });

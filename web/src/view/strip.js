@@ -1,6 +1,7 @@
 // What is in use: the program, the machine, the tools, and a certificate if there is one. And the notices.
 
 import { current, failureOf } from '../core/store.js';
+import { lackNow } from '../core/job.js';
 import { sceneNow } from '../core/shown.js';
 import { sentenceOfFailure } from '../core/jobs.js';
 import { inUnit, length, plural, size } from '../core/units.js';
@@ -20,6 +21,12 @@ function certificateChip(certificate, verdict, failure, actions) {
     h('span', { class: 'about', title: verdict?.explanation ?? '' }, about), h('button', { class: 'close', type: 'button', 'aria-label': 'Forget the certificate', onclick: actions.forgetCertificate }, '\u00d7'));
 }
 
+function jobChip(job, lack, note, actions) {
+  const about = lack ? 'a file is missing' : /^ngc: .* adds /.test(note) ? 'adds to each call' : note ? 'refused' : 'adds nothing';
+  return h('div', { class: `chip job ${lack || about === 'refused' ? 'bad' : ''}` }, h('span', { class: 'label' }, 'Job'), h('span', { class: 'name', title: job.name }, job.name),
+    h('span', { class: 'about', title: lack ?? note }, about), h('button', { class: 'close', type: 'button', 'aria-label': 'Forget the job file', onclick: actions.forgetJob }, '\u00d7'));
+}
+
 // What this check replaces in the machine file.
 function changesIn(origins, demands, cuts, unit) {
   const moved = Object.keys(origins), { margin, travelMargin, rapids } = demands;
@@ -28,8 +35,8 @@ function changesIn(origins, demands, cuts, unit) {
 
 export function makeStrip(store, actions) {
   const choice = makeChoice(store, actions);
-  store.watch(state => [state.files.program, state.files.machine, state.files.tools, state.files.certificate, state.text?.count, sceneNow(state), current(state, 'certificate'), failureOf(state, 'certificate'), state.unit, state.programs, state.origins, state.demands, state.cuts],
-    (program, machine, tools, certificate, lines, scene, verdict, failure, unit, programs, origins, demands, cuts) => {
+  store.watch(state => [state.files.program, state.files.machine, state.files.tools, state.files.certificate, state.text?.count, sceneNow(state), current(state, 'certificate'), failureOf(state, 'certificate'), state.unit, state.programs, state.origins, state.demands, state.cuts, state.files.job, lackNow(state), current(state, 'scene')?.note],
+    (program, machine, tools, certificate, lines, scene, verdict, failure, unit, programs, origins, demands, cuts, job, lack, note) => {
       const others = programs.length < 2 ? null : h('select', { 'aria-label': `The ${programs.length} programs that were dropped`, onchange: event => actions.useProgram(programs[Number(event.target.value)]) },
         h('option', { value: '', selected: true }, `${programs.length}`), programs.map((it, at) => h('option', { value: String(at) }, `${SIGNS[it.verdict] ?? ''}${it.name}`)));
       const span = scene ? [0, 1, 2].map(axis => inUnit(Math.round((scene.high[axis] - scene.low[axis]) * 1000) / 1000, unit)).join('\u2009\u00d7\u2009') : '';
@@ -38,7 +45,7 @@ export function makeStrip(store, actions) {
       const hadFocus = document.activeElement === choice;
       fill(id('strip'), chip('program', 'Program', program, !program ? '' : lines ? plural(lines, 'line') : size(program.size), [others, choice]),
         chip('machine', 'Machine', machine, [travel, ...changesIn(origins, demands, cuts, unit)].filter(Boolean).join('; ')), chip('tools', 'Tools', tools, scene ? plural(scene.tools.length, 'tool') : ''),
-        certificate ? certificateChip(certificate, verdict, failure, actions) : null);
+        job ? jobChip(job, lack, note ?? '', actions) : null, certificate ? certificateChip(certificate, verdict, failure, actions) : null);
       if (hadFocus) choice.focus();
     });
   const dismiss = it => store.dispatch({ type: 'dismiss', id: it.id });

@@ -34,11 +34,17 @@ export function call(module, name, files, options = [], space = 1 << 20) {
 }
 
 const encoder = new TextEncoder(), decoder = new TextDecoder();
+const bytesOf = it => (typeof it === 'string' ? encoder.encode(it) : it);
 // Executes a command of `ngc` by the words of its command line. `files` maps the names of its files, as `machine`, to their bytes; the words
 // that name them are added here.
 export function execute(module, words, files, space) {
   const named = FILES.filter(it => files[it]), line = [...words, ...named.map(it => `--${it}=${it}`)].join('\n');
-  return call(module, 'ngc_command', [line, ...FILES.map(it => files[it] ?? '')].map(it => (typeof it === 'string' ? encoder.encode(it) : it)), [], space);
+  return call(module, 'ngc_command', [line, ...FILES.map(it => files[it] ?? '')].map(bytesOf), [], space);
+}
+// The words of a call and those that a job file adds to them, or its refusal. The notes have the line on what was added.
+export function withJob(module, words, { name, bytes }) {
+  const got = call(module, 'ngc_job', [[...words, `--job=${name}`].join('\n'), name, bytes].map(bytesOf));
+  return { ...got, added: got.status ? [] : textOf(got.output).split('\n').slice(words.length, -1) };
 }
 export const textOf = bytes => decoder.decode(bytes);
 

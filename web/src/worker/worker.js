@@ -1,14 +1,17 @@
 // The worker: each message is a job, and each job calls a function below. Its state is the module and the latest version of each file that
 // it was sent.
 
-import { call, execute, failureOf, faultNumber, refusalOf, textOf } from './module.js';
+import { call, execute, failureOf, faultNumber, refusalOf, textOf, withJob } from './module.js';
 import { buffersOf, readListing } from './listing.js';
 import { readSheet } from './sheet.js';
 import { lineStarts, search } from './lines.js';
 import { optionsOf } from '../core/changes.js';
+import { dialectOf } from '../core/controls.js';
+import { addJob, valuesOf } from '../core/job.js';
 import { AXES } from '../core/systems.js';
 
 const MOST_FACTS = 2000;       // facts of a report that the page shows at most
+const USAGE = 2;               // the status of words that are refused
 const files = {};
 let module = null;
 
@@ -16,12 +19,24 @@ const IN_USE = ['program', 'machine', 'tools'];
 // `ngc list` has no margins, since they change nothing that it prints, and only these commands have cuts.
 const CUTTING = ['report', 'certify', 'place'];
 const withOptions = (words, changes) => [...words, ...optionsOf(words[0] === 'list' ? { origins: changes.origins, dialect: changes.dialect } : CUTTING.includes(words[0]) ? changes : { ...changes, cuts: null })];
+// What a call comes to that isn't begun: lines of standard error alone.
+const unbegun = (status, notes) => ({ status, output: new Uint8Array(0), notes, isCut: false, added: [] });
+// What the job file in use adds to a command with its options: its words, or why nothing is executed. A file that it names is one of the page's.
+function addedTo(line, { job = null, lack = null }) {
+  if (lack) return unbegun(1, new TextEncoder().encode(lack));
+  return job ? withJob(module, line, { name: job, bytes: files.job }) : { status: 0, notes: new Uint8Array(0), added: [] };
+}
+const isOfFile = word => /^--(machine|tools)=/.test(word);
 // Executes a command on the files in use with what replaces keys of the machine file. `others` are files in their place, or more files.
-const command = (words, changes, { others = {}, factor = 1 } = {}) => execute(module, withOptions(words, changes), { ...files, ...others }, spaceFor(factor));
+function command(words, changes, { others = {}, factor = 1 } = {}) {
+  const line = withOptions(words, changes), call = addedTo(line, changes);
+  if (call.status) return unbegun(call.status, call.notes);
+  return { ...execute(module, [...line, ...call.added.filter(it => !isOfFile(it))], { ...files, ...others }, spaceFor(factor)), added: call.added };
+}
 const spaceFor = factor => (files.program?.length ?? 0) * factor + (1 << 20);
 const PART = /^(?=Fault \d+ \()/m, OF_OTHERS = /^Fault \d+ \(Programs for other controls\)/;
 // What `ngc explain` prints. For a program in a dialect the part about these programs comes first.
-function explanationOf(fault, { dialect = null }) {
+function explanationOf(fault, dialect) {
   const text = fault === null ? '' : textOf(call(module, 'ngc_explain', [], [fault]).output), parts = text.split(PART);
   return dialect ? [...parts.filter(it => OF_OTHERS.test(it)), ...parts.filter(it => !OF_OTHERS.test(it))].join('') : text;
 }
@@ -40,13 +55,17 @@ function factsOf(bytes) {
   return { facts, isCut: bytes.length - from > 3 };
 }
 
-// The machine and the tools as the files say, with the zeros of this check.
-function sceneOf(origins) {
-  const { machine, tools } = files, shown = execute(module, ['show'], { machine, tools }), sheet = textOf(shown.output);
-  if (shown.status) return { status: shown.status, sheet, scene: null };
-  const scene = readSheet(sheet);
-  for (const [system, at] of Object.entries(origins)) scene.origins[system] = at.map(it => it / 1e6);
-  return { status: 0, sheet, scene };
+// The machine and the tools as the files say, with what the job file adds and the zeros of this check. `note` is the line on the job file.
+function sceneOf(changes) {
+  const { lack = null, origins } = changes, { machine, tools } = files, shown = lack ? unbegun(1, null) : execute(module, ['show'], { machine, tools }), sheet = lack ?? textOf(shown.output);
+  const job = addedTo(withOptions(['report'], changes), changes), note = lack ? '' : textOf(job.notes).trim();
+  if (shown.status) return { status: shown.status, sheet, scene: null, note };
+  return { status: 0, sheet, scene: addJob(readSheet(sheet), job.added, origins), note };
+}
+// The language in which a command read its program, or null for our own: that of its option, that of the job file, or that of the machine file.
+function languageOf({ dialect = null }, added) {
+  const [name = null] = dialect ? [dialect] : valuesOf(added, 'dialect'), { machine, tools } = files;
+  return name ? dialectOf(name) : readSheet(textOf(execute(module, ['show'], { machine, tools }).output)).dialect;
 }
 // The facts of `ngc place` as the interval of each axis, or null where none was found.
 function placeOf(facts) {
@@ -81,12 +100,13 @@ const JOBS = {
   },
   report({ changes, all }) {
     const got = command(['report', '--json', ...(all ? ['--all'] : [])], changes), errors = textOf(got.notes), fault = faultNumber(errors);
-    const refusedFile = /fault \d+ (machine|tools)/.exec(errors)?.[1] ?? null;
-    const sentence = refusedFile ? textOf(command(['report'], changes).output) : '';
+    // Words that are refused are the job file's: the page writes none that are.
+    const isOfJob = changes.job && (got.status === USAGE || /fault \d+ job/.test(errors)), refusedFile = isOfJob ? 'job' : /fault \d+ (machine|tools)/.exec(errors)?.[1] ?? null;
+    const sentence = isOfJob ? errors : refusedFile ? textOf(command(['report'], changes).output) : '';
     const { facts, isCut } = factsOf(got.output);
-    const { dialect = null } = changes, numbers = all ? [...new Set(facts.filter(it => it.fact === 'fault_in').map(it => it.number))] : [];
-    const meanings = Object.fromEntries(numbers.map(it => [it, explanationOf(it, changes)]));
-    return [{ status: got.status, facts, isCut, errors, fault, explanation: explanationOf(fault, changes), meanings, refusedFile, sentence, dialect, refusal: dialect ? refusalOf(errors) : null }];
+    const dialect = languageOf(changes, got.added), { lack = null } = changes, numbers = all ? [...new Set(facts.filter(it => it.fact === 'fault_in').map(it => it.number))] : [];
+    const meanings = Object.fromEntries(numbers.map(it => [it, explanationOf(it, dialect)]));
+    return [{ status: got.status, facts, isCut, errors, fault, explanation: explanationOf(fault, dialect), meanings, refusedFile, sentence, lack, dialect, refusal: dialect ? refusalOf(errors) : null }];
   },
   // What the text of a report adds to the warnings and notes of its JSON, in their order, for each setting of block delete.
   remarks({ changes }) {
@@ -98,13 +118,18 @@ const JOBS = {
     }
     return [found];
   },
-  scene({ changes }) { return [sceneOf(changes.origins)]; },
-  sheet({ words }) {
-    const { machine, tools } = files;
-    return saved(execute(module, words, { machine, tools }));
+  scene({ changes }) { return [sceneOf(changes)]; },
+  sheet({ words, changes }) {
+    const { machine, tools } = files, call = addedTo(words, changes);
+    return saved(call.status ? unbegun(call.status, call.notes) : execute(module, words, { machine, tools }));
+  },
+  // The words that a job file adds to a report, and the line that says so, or why it is refused.
+  job({ name, bytes }) {
+    const { status, notes, added } = withJob(module, ['report'], { name, bytes });
+    return [{ status, note: textOf(notes).trim(), added }];
   },
   path({ changes, blockDelete }) {
-    const { status, scene } = sceneOf(changes.origins);
+    const { status, scene } = sceneOf(changes);
     if (status) return [{ status, path: null }];
     const got = command(['list', ...(blockDelete ? ['--delete'] : [])], changes, { factor: 5 });
     if (got.status) return [{ status: got.status, path: null }];
@@ -121,7 +146,7 @@ const JOBS = {
   },
   place({ changes, system }) {
     const got = command(['place', '--json', `--system=${system.slice(1)}`], changes), fault = faultNumber(textOf(got.notes));
-    return [{ ...placeOf(factsOf(got.output).facts), system, status: got.status, explanation: explanationOf(fault, changes) }];
+    return [{ ...placeOf(factsOf(got.output).facts), system, status: got.status, explanation: explanationOf(fault, languageOf(changes, got.added)) }];
   },
   // Whether a program that isn't in use fits the machine and the tools in use.
   async fits({ program, changes }) {
@@ -134,13 +159,13 @@ const JOBS = {
   },
   certificate({ changes, bytes }) {
     const got = command(['check'], changes, { others: { certificate: bytes } }), fault = faultNumber(textOf(got.notes));
-    return [{ isAccepted: got.status === 0, fault, explanation: explanationOf(fault, changes) }];
+    return [{ isAccepted: got.status === 0, fault, explanation: explanationOf(fault, languageOf(changes, got.added)) }];
   },
 };
 
 async function work({ module: given, file, blob, id, name, options }) {
   if (given) module = given;
-  else if (file) files[file] = new Uint8Array(await blob.arrayBuffer());
+  else if (file) files[file] = blob && new Uint8Array(await blob.arrayBuffer());
   else {
     try {
       const [value, buffers = []] = await JOBS[name](options);
