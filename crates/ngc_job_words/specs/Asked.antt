@@ -34,10 +34,14 @@ file_of [] = Ok None
 file_of (file ∷ []) = one_file file
 file_of _ = Err faults.Twice
 
+-- the same, if the last word may be a --job that lacks its file
+abbrev pub file_by : Bool → List Text → Result (Option Text) AskedFault
+file_by lacks files = if lacks then Err faults.NoFile else file_of files
+
 -- the file that --job names, if it is there. The words are refused if --job is there twice or without
 -- a file, or the file's name is empty
 abbrev pub file_asked : List Text → Result (Option Text) AskedFault
-file_asked rest = if lacks_file rest then Err faults.NoFile else file_of (job_files rest)
+file_asked rest = file_by (lacks_file rest) (job_files rest)
 
 abbrev pub first_of : List Text → Option Text
 first_of [] = None

@@ -1,13 +1,11 @@
 -- What was read of the words so far: parts of the code.
-use Rattle.std.specs.Prelude.{ℕ, List, [], ◌∷◌, ◌++◌, length, map, codes, Option, Some, None, Result, Err}
-use Rattle.std.specs.Prelude.{Bool, not, ◌&&◌, if◌then◌else◌}
+use Rattle.std.specs.Prelude.{ℕ, List, [], ◌∷◌, ◌++◌, length, map, codes, Option, Some, None}
+use Rattle.std.specs.Prelude.{Bool, true, false, not, ◌&&◌, if◌then◌else◌}
 use Rattle.std.specs.Str.{bytes_eq}
-use Rattle.ngc_job_words.specs.Asked.{is_one, file_of}
+use Rattle.ngc_job_words.specs.Asked.{is_one}
 use Rattle.ngc_job_words.specs.Commands.{Text, has_program}
 use Rattle.ngc_job_words.specs.Places.{before, is_file, is_value, file_at, kept_at, named_at, plain_at}
 use Rattle.ngc_job_words.specs.Words.{has, is_plain, takes_value, value_in}
-use Rattle.ngc_job_words.specs.declared.call.AskedFault.{AskedFault}
-use Rattle.ngc_job_words.specs.declared.call.AskedFault.TheVariants as faults
 use Rattle.ngc_job_words.specs.declared.call.Next.{Next}
 use Rattle.ngc_job_words.specs.declared.call.Next.TheVariants as nexts
 use Rattle.ngc_job_words.specs.declared.call.Seen.{Seen}
@@ -87,10 +85,10 @@ is_program family w = has_program family && is_one w.plain && not (has (codes "-
 abbrev pub words_asked : Family → Words → List Text
 words_asked family w = if is_program family w then w.named else w.words
 
--- the file that --job names, where it may lack one
-abbrev pub named_file : Next → List Text → Result (Option Text) AskedFault
-named_file nexts.File files = Err faults.NoFile
-named_file next files = file_of files
+-- the file of --job is still to come
+abbrev pub wants_file : Next → Bool
+wants_file nexts.File = true
+wants_file _ = false
 
 abbrev pub words_in : Seen → Words
 words_in s =

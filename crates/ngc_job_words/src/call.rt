@@ -185,12 +185,22 @@ fn words_asked<'a>(family: Family, seen: Seen<'a>) -> Vec<&'a str>
     }
 }
 
-// Returns the file that `--job` names.
-fn file_of<'a>(files: &[&'a str], next: Next) -> Result<Option<&'a str>, AskedFault>
-    ensures { ok_map (option_map (λ f. f.now)) result ≡ parts.named_file next (map (λ w. w.now) files.now) }
+// Returns whether the file of `--job` is still to come.
+fn wants_file(next: Next) -> bool
+    ensures { result ≡ parts.wants_file next }
 {
-    match (next, files) {
-        (Next::File, _) => Err(AskedFault::NoFile),
+    match next {
+        Next::File => true,
+        _ => false,
+    }
+}
+
+// Returns the file that `--job` names.
+fn file_of<'a>(files: &[&'a str], lacks_file: bool) -> Result<Option<&'a str>, AskedFault>
+    ensures { ok_map (option_map (λ f. f.now)) result ≡ spec.file_by lacks_file (map (λ w. w.now) files.now) }
+{
+    match (lacks_file, files) {
+        (true, _) => Err(AskedFault::NoFile),
         (_, []) => Ok(None),
         (_, [file]) => if file.is_empty() {
             Err(AskedFault::NoFile)
@@ -232,7 +242,7 @@ fn asked_by<'a>(
         Ok(seen) => seen,
         Err(_) => return Err(AskedFault::Memory),
     };
-    let job = file_of(seen.files.as_slice(), seen.next)?;
+    let job = file_of(seen.files.as_slice(), wants_file(seen.next))?;
     let words = words_asked(family, seen);
     match program_in(alloc, words.as_slice()) {
         Ok(program) => Ok(Asked {

@@ -1,6 +1,6 @@
 -- How traverses and feeds that may touch material, tool changes in it and feeds below its bottom are
 -- written, in words and as facts of a JSON document. Our own.
-use Rattle.std.specs.Prelude.{ℕ, ◌+◌, ◌-◌, ◌*◌, ◌/◌, ◌==◌, nat_lt, ◌-ℤ◌, unsigned_abs, List, [], ◌++◌, codes, decimal, length, take, slice_get, flat_map, Option, Some, None, if◌then◌else◌}
+use Rattle.std.specs.Prelude.{ℕ, ◌+◌, ◌-◌, ◌*◌, ◌/◌, ◌==◌, nat_lt, ◌-ℤ◌, unsigned_abs, List, [], ◌∷◌, ◌++◌, codes, decimal, length, take, slice_get, flat_map, Option, Some, None, if◌then◌else◌}
 use Rattle.ngc_text.specs.Millimetres.{sign_text, size_text}
 use Rattle.ngc_machine_files.specs.declared.tools.Tool.{Tool}
 use Rattle.ngc_commands.specs.declared.command.Command.{Command}
@@ -19,6 +19,14 @@ use Rattle.ngc_material_report.specs.declared.touches.Kind.{Kind}
 use Rattle.ngc_material_report.specs.declared.touches.Kind.TheVariants.{Traverse, Feed}
 use Rattle.ngc_report.specs.declared.form.Form.{Form}
 use Rattle.ngc_report.specs.declared.form.Form.TheVariants.{Words, Json}
+
+-- ---- what all facts have
+
+-- which command a fact is about, and its tool
+unfoldable pub command_fact : ℕ → ℕ → ℕ → List ℕ
+command_fact line command tool =
+    codes "\"line\":" ++ decimal line ++ codes ",\"command\":" ++ decimal command
+    ++ codes ",\"tool\":" ++ decimal tool
 
 -- ---- a motion
 
@@ -60,15 +68,12 @@ place_words origin p =
 unfoldable pub touch_words : Spot → Kind → Found → List ℕ
 touch_words origin kind f = deep_words kind f ++ place_words origin f.touch.place
 
-unfoldable pub kind_fact : Kind → Found → List ℕ
-kind_fact kind f =
-    codes ",\n{\"fact\":\"material\",\"kind\":\"" ++ kind_words kind ++ codes "\",\"certain\":false,\"line\":"
-    ++ decimal f.line ++ codes ",\"command\":" ++ decimal f.command
+unfoldable pub kind_fact : Kind → List ℕ
+kind_fact kind = codes ",\n{\"fact\":\"material\",\"kind\":\"" ++ kind_words kind ++ codes "\",\"certain\":false,"
 
 unfoldable pub depth_fact : Found → List ℕ
 depth_fact f =
-    codes ",\"tool\":" ++ decimal f.tool ++ codes ",\"part\":" ++ decimal f.part
-    ++ codes ",\"depth\":" ++ decimal f.touch.depth ++ codes ",\"at\":["
+    codes ",\"part\":" ++ decimal f.part ++ codes ",\"depth\":" ++ decimal f.touch.depth ++ codes ",\"at\":["
 
 -- the same in nanometres
 unfoldable pub place_fact : Spot → Spot → List ℕ
@@ -77,7 +82,8 @@ place_fact origin p =
     ++ sign_text (p.y -ℤ origin.y) ++ decimal (unsigned_abs (p.y -ℤ origin.y)) ++ codes "]}"
 
 unfoldable pub touch_fact : Spot → Kind → Found → List ℕ
-touch_fact origin kind f = kind_fact kind f ++ (depth_fact f ++ place_fact origin f.touch.place)
+touch_fact origin kind f =
+    kind_fact kind ++ (command_fact f.line f.command f.tool ++ (depth_fact f ++ place_fact origin f.touch.place))
 
 -- ---- all of them
 
@@ -121,9 +127,8 @@ change_words origin c = low_words c ++ place_words origin c.place
 
 unfoldable pub low_fact : Change → List ℕ
 low_fact c =
-    codes ",\n{\"fact\":\"material\",\"kind\":\"change\",\"certain\":false,\"line\":" ++ decimal c.line
-    ++ codes ",\"command\":" ++ decimal c.command ++ codes ",\"tool\":" ++ decimal c.tool
-    ++ codes ",\"part\":0,\"depth\":" ++ decimal c.depth ++ codes ",\"at\":["
+    codes ",\n{\"fact\":\"material\",\"kind\":\"change\",\"certain\":false," ++ (command_fact c.line c.command c.tool
+    ++ (codes ",\"part\":0,\"depth\":" ++ decimal c.depth ++ codes ",\"at\":["))
 
 unfoldable pub change_fact : Spot → Change → List ℕ
 change_fact origin c = low_fact c ++ place_fact origin c.place
@@ -162,10 +167,10 @@ below_words a = deepest_words a ++ (others_words a ++ codes "\n")
 
 unfoldable pub below_fact : AllBelow → List ℕ
 below_fact a =
-    codes ",\n{\"fact\":\"material\",\"kind\":\"bottom\",\"certain\":false,\"line\":" ++ decimal a.deepest.line
-    ++ codes ",\"command\":" ++ decimal a.deepest.command ++ codes ",\"tool\":" ++ decimal a.deepest.tool
-    ++ codes ",\"part\":0,\"depth\":" ++ decimal a.deepest.depth ++ codes ",\"first\":" ++ decimal a.first
-    ++ codes ",\"last\":" ++ decimal a.last ++ codes "}"
+    codes ",\n{\"fact\":\"material\",\"kind\":\"bottom\",\"certain\":false,"
+    ++ (command_fact a.deepest.line a.deepest.command a.deepest.tool
+    ++ (codes ",\"part\":0,\"depth\":" ++ decimal a.deepest.depth ++ codes ",\"first\":" ++ decimal a.first
+    ++ codes ",\"last\":" ++ decimal a.last ++ codes "}"))
 
 abbrev pub all_below_text : Form → AllBelow → List ℕ
 all_below_text Words a = below_words a
@@ -189,8 +194,8 @@ cut_words c =
 
 unfoldable pub cut_fact : Cut → List ℕ
 cut_fact c =
-    codes ",\n{\"fact\":\"material_cut\",\"line\":" ++ decimal c.line ++ codes ",\"command\":" ++ decimal c.command
-    ++ codes ",\"tool\":" ++ decimal c.tool ++ codes ",\"depth\":" ++ decimal c.depth ++ codes "}"
+    codes ",\n{\"fact\":\"material_cut\"," ++ (command_fact c.line c.command c.tool
+    ++ (codes ",\"depth\":" ++ decimal c.depth ++ codes "}"))
 
 abbrev pub cut_text : Form → Cut → List ℕ
 cut_text Words c = cut_words c
@@ -206,17 +211,22 @@ cuts_text form cuts = flat_map (cut_text form) cuts
 abbrev pub rounded_up : ℕ → ℕ
 rounded_up n = (n + 9999) / 10000 * 10000
 
-unfoldable pub margin_words : Grid → List ℕ
-margin_words g =
-    codes "Traverses were tested for each tool less " ++ size_text (rounded_up (margin g))
+-- the margin concerns traverses, and the depths that are written
+abbrev pub tested_words : List Cut → List ℕ
+tested_words [] = codes "Traverses were tested"
+tested_words (c ∷ cs) = codes "Traverses were tested and depths measured"
+
+unfoldable pub margin_words : Grid → List Cut → List ℕ
+margin_words g cuts =
+    tested_words cuts ++ codes " for each tool less " ++ size_text (rounded_up (margin g))
     ++ codes " mm of its radius.\n"
 
 unfoldable pub margin_fact : Grid → List ℕ
 margin_fact g = codes ",\n{\"fact\":\"material_margin\",\"less\":" ++ decimal (margin g) ++ codes "}"
 
-abbrev pub margin_line : Form → Grid → List ℕ
-margin_line Words g = margin_words g
-margin_line Json g = margin_fact g
+abbrev pub margin_line : Form → Grid → List Cut → List ℕ
+margin_line Words g cuts = margin_words g cuts
+margin_line Json g cuts = margin_fact g
 
 unfoldable pub thin_words : Grid → Tool → List ℕ
 thin_words g t =
@@ -234,5 +244,5 @@ thin_line Json g t = thin_fact t
 abbrev pub thin_text : Form → Grid → Tool → List ℕ
 thin_text form g t = if nat_lt (radius t) (reduction g) then thin_line form g t else []
 
-abbrev pub untested_text : Form → Grid → List Tool → List ℕ
-untested_text form g tools = margin_line form g ++ flat_map (thin_text form g) tools
+abbrev pub untested_text : Form → Grid → List Tool → List Cut → List ℕ
+untested_text form g tools cuts = margin_line form g cuts ++ flat_map (thin_text form g) tools

@@ -1,36 +1,23 @@
 //! How tool changes below the top of a stock are said.
-ghost use Rattle.std.specs.Prelude.{◌≡◌, decimal, flat_map};
-ghost use Rattle.ngc_text.specs.Millimetres.{size_text};
-ghost use Rattle.ngc_sentences.specs.Parts.{part_text};
+ghost use Rattle.std.specs.Prelude.{flat_map};
 ghost use Rattle.ngc_sentences.specs.Saying.{Says};
 ghost use Rattle.ngc_material_report.specs.Sentences.{low_words, low_fact, change_words, change_fact, change_text, change_line, changes_text};
 
-use crate::touches::{number, say_place_fact, say_place_words};
+use crate::parts::{depth, number, say_command_fact, whole_depth};
+use crate::touches::{say_place_fact, say_place_words};
 use ngc_cells::Spot;
 use ngc_commands::{Command, Reached};
 use ngc_material::change_at;
 use ngc_report::Form;
-use ngc_sentences::{Page, Part, say};
+use ngc_sentences::{Page, say};
 use ngc_stock::{Change, Stock};
 use ngc_text::Sink;
-
-fn depth(change: &Change) -> Part<'static>
-    ensures { part_text result ≡ size_text change.now.depth }
-{
-    Part::Size(u128::from(change.depth))
-}
-
-fn whole_depth(change: &Change) -> Part<'static>
-    ensures { part_text result ≡ decimal change.now.depth }
-{
-    Part::Number(u128::from(change.depth))
-}
 
 fn say_low_words<W: Sink>(change: &Change, page: &mut Page, output: &mut W)
     ensures { Says (W.written output.old) (W.written output.new)
         (W.failures output.old) (W.failures output.new) page.old page.new (low_words change.now) }
 {
-    say!(page, output; b"Line ", number(change.line), b" changes the tool below the stock's top: tool ", number(change.tool), b" is ", depth(change), b" mm below it at X ");
+    say!(page, output; b"Line ", number(change.line), b" changes the tool below the stock's top: tool ", number(change.tool), b" is ", depth(change.depth), b" mm below it at X ");
 }
 
 fn say_words<W: Sink>(origin: &Spot, change: &Change, page: &mut Page, output: &mut W)
@@ -45,7 +32,9 @@ fn say_low_fact<W: Sink>(change: &Change, page: &mut Page, output: &mut W)
     ensures { Says (W.written output.old) (W.written output.new)
         (W.failures output.old) (W.failures output.new) page.old page.new (low_fact change.now) }
 {
-    say!(page, output; b",\n{\"fact\":\"material\",\"kind\":\"change\",\"certain\":false,\"line\":", number(change.line), b",\"command\":", Part::Number(change.command as u128), b",\"tool\":", number(change.tool), b",\"part\":0,\"depth\":", whole_depth(change), b",\"at\":[");
+    say!(page, output; b",\n{\"fact\":\"material\",\"kind\":\"change\",\"certain\":false,");
+    say_command_fact(change.line, change.command, change.tool, page, output);
+    say!(page, output; b",\"part\":0,\"depth\":", whole_depth(change.depth), b",\"at\":[");
 }
 
 fn say_fact<W: Sink>(origin: &Spot, change: &Change, page: &mut Page, output: &mut W)

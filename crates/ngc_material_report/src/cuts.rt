@@ -1,43 +1,31 @@
 //! How the deepest feeds are said, one of each tool.
-ghost use Rattle.std.specs.Prelude.{◌≡◌, decimal, flat_map, OnOk, OnErr};
+ghost use Rattle.std.specs.Prelude.{flat_map, OnOk, OnErr};
 ghost use Rattle.std.specs.Io.KnownBytes.{Appends};
 ghost use Rattle.ngc_text.specs.Failures.{CountsFailure};
-ghost use Rattle.ngc_text.specs.Millimetres.{size_text};
 ghost use Rattle.ngc_text.specs.Written.{AppendsPrefix};
-ghost use Rattle.ngc_sentences.specs.Parts.{part_text};
 ghost use Rattle.ngc_sentences.specs.Saying.{Says};
 ghost use Rattle.ngc_material_report.specs.Sentences.{cut_words, cut_fact, cut_text, cuts_text};
 
-use crate::touches::number;
+use crate::parts::{depth, number, say_command_fact, whole_depth};
 use ngc_report::Form;
-use ngc_sentences::{Page, Part, say};
+use ngc_sentences::{Page, say};
 use ngc_stock::Cut;
 use ngc_text::{Sink, WriteFault};
-
-fn depth(cut: &Cut) -> Part<'static>
-    ensures { part_text result ≡ size_text cut.now.depth }
-{
-    Part::Size(u128::from(cut.depth))
-}
-
-fn whole_depth(cut: &Cut) -> Part<'static>
-    ensures { part_text result ≡ decimal cut.now.depth }
-{
-    Part::Number(u128::from(cut.depth))
-}
 
 fn say_words<W: Sink>(cut: &Cut, page: &mut Page, output: &mut W)
     ensures { Says (W.written output.old) (W.written output.new)
         (W.failures output.old) (W.failures output.new) page.old page.new (cut_words cut.now) }
 {
-    say!(page, output; b"With tool ", number(cut.tool), b" straight feeds cut at most ", depth(cut), b" mm deep, the deepest in line ", number(cut.line), b".\n");
+    say!(page, output; b"With tool ", number(cut.tool), b" straight feeds cut at most ", depth(cut.depth), b" mm deep, the deepest in line ", number(cut.line), b".\n");
 }
 
 fn say_fact<W: Sink>(cut: &Cut, page: &mut Page, output: &mut W)
     ensures { Says (W.written output.old) (W.written output.new)
         (W.failures output.old) (W.failures output.new) page.old page.new (cut_fact cut.now) }
 {
-    say!(page, output; b",\n{\"fact\":\"material_cut\",\"line\":", number(cut.line), b",\"command\":", Part::Number(cut.command as u128), b",\"tool\":", number(cut.tool), b",\"depth\":", whole_depth(cut), b"}");
+    say!(page, output; b",\n{\"fact\":\"material_cut\",");
+    say_command_fact(cut.line, cut.command, cut.tool, page, output);
+    say!(page, output; b",\"depth\":", whole_depth(cut.depth), b"}");
 }
 
 fn say_cut<W: Sink>(form: Form, cut: &Cut, page: &mut Page, output: &mut W)

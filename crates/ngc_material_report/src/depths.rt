@@ -1,40 +1,26 @@
 //! How feeds below the bottom of a stock are said, after its tool changes.
-ghost use Rattle.std.specs.Prelude.{◌≡◌, decimal, OnOk, OnErr};
+ghost use Rattle.std.specs.Prelude.{OnOk, OnErr};
 ghost use Rattle.std.specs.Io.KnownBytes.{Appends};
 ghost use Rattle.ngc_text.specs.Failures.{CountsFailure};
-ghost use Rattle.ngc_text.specs.Millimetres.{size_text};
 ghost use Rattle.ngc_text.specs.Written.{AppendsPrefix};
-ghost use Rattle.ngc_sentences.specs.Parts.{part_text};
 ghost use Rattle.ngc_sentences.specs.Saying.{Says};
 ghost use Rattle.ngc_material_report.specs.Sentences.{deepest_words, range_words, others_words, below_words, below_fact, all_below_text, below_text, depths_text};
 
 use crate::changes::say_changes;
-use crate::touches::number;
+use crate::parts::{depth, number, say_command_fact, whole_depth};
 use ngc_cells::Spot;
 use ngc_commands::{Command, Reached};
 use ngc_material::find_below;
 use ngc_report::Form;
-use ngc_sentences::{Page, Part, say};
+use ngc_sentences::{Page, say};
 use ngc_stock::{AllBelow, Stock};
 use ngc_text::{Sink, WriteFault};
-
-fn depth(all: &AllBelow) -> Part<'static>
-    ensures { part_text result ≡ size_text all.now.deepest.depth }
-{
-    Part::Size(u128::from(all.deepest.depth))
-}
-
-fn whole_depth(all: &AllBelow) -> Part<'static>
-    ensures { part_text result ≡ decimal all.now.deepest.depth }
-{
-    Part::Number(u128::from(all.deepest.depth))
-}
 
 fn say_deepest_words<W: Sink>(all: &AllBelow, page: &mut Page, output: &mut W)
     ensures { Says (W.written output.old) (W.written output.new)
         (W.failures output.old) (W.failures output.new) page.old page.new (deepest_words all.now) }
 {
-    say!(page, output; b"Line ", number(all.deepest.line), b" feeds below the stock's bottom: tool ", number(all.deepest.tool), b" is at most ", depth(all), b" mm below it.");
+    say!(page, output; b"Line ", number(all.deepest.line), b" feeds below the stock's bottom: tool ", number(all.deepest.tool), b" is at most ", depth(all.deepest.depth), b" mm below it.");
 }
 
 fn say_range_words<W: Sink>(all: &AllBelow, page: &mut Page, output: &mut W)
@@ -66,7 +52,10 @@ fn say_fact<W: Sink>(all: &AllBelow, page: &mut Page, output: &mut W)
     ensures { Says (W.written output.old) (W.written output.new)
         (W.failures output.old) (W.failures output.new) page.old page.new (below_fact all.now) }
 {
-    say!(page, output; b",\n{\"fact\":\"material\",\"kind\":\"bottom\",\"certain\":false,\"line\":", number(all.deepest.line), b",\"command\":", Part::Number(all.deepest.command as u128), b",\"tool\":", number(all.deepest.tool), b",\"part\":0,\"depth\":", whole_depth(all), b",\"first\":", number(all.first), b",\"last\":", number(all.last), b"}");
+    let deepest = &all.deepest;
+    say!(page, output; b",\n{\"fact\":\"material\",\"kind\":\"bottom\",\"certain\":false,");
+    say_command_fact(deepest.line, deepest.command, deepest.tool, page, output);
+    say!(page, output; b",\"part\":0,\"depth\":", whole_depth(deepest.depth), b",\"first\":", number(all.first), b",\"last\":", number(all.last), b"}");
 }
 
 fn say_all_below<W: Sink>(form: Form, all: &AllBelow, page: &mut Page, output: &mut W)

@@ -8,7 +8,7 @@
 //! Line 31 changes the tool below the stock's top: tool 2 is 2 mm below it at X 30.5 mm, Y 7.5 mm.
 //! Line 50 feeds below the stock's bottom: tool 2 is at most 0.2 mm below it.
 //! With tool 2 straight feeds cut at most 5 mm deep, the deepest in line 151.
-//! Traverses were tested for each tool less 0.29 mm of its radius.
+//! Traverses were tested and depths measured for each tool less 0.29 mm of its radius.
 //! Tool 3 is too thin for cells of 0.2 mm: its traverses were not tested.
 //! ```
 #![tactic(auto)]
@@ -16,6 +16,7 @@
 mod changes;
 mod cuts;
 mod depths;
+mod parts;
 mod touches;
 mod untested;
 

@@ -9,6 +9,7 @@ ghost use Rattle.ngc_sentences.specs.Saying.{Says};
 ghost use Rattle.ngc_material_report.specs.Sentences.{motion_words, kind_words, motion_line, cutter_words, upper_words, part_words, depth_words, deep_words, place_words, touch_words};
 ghost use Rattle.ngc_material_report.specs.Sentences.{kind_fact, depth_fact, place_fact, touch_fact, last_line, number_words, count_words, motions_text, touches_text};
 
+use crate::parts::{index, number, say_command_fact};
 use ngc_cells::Spot;
 use ngc_material::Found;
 use ngc_report::Form;
@@ -78,22 +79,10 @@ fn nanometres(from: &i64, to: &i64) -> Part<'static>
     Part::Number(u128::from(to.abs_diff(*from)))
 }
 
-pub(crate) fn number(count: u32) -> Part<'static>
-    ensures { part_text result ≡ decimal count }
-{
-    Part::Number(u128::from(count))
-}
-
 fn size(size: u32) -> Part<'static>
     ensures { part_text result ≡ size_text size }
 {
     Part::Size(u128::from(size))
-}
-
-fn index(index: usize) -> Part<'static>
-    ensures { part_text result ≡ decimal index }
-{
-    Part::Number(index as u128)
 }
 
 fn say_motion_line<W: Sink>(kind: Kind, found: &Found, page: &mut Page, output: &mut W)
@@ -159,18 +148,18 @@ fn say_words<W: Sink>(origin: &Spot, kind: Kind, found: &Found, page: &mut Page,
     say_place_words(origin, &found.touch.place, page, output);
 }
 
-fn say_kind_fact<W: Sink>(kind: Kind, found: &Found, page: &mut Page, output: &mut W)
+fn say_kind_fact<W: Sink>(kind: Kind, page: &mut Page, output: &mut W)
     ensures { Says (W.written output.old) (W.written output.new)
-        (W.failures output.old) (W.failures output.new) page.old page.new (kind_fact kind found.now) }
+        (W.failures output.old) (W.failures output.new) page.old page.new (kind_fact kind) }
 {
-    say!(page, output; b",\n{\"fact\":\"material\",\"kind\":\"", kind_part(kind), b"\",\"certain\":false,\"line\":", number(found.line), b",\"command\":", index(found.command));
+    say!(page, output; b",\n{\"fact\":\"material\",\"kind\":\"", kind_part(kind), b"\",\"certain\":false,");
 }
 
 fn say_depth_fact<W: Sink>(found: &Found, page: &mut Page, output: &mut W)
     ensures { Says (W.written output.old) (W.written output.new)
         (W.failures output.old) (W.failures output.new) page.old page.new (depth_fact found.now) }
 {
-    say!(page, output; b",\"tool\":", number(found.tool), b",\"part\":", index(found.part), b",\"depth\":", number(found.touch.depth), b",\"at\":[");
+    say!(page, output; b",\"part\":", index(found.part), b",\"depth\":", number(found.touch.depth), b",\"at\":[");
 }
 
 pub(crate) fn say_place_fact<W: Sink>(origin: &Spot, place: &Spot, page: &mut Page, output: &mut W)
@@ -184,7 +173,8 @@ fn say_fact<W: Sink>(origin: &Spot, kind: Kind, found: &Found, page: &mut Page, 
     ensures { Says (W.written output.old) (W.written output.new)
         (W.failures output.old) (W.failures output.new) page.old page.new (touch_fact origin.now kind found.now) }
 {
-    say_kind_fact(kind, found, page, output);
+    say_kind_fact(kind, page, output);
+    say_command_fact(found.line, found.command, found.tool, page, output);
     say_depth_fact(found, page, output);
     say_place_fact(origin, &found.touch.place, page, output);
 }

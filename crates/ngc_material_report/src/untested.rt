@@ -8,13 +8,14 @@ ghost use Rattle.ngc_sentences.specs.Parts.{part_text};
 ghost use Rattle.ngc_sentences.specs.Saying.{Says};
 ghost use Rattle.ngc_cells.specs.Grids.{IsGrid};
 ghost use Rattle.ngc_stock.specs.Stocks.{margin};
-ghost use Rattle.ngc_material_report.specs.Sentences.{rounded_up, margin_words, margin_fact, margin_line, thin_words, thin_fact, thin_line, thin_text, untested_text};
+ghost use Rattle.ngc_material_report.specs.Sentences.{rounded_up, tested_words, margin_words, margin_fact, margin_line, thin_words, thin_fact, thin_line, thin_text, untested_text};
 
 use ngc_cells::Grid;
 use ngc_machine_files::Tool;
 use ngc_material::{is_thin, margin};
 use ngc_report::Form;
 use ngc_sentences::{Page, Part, say};
+use ngc_stock::Cut;
 use ngc_text::{Sink, WriteFault};
 
 fn rounded_up(size: u64) -> u64
@@ -51,12 +52,29 @@ fn tool_number(tool: &Tool) -> Part<'static>
     Part::Number(u128::from(tool.number))
 }
 
-fn say_margin_words<W: Sink>(grid: &Grid, page: &mut Page, output: &mut W)
+// Returns what the margin concerns: the depths too, if there are any.
+fn tested_words(cuts: &[Cut]) -> &'static [u8]
+    ensures { result.now ≡ tested_words cuts.now }
+{
+    if cuts.is_empty() {
+        b"Traverses were tested"
+    } else {
+        b"Traverses were tested and depths measured"
+    }
+}
+
+fn tested(cuts: &[Cut]) -> Part<'static>
+    ensures { part_text result ≡ tested_words cuts.now }
+{
+    Part::Text(tested_words(cuts))
+}
+
+fn say_margin_words<W: Sink>(grid: &Grid, cuts: &[Cut], page: &mut Page, output: &mut W)
     requires { IsGrid grid.now }
     ensures { Says (W.written output.old) (W.written output.new)
-        (W.failures output.old) (W.failures output.new) page.old page.new (margin_words grid.now) }
+        (W.failures output.old) (W.failures output.new) page.old page.new (margin_words grid.now cuts.now) }
 {
-    say!(page, output; b"Traverses were tested for each tool less ", rounded_margin(grid), b" mm of its radius.\n");
+    say!(page, output; tested(cuts), b" for each tool less ", rounded_margin(grid), b" mm of its radius.\n");
 }
 
 fn say_margin_fact<W: Sink>(grid: &Grid, page: &mut Page, output: &mut W)
@@ -67,13 +85,13 @@ fn say_margin_fact<W: Sink>(grid: &Grid, page: &mut Page, output: &mut W)
     say!(page, output; b",\n{\"fact\":\"material_margin\",\"less\":", whole_margin(grid), b"}");
 }
 
-fn say_margin<W: Sink>(form: Form, grid: &Grid, page: &mut Page, output: &mut W)
+fn say_margin<W: Sink>(form: Form, grid: &Grid, cuts: &[Cut], page: &mut Page, output: &mut W)
     requires { IsGrid grid.now }
     ensures { Says (W.written output.old) (W.written output.new)
-        (W.failures output.old) (W.failures output.new) page.old page.new (margin_line form grid.now) }
+        (W.failures output.old) (W.failures output.new) page.old page.new (margin_line form grid.now cuts.now) }
 {
     match form {
-        Form::Words => say_margin_words(grid, page, output),
+        Form::Words => say_margin_words(grid, cuts, page, output),
         Form::Json => say_margin_fact(grid, page, output),
     }
 }
@@ -122,8 +140,9 @@ fn say_tools<W: Sink>(form: Form, grid: &Grid, tools: &[Tool], page: &mut Page, 
     }
 }
 
-/// Writes how much smaller than each tool the one is of which a walk speaks, and which of the tools are
-/// too thin for the cells, so that their traverses aren't tested.
+/// Writes how much less than the radius of each tool a walk tests at traverses, and which of the tools are
+/// too thin for the cells, so that their traverses aren't tested. With `cuts`, which are the depths that
+/// are written, the first sentence says that it holds for them too.
 ///
 /// The function allocates no memory. After a fault (902, only if the sink failed) a prefix of the
 /// text is written.
@@ -131,17 +150,18 @@ pub fn write_untested<W: Sink>(
     form: Form,
     grid: &Grid,
     tools: &[Tool],
+    cuts: &[Cut],
     output: &mut W,
 ) -> Result<(), WriteFault>
     requires { IsGrid grid.now }
     ensures ok { OnOk result
-        (Appends (W.written output.old) (W.written output.new) (untested_text form grid.now tools.now)) }
+        (Appends (W.written output.old) (W.written output.new) (untested_text form grid.now tools.now cuts.now)) }
     ensures fault { OnErr result
-        (AppendsPrefix (W.written output.old) (W.written output.new) (untested_text form grid.now tools.now)) }
+        (AppendsPrefix (W.written output.old) (W.written output.new) (untested_text form grid.now tools.now cuts.now)) }
     ensures counts { CountsFailure (W.failures output.old) (W.failures output.new) result }
 {
     let mut page = Page::new();
-    say_margin(form, grid, &mut page, output);
+    say_margin(form, grid, cuts, &mut page, output);
     say_tools(form, grid, tools, &mut page, output);
     page.finish(output)
 }

@@ -240,8 +240,8 @@ fn write_found<W: Sink>(
 
 fn write_limits<W: Sink>(stock: i64, tools: &[Tool], output: &mut W) -> Result<(), WriteFault> {
     let grid = &numbered(stock).grid;
-    match write_untested(Form::Words, grid, tools, output) {
-        Ok(()) => end_line(write_untested(Form::Json, grid, tools, output), output),
+    match write_untested(Form::Words, grid, tools, &[], output) {
+        Ok(()) => end_line(write_untested(Form::Json, grid, tools, &[], output), output),
         Err(fault) => Err(fault),
     }
 }

@@ -1,5 +1,5 @@
--- What it means that a walk finds no traverse, or no feed, and what its deepest feeds say. Our own; the premises are those of the law of
--- silence (ngc_stock).
+-- What holds of a program if a walk finds no traverse, and if it finds no feed. How deep its feeds cut
+-- at most. Our own. The premises are those of the law of silence (ngc_stock).
 use Rattle.std.specs.Prelude.{List, [], ◌∷◌, ◌++◌, Some}
 use Rattle.ngc_machine_files.specs.Machine.{MachineFile}
 use Rattle.ngc_commands.specs.declared.command.Command.{Command}

@@ -106,7 +106,7 @@ fn write_rest<A: Allocator, B: Allocator, W: Sink>(
     let cuts = walk.touches.cuts.as_slice();
     write_depths(form, &origin, &walk.stock, &start, commands, output)?;
     write_cuts(form, cuts, output)?;
-    write_untested(form, &walk.stock.grid, tools, output)
+    write_untested(form, &walk.stock.grid, tools, cuts, output)
 }
 
 fn write_walk<A: Allocator, B: Allocator, W: Sink>(

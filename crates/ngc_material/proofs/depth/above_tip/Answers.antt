@@ -6,13 +6,13 @@ use Rattle.ngc_material.proofs.depth.above_tip.Goals as goal
 pub returns-then-tip-stock : goal.returns-then-tip-stock
 returns-then-tip-stock c =
     let s = c.args.stock.now in
-    let apart : c.abs_diff-apart.result ≡ unsigned_abs (c.args.tip -ℤ s.bottom) = omega (arith, ints, c.abs_diff-apart.ensures, c.requires.tip, c.abs_diff-arg-1) in
-    let less : c.args.tip <ℤ s.bottom = omega (arith, ints, c.if-tip-stock.true, c.requires.tip, c.abs_diff-arg-1) in
+    let apart : c.abs_diff-apart.result ≡ unsigned_abs (c.args.tip -ℤ s.bottom) = omega (arith, ints) in
+    let less : c.args.tip <ℤ s.bottom = omega (arith, ints) in
     below_bottom c.args.tip s.bottom c.args.level c.abs_diff-apart.result less apart
 
 pub returns-else-tip-stock : goal.returns-else-tip-stock
 returns-else-tip-stock c =
     let s = c.args.stock.now in
-    let apart : c.abs_diff-apart.result ≡ unsigned_abs (c.args.tip -ℤ s.bottom) = omega (arith, ints, c.abs_diff-apart.ensures, c.requires.tip, c.abs_diff-arg-1) in
-    let more : s.bottom ≤ℤ c.args.tip = omega (arith, ints, c.if-tip-stock.false, c.requires.tip, c.abs_diff-arg-1) in
+    let apart : c.abs_diff-apart.result ≡ unsigned_abs (c.args.tip -ℤ s.bottom) = omega (arith, ints) in
+    let more : s.bottom ≤ℤ c.args.tip = omega (arith, ints) in
     rw c.saturating_sub.ensures (above_bottom c.args.tip s.bottom c.args.level c.abs_diff-apart.result more apart)

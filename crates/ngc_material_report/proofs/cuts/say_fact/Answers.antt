@@ -1,6 +1,7 @@
+use Rattle.ngc_sentences.proofs.Said.{then}
 use Rattle.ngc_material_report.specs.Sentences.{cut_fact}
 use Rattle.ngc_material_report.proofs.cuts.say_fact.Goals as goal
 
 pub returns : goal.returns
 unfolding cut_fact
-returns g c = rw (← c.number.ensures, ← c.number-2.ensures, ← c.whole_depth.ensures) c.say.ensures
+returns g c = then c.say.ensures (then c.say_command_fact.ensures (rw (← c.whole_depth.ensures) c.say-2.ensures))

@@ -1,6 +1,7 @@
+use Rattle.ngc_sentences.proofs.Said.{then}
 use Rattle.ngc_material_report.specs.Sentences.{below_fact}
 use Rattle.ngc_material_report.proofs.depths.say_fact.Goals as goal
 
 pub returns : goal.returns
 unfolding below_fact
-returns g c = rw (← c.number.ensures, ← c.number-2.ensures, ← c.whole_depth.ensures, ← c.number-3.ensures, ← c.number-4.ensures) c.say.ensures
+returns g c = then c.say.ensures (then c.say_command_fact.ensures (rw (← c.whole_depth.ensures, ← c.number.ensures, ← c.number-2.ensures) c.say-2.ensures))

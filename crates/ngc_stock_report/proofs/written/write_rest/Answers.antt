@@ -36,8 +36,10 @@ returns-clause-fault g c =
     let same = ap (λ (w : WalkData). depths_text a.form c.block_origin-origin.result w.stock c.at_start-start.result a.commands.now) c.walk.view_is
     ∙ ap (λ (o : Spot). depths_text a.form o a.walk.now.stock c.at_start-start.result a.commands.now) c.block_origin-origin.ensures
     ∙ ap (λ (r : Reached). depths_text a.form (block_origin m m.stock) a.walk.now.stock r a.commands.now) c.at_start-start.ensures in
-    let cuts = ap (λ (cs : List Cut). cuts_text a.form cs) (c.as_slice-cuts.ensures.value ∙ ap (λ (w : WalkData). w.cuts) c.walk.view_is) in
-    let untested = ap (λ (w : WalkData). untested_text a.form w.stock.grid a.tools.now) c.walk.view_is in
+    let deepest = c.as_slice-cuts.ensures.value ∙ ap (λ (w : WalkData). w.cuts) c.walk.view_is in
+    let cuts = ap (λ (cs : List Cut). cuts_text a.form cs) deepest in
+    let untested = ap (λ (w : WalkData). untested_text a.form w.stock.grid a.tools.now c.as_slice-cuts.result.now) c.walk.view_is
+    ∙ ap (λ (cs : List Cut). untested_text a.form a.walk.now.stock.grid a.tools.now cs) deepest in
     third_fault c.write_untested.result (g.W.Sink.written a.output.now) (g.W.Sink.written c.write_depths.new.output)
     (g.W.Sink.written c.write_cuts.new.output) (g.W.Sink.written c.write_untested.new.output) _ _ _ _ untested
     (appends_as _ _ _ _ same c.in_ok-write_depths.ensures.ok) (appends_as _ _ _ _ cuts c.in_ok-write_cuts.ensures.ok) c.write_untested.ensures.fault
