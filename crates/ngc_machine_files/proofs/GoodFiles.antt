@@ -40,7 +40,7 @@ less a b h = le_z_yes (T_from_true _ h)
 below : (a b : ℤ) → int_lt a b ≡ true → a <ℤ b
 below a b h = lt_z_yes (T_from_true _ h)
 
-from : (low high z : ℤ) → from_to low high z ≡ true → IsFrom low high z
+pub from : (low high z : ℤ) → from_to low high z ≡ true → IsFrom low high z
 from low high z h =
     let (l, g) = and_parts (int_le low z) (int_le z high) h in
     record { least = less _ _ l; greatest = less _ _ g }
@@ -128,11 +128,13 @@ each_passes : {X : Type 0} (p : X → Bool) (P : X → Type 0) → ((x : X) → 
 each_passes p P tells xs h = All-weaker (λ x. p x ≡ true) P tells xs (AllPass-from_list_all p xs h)
 
 some_motors : (step : ℤ) (motors : Coordinates) → IsStep step → good_motors step motors ≡ true → AreMotors (record { grid = step; steps = place_of motors })
+unfolding good_motors
 some_motors step motors is h =
     let (x, y, z) = three (is_motor step motors.x) (is_motor step motors.y) (is_motor step motors.z) h in
     record { grid = is; x = x; y = y; z = z }
 
 pub IsGood-from_ranges : (m : MachineValues) → machine_ranges m ≡ Ok tt → IsGood m
+unfolding good_travel
 IsGood-from_ranges m h =
     let (_, h7) = passes _ _ _ h in
     let (step, h8) = passes _ _ _ h7 in
@@ -181,6 +183,7 @@ IsGood-from_ranges m h =
 
 -- where a motor's step isn't the grid's, the ends of the travel are whole
 pub ends-from_ranges : (m : MachineValues) → machine_ranges m ≡ Ok tt → good_axis_ends m.numbers.step m.motor_steps m.points ≡ true
+unfolding good_travel
 ends-from_ranges m h =
     let (_, h1) = passes (good_version m.numbers.version) _ _ h in
     let (_, h2) = passes (from_to (pos 500) (pos 50000) m.numbers.step) _ _ h1 in

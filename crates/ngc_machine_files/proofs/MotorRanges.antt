@@ -1,10 +1,12 @@
 -- Ranges of the steps of motors.
-use Rattle.std.proofs.Common.{◌≡◌, ℤ, pos, ◌≤ℤ◌, ◌≤◌, true, arith, unsigned_abs}
+use Rattle.std.proofs.Common.{◌≡◌, ℤ, pos, true, arith}
 use Rattle.std.specs.Prelude.{◌<ℤ◌}
 use Rattle.std.proofs.lemmas.Bool.{and_parts}
 use Rattle.std.proofs.lemmas.Int.{ints}
 use Rattle.ngc_motors.specs.Counts.{AreMotors, is_motor}
 use Rattle.ngc_motors.proofs.Sizes.{least_step, most_step}
+use Rattle.ngc_machine_files.specs.Numbers.{from_to}
+use Rattle.ngc_machine_files.proofs.GoodFiles.{from}
 use Rattle.ngc_machine_files.specs.Ranges.{CORNER_LIMIT, IsSized}
 use Rattle.ngc_machine_files.specs.MachineText.{good_motors, place_of}
 use Rattle.ngc_machine_files.specs.declared.machine_contents.Coordinates.{Coordinates}
@@ -16,9 +18,11 @@ sized_motors step motors are = record {
   z = omega (arith, ints, are.grid.least, least_step step motors.z are.z, most_step step motors.z are.z);
 }
 
-pub some_steps : (step : ℤ) (motors : Coordinates) → pos 0 <ℤ step → good_motors step motors ≡ true →
+pub some_steps : (step : ℤ) (motors : Coordinates) → from_to (pos 500) (pos 50000) step ≡ true → good_motors step motors ≡ true →
     (pos 0 <ℤ motors.x) × (pos 0 <ℤ motors.y) × (pos 0 <ℤ motors.z)
-some_steps step motors some h =
+unfolding good_motors
+some_steps step motors range h =
+    let some = (from (pos 500) (pos 50000) step range).least in
     let (xy, z) = and_parts _ (is_motor step motors.z) h in
     let (x, y) = and_parts (is_motor step motors.x) (is_motor step motors.y) xy in (
       omega (arith, ints, some, least_step step motors.x x),

@@ -245,7 +245,7 @@ good_version version = int_eq version (pos 1) || has_axis_rates version
 unfoldable pub is_rate : ℤ → Bool
 is_rate z = from_to (pos 1) (pos 1000000) z
 
-abbrev pub good_motors : ℤ → Coordinates → Bool
+unfoldable pub good_motors : ℤ → Coordinates → Bool
 good_motors step motors = is_motor step motors.x && is_motor step motors.y && is_motor step motors.z
 
 abbrev pub good_jump : ℤ → Bool
@@ -283,15 +283,15 @@ good_limits step p =
 
 -- Where a motor's step isn't the grid's, the travel of its axis ends at whole steps of the motor. So
 -- the motor can stand at each end, and is never sent past it.
-abbrev pub good_ends : ℤ → ℤ → ℤ → ℤ → Bool
+unfoldable pub good_ends : ℤ → ℤ → ℤ → ℤ → Bool
 good_ends step motor low high = int_eq motor step || (is_multiple motor low && is_multiple motor high)
 
-abbrev pub good_axis_ends : ℤ → Coordinates → MachinePoints → Bool
+unfoldable pub good_axis_ends : ℤ → Coordinates → MachinePoints → Bool
 good_axis_ends step motors p =
     good_ends step motors.x p.low.x p.high.x && good_ends step motors.y p.low.y p.high.y
     && good_ends step motors.z p.low.z p.high.z
 
-abbrev pub good_travel : MachineValues → Bool
+unfoldable pub good_travel : MachineValues → Bool
 good_travel m =
     good_limits m.numbers.step m.points && good_margin m.numbers.optional.travel_margin
     && good_axis_ends m.numbers.step m.motor_steps m.points

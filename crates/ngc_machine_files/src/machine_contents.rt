@@ -6,7 +6,8 @@ ghost use Rattle.ngc_machine_files.specs.Tree.{has_only};
 ghost use Rattle.ngc_machine_files.specs.MachineText.{machine_options, stock_at, stock_numbers};
 ghost use Rattle.ngc_machine_files.specs.MachineText.{values_of, optional_numbers, machine_numbers};
 ghost use Rattle.ngc_machine_files.specs.MachineText.{machine_points, machine_origins, has_axis_rates};
-ghost use Rattle.ngc_machine_files.specs.MachineText.{machine_axis_rates, corners, machine_keys};
+ghost use Rattle.ngc_machine_files.specs.MachineText.{machine_axis_rates, corners, equal_steps};
+ghost use Rattle.ngc_machine_files.specs.MachineText.{machine_keys};
 ghost use Rattle.ngc_machine_files.specs.MachineText.{machine_values, nine_coordinates, has_fixture_keys};
 
 use crate::machine::Rapids;
@@ -151,6 +152,17 @@ fn machine_numbers(tree: &Value) -> Option<MachineNumbers>
         turn: whole_at(tree, "turn")?,
         optional: optional_numbers(tree)?,
     })
+}
+
+/// Returns the steps of motors that all have the step of the grid.
+fn equal_steps(numbers: &MachineNumbers) -> Coordinates
+    ensures { result ≡ equal_steps numbers.now.step }
+{
+    Coordinates {
+        x: numbers.step,
+        y: numbers.step,
+        z: numbers.step,
+    }
 }
 
 /// Returns whether the version has rates of the axes.
@@ -317,11 +329,7 @@ impl MachineContents {
             Some(fixtures) => Ok(Some(MachineContents {
                 numbers,
                 options,
-                motor_steps: Coordinates {
-                    x: numbers.step,
-                    y: numbers.step,
-                    z: numbers.step,
-                },
+                motor_steps: equal_steps(&numbers),
                 axis_rates,
                 points,
                 origins,

@@ -102,6 +102,7 @@ fn is_motor(step: i64, motor: i64) -> bool
     step <= motor && motor <= 1_000_000
 }
 
+#[tactic(auto, unfolding(crate::specs::MachineText::good_motors))]
 fn are_motors_good(step: i64, motors: &Coordinates) -> bool
     ensures { result ≡ good_motors step motors.now }
 {
@@ -158,6 +159,7 @@ fn are_limits_good(step: i64, points: &MachinePoints) -> bool
         && points.start.is_on_grid(step)
 }
 
+#[tactic(auto, unfolding(crate::specs::MachineText::good_ends))]
 fn are_ends_good(step: i64, motor: i64, low: i64, high: i64) -> bool
     requires { pos 0 <ℤ motor }
     ensures { result ≡ good_ends step motor low high }
@@ -165,9 +167,11 @@ fn are_ends_good(step: i64, motor: i64, low: i64, high: i64) -> bool
     motor == step || is_multiple(motor, low) && is_multiple(motor, high)
 }
 
+#[tactic(auto, unfolding(crate::specs::MachineText::good_axis_ends))]
 fn are_axis_ends_good(step: i64, motors: &Coordinates, points: &MachinePoints) -> bool
-    requires step { pos 0 <ℤ step }
-    requires motors { good_motors step motors.now ≡ true }
+    requires x { pos 0 <ℤ motors.now.x }
+    requires y { pos 0 <ℤ motors.now.y }
+    requires z { pos 0 <ℤ motors.now.z }
     ensures { result ≡ good_axis_ends step motors.now points.now }
 {
     are_ends_good(step, motors.x, points.low.x, points.high.x)
@@ -175,9 +179,12 @@ fn are_axis_ends_good(step: i64, motors: &Coordinates, points: &MachinePoints) -
         && are_ends_good(step, motors.z, points.low.z, points.high.z)
 }
 
+#[tactic(auto, unfolding(crate::specs::MachineText::good_travel))]
 fn is_travel_good(contents: &MachineContents) -> bool
     requires step { pos 0 <ℤ contents.now.numbers.step }
-    requires motors { good_motors contents.now.numbers.step contents.now.motor_steps ≡ true }
+    requires x { pos 0 <ℤ contents.now.motor_steps.x }
+    requires y { pos 0 <ℤ contents.now.motor_steps.y }
+    requires z { pos 0 <ℤ contents.now.motor_steps.z }
     ensures { result ≡ good_travel (values_of contents.now) }
 {
     are_limits_good(contents.numbers.step, &contents.points)
