@@ -90,11 +90,7 @@ fn ends_of(grid: u32, step: u32, travel: Range) -> Range
 
 /// Returns the travel of each axis. Where the motor's step isn't the grid's, its ends are moved
 /// inwards to whole steps of the motor; an end that is out of range stays.
-pub(crate) fn travel_ends(
-    grid: u32,
-    own: &PerAxis<MotorScale>,
-    axes: &AxesSheet,
-) -> PerAxis<Range>
+pub(crate) fn travel_ends(grid: u32, own: &PerAxis<MotorScale>, axes: &AxesSheet) -> PerAxis<Range>
     requires { spec.AreScales own.now }
     ensures { result ≡ spec.travel_ends grid own.now axes.now }
 {
