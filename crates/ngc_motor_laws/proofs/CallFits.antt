@@ -7,7 +7,7 @@ use Rattle.std.proofs.lemmas.Bool.{and_parts}
 use Rattle.std.proofs.lemmas.Bool.Decides.{Decides-int_eq}
 use Rattle.std.proofs.lemmas.Int.{ints, clamps, quot-rem}
 use Rattle.toml.specs.Data.{Data}
-use Rattle.ngc_motors.specs.Counts.{AreMotors, MotorData, commanded_place, slack}
+use Rattle.ngc_motors.specs.Counts.{AreMotors, commanded_place, slack}
 use Rattle.ngc_motors.proofs.Quotients.{whole_law}
 use Rattle.ngc_motors.proofs.Sizes.{least_step}
 use Rattle.ngc_motors.proofs.Slack.{enough_x, enough_y, enough_z}
@@ -24,7 +24,7 @@ use Rattle.ngc_added_boxes.specs.Placing.{all_fit, boxed, with_boxes}
 use Rattle.ngc_origins.specs.Placed.{placed}
 use Rattle.ngc_margins.specs.Changes.{and_demanded, changed}
 use Rattle.ngc_margins.specs.Demands.{AreDemands, Demand, fixture_margin, set_in}
-use Rattle.ngc_margins.specs.Margins.{demanded, fits, in_range, starts_inside, with_margins}
+use Rattle.ngc_margins.specs.Margins.{demanded, starts_inside, with_margins}
 use Rattle.ngc_margins.specs.declared.changes.Changes.{Changes}
 use Rattle.ngc_written_machines.specs.Machines.{◌>>=◌, machine_by, motors_of as written_motors, ranged, rates_with, refused_as, written_machine}
 use Rattle.ngc_written_machines.specs.Contents.{values_by}
@@ -32,7 +32,7 @@ use Rattle.ngc_written_machines.specs.Reading.{any_machine, as_fault, machine_in
 use Rattle.ngc_written_machines.specs.declared.refusal.WrittenRefusal.{WrittenRefusal}
 use Rattle.ngc_written_machines.specs.declared.refusal.WrittenRefusal.TheVariants as refusals
 use Rattle.ngc_motor_laws.specs.Calls.{BuiltInFits, FilesFit, IsFit}
-use Rattle.ngc_motor_laws.specs.Commanded.{FitsAxis, FitsMotors, IsHeldOff}
+use Rattle.ngc_motor_laws.specs.Commanded.{FitsAxis, FitsMotors}
 
 -- ---- what holds of each machine that is read
 

@@ -1,6 +1,5 @@
 //! The motors of a machine's axes.
 ghost use Rattle.std.specs.Prelude.{◌≡◌, ◌≤◌, ◌<◌, false, unsigned_abs};
-ghost use Rattle.ngc_motor_scale.specs.Scales.{IsMotorScale};
 ghost use Rattle.ngc_written_machines.specs.Motors as spec;
 
 use ngc_machine_figures::AxesSheet;
