@@ -1,18 +1,18 @@
 -- The machine of a call is fit for its motors.
 use Rattle.std.proofs.Common.{◌≡◌, ◌≤ℤ◌, ◌+ℤ◌, ◌*ℤ◌, ◌∙◌, ◌⊎◌, inl, inr, ℕ, ℤ, pos, List, Bool, true, false, Option, Some, None, Result, Ok, Err, arith, ap, refl, subst, sym}
-use Rattle.std.specs.Prelude.{◌<ℤ◌, ◌||◌, ◌&&◌, IfSome, if◌then◌else◌, int_rem, unwrap_or}
-use Rattle.std.specs.Int.{int_div, int_max}
+use Rattle.std.specs.Prelude.{◌<ℤ◌, ◌||◌, ◌&&◌, IfSome, if◌then◌else◌, int_div, int_rem, unwrap_or}
+use Rattle.std.specs.Int.{int_max}
 use Rattle.std.specs.Ordering.{int_eq}
 use Rattle.std.proofs.lemmas.Bool.{and_parts}
 use Rattle.std.proofs.lemmas.Bool.Decides.{Decides-int_eq}
 use Rattle.std.proofs.lemmas.Int.{ints, clamps, quot-rem}
 use Rattle.toml.specs.Data.{Data}
-use Rattle.ngc_motors.specs.Counts.{AreMotors, MotorData, commanded_place, slack}
+use Rattle.ngc_motors.specs.Counts.{AreMotors, commanded_place, slack}
 use Rattle.ngc_motors.proofs.Quotients.{whole_law}
 use Rattle.ngc_motors.proofs.Sizes.{least_step}
-use Rattle.ngc_motors.proofs.Slack.{IsSlackEnough, enough_x, enough_y, enough_z}
+use Rattle.ngc_motors.proofs.Slack.{enough_x, enough_y, enough_z}
 use Rattle.ngc_machine_files.specs.Machine.{MachineFile, built_in_machine, motors_of}
-use Rattle.ngc_machine_files.specs.MachineText.{MachineValues, checked_machine, good_axis_ends, good_ends, is_multiple, machine_file, machine_from, machine_ranges}
+use Rattle.ngc_machine_files.specs.MachineText.{MachineValues, checked_machine, good_axis_ends, good_ends, is_multiple, machine_file, machine_from, machine_ranges, values_in}
 use Rattle.ngc_machine_files.specs.Ranges.{IsFrom, MARGIN_LIMIT}
 use Rattle.ngc_machine_files.specs.Refusals.{◌>>◌, refuse_unless}
 use Rattle.ngc_machine_files.specs.Tree.{tree_of}
@@ -24,14 +24,15 @@ use Rattle.ngc_added_boxes.specs.Placing.{all_fit, boxed, with_boxes}
 use Rattle.ngc_origins.specs.Placed.{placed}
 use Rattle.ngc_margins.specs.Changes.{and_demanded, changed}
 use Rattle.ngc_margins.specs.Demands.{AreDemands, Demand, fixture_margin, set_in}
-use Rattle.ngc_margins.specs.Margins.{demanded, fits, in_range, starts_inside, with_margins}
+use Rattle.ngc_margins.specs.Margins.{demanded, starts_inside, with_margins}
 use Rattle.ngc_margins.specs.declared.changes.Changes.{Changes}
 use Rattle.ngc_written_machines.specs.Machines.{◌>>=◌, machine_by, motors_of as written_motors, ranged, rates_with, refused_as, written_machine}
 use Rattle.ngc_written_machines.specs.Contents.{values_by}
 use Rattle.ngc_written_machines.specs.Reading.{any_machine, as_fault, machine_in, written_file}
 use Rattle.ngc_written_machines.specs.declared.refusal.WrittenRefusal.{WrittenRefusal}
+use Rattle.ngc_written_machines.specs.declared.refusal.WrittenRefusal.TheVariants as refusals
 use Rattle.ngc_motor_laws.specs.Calls.{BuiltInFits, FilesFit, IsFit}
-use Rattle.ngc_motor_laws.specs.Commanded.{FitsAxis, FitsMotors, IsHeldOff}
+use Rattle.ngc_motor_laws.specs.Commanded.{FitsAxis, FitsMotors}
 
 -- ---- what holds of each machine that is read
 
@@ -61,12 +62,14 @@ either true b h = inl refl
 either false b h = inr h
 
 ends_fit : (grid step low high : ℤ) → pos 0 <ℤ step → good_ends grid step low high ≡ true → EndsFit grid step low high
+unfolding good_ends
 ends_fit grid step low high some h = elim (either (int_eq step grid) (is_multiple step low && is_multiple step high) h) [
   | inl e ↦ inl ((Decides-int_eq step grid).0 e)
   | inr e ↦ (let parts = and_parts (is_multiple step low) (is_multiple step high) e in inr (whole step low some parts.0, whole step high some parts.1))
 ]
 
 read_values : (v : MachineValues) → machine_ranges v ≡ Ok tt → IsRead (machine_from v)
+unfolding good_axis_ends
 read_values v h =
     let good = IsGood-from_ranges v h in
     let grid = v.numbers.step in
@@ -98,29 +101,30 @@ bound (Ok x) f y h = (x, h)
 bound (Err e) f y h = cc
 
 unrefused : {T E : Type 0} (f : E → WrittenRefusal) (r : Result T E) (x : T) → refused_as f r ≡ Ok x → r ≡ Ok x
-unrefused f (Ok y) x h = h
+unrefused f (Ok y) x h = let e : y ≡ x = cc in ap Ok e
 unrefused f (Err e) x h = cc
 
 read_sheet : (sheet : SheetValues) (m : MachineFile) → machine_by sheet ≡ Ok m → IsRead m
 read_sheet sheet m h =
-    let own = bound (written_motors sheet.head.axes) _ m h in
-    let rates = bound (rates_with sheet.head own.0) _ m own.1 in
-    read_checked (Some (values_by sheet own.0 rates.0)) m (unrefused _ _ m rates.1)
+    let own = bound (written_motors sheet.head.axes) (λ o. rates_with sheet.head o >>= λ rates. ranged sheet o rates) m h in
+    let rates = bound (rates_with sheet.head own.0) (λ r. ranged sheet own.0 r) m own.1 in
+    let values = Some (values_by sheet own.0 rates.0) in
+    read_checked values m (unrefused refusals.Range (checked_machine values) m rates.1)
 
 read_written : (tree : Data) (m : MachineFile) → written_machine tree ≡ Ok m → IsRead m
 unfolding written_machine
-read_written tree m h = let sheet = bound _ machine_by m h in read_sheet sheet.0 m sheet.1
+read_written tree m h = let sheet = bound (refused_as refusals.Sheet (sheet_of tree)) (λ s. machine_by s) m h in read_sheet sheet.0 m sheet.1
 
 as_ok : (r : Result MachineFile WrittenRefusal) (m : MachineFile) → as_fault r ≡ Ok m → r ≡ Ok m
-as_ok (Ok x) m h = h
+as_ok (Ok x) m h = let e : x ≡ m = cc in ap Ok e
 as_ok (Err e) m h = cc
 
 read_by : (b : Bool) (bytes : List ℕ) (tree : Data) (m : MachineFile) → (if b then written_file tree else machine_file bytes) ≡ Ok m → IsRead m
 read_by true bytes tree m h = read_written tree m (as_ok (written_machine tree) m h)
-read_by false bytes tree m h = read_checked _ m h
+read_by false bytes tree m h = read_checked (values_in bytes) m h
 
 read_in : (bytes : List ℕ) (tree : Option Data) (m : MachineFile) → machine_in bytes tree ≡ Ok m → IsRead m
-read_in bytes None m h = read_checked _ m h
+read_in bytes None m h = read_checked (values_in bytes) m h
 read_in bytes (Some tree) m h = read_by (is_written tree) bytes tree m h
 
 read_any : (bytes : List ℕ) (m : MachineFile) → any_machine bytes ≡ Ok m → IsRead m
@@ -199,10 +203,11 @@ and_demanded_fits d (Ok m) met ok read h = demanded_fits d m met ok (read m refl
 and_demanded_fits d (Err e) met ok read h = cc
 
 -- added boxes and other origins leave motors, margins and travel as they are
-pub call_fits : (c : Changes) (m met : MachineFile) → AreDemands c.demands → IsRead m → changed c m ≡ Ok met → IsFit met
+call_fits : (c : Changes) (m met : MachineFile) → AreDemands c.demands → IsRead m → changed c m ≡ Ok met → IsFit met
 call_fits c m met ok read h = and_demanded_fits c.demands (boxed c.boxes (placed c.origins m)) met ok (λ new is. boxed_read new is) h where
   own : IsRead (with_boxes c.boxes (placed c.origins m))
   own = record { are = read.are; margin = read.margin; travel_margin = read.travel_margin; x = read.x; y = read.y; z = read.z }
+
   boxed_read : (new : MachineFile) → boxed c.boxes (placed c.origins m) ≡ Ok new → IsRead new
   boxed_read new is = subst IsRead (taken (refuse_unless (all_fit c.boxes (placed c.origins m)) _) (with_boxes c.boxes (placed c.origins m)) new is).1 own
 

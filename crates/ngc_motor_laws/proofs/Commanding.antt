@@ -1,12 +1,10 @@
 -- From the path to the commanded positions.
 use Rattle.std.proofs.Common.{◌≡◌, ℤ, pos, negsuc, ◌+ℤ◌, ◌-ℤ◌, ◌*ℤ◌, ◌≤ℤ◌, List, [], ◌∷◌, inl, inr, arith, ap, subst, ◌∙◌}
-use Rattle.std.specs.Prelude.{IsTrue, ◌&&◌, ◌<ℤ◌, int_le, Option}
+use Rattle.std.specs.Prelude.{IsTrue, ◌<ℤ◌, int_le}
 use Rattle.std.proofs.lemmas.Int.{ints}
-use Rattle.ngc_fixed_length.specs.declared.points.StepPos.{StepPos}
 use Rattle.ngc_fixed_length.specs.Length.{IsStep}
 use Rattle.ngc_machine_files.specs.Machine.{MachineFile, motors_of}
-use Rattle.ngc_machine_files.specs.declared.tools.Tool.{Tool}
-use Rattle.ngc_collision.specs.Body.{IsSafe, is_below, nanometres_of}
+use Rattle.ngc_collision.specs.Body.{is_below, nanometres_of}
 use Rattle.ngc_machine_model.specs.State.{State, opening}
 use Rattle.ngc_machine_model.specs.Safety.{AreSafe}
 use Rattle.ngc_margins.specs.Laws.{IsNear}

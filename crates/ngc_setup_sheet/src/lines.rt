@@ -1,5 +1,6 @@
 //! The lines of a machine, of a fixture and of a tool.
 ghost use Rattle.std.specs.Prelude.{◌≡◌, ◌≤◌, ◌<◌, ◌+◌, ◌++◌, min, length, unsigned_abs};
+ghost use Rattle.std.specs.Ordering.{int_eq};
 ghost use Rattle.arrayvec.specs.ArrayVec.{array_vec_len};
 ghost use Rattle.ngc_machine_files.specs.Machine.{file_of};
 ghost use Rattle.ngc_machine_files.specs.Ranges.{IsRate};
@@ -92,13 +93,19 @@ fn step_facts<A: Allocator>(machine: &Machine<A>) -> [Line; 6]
     ]
 }
 
+fn is_same(a: Nm, b: Nm) -> bool
+    ensures { result ≡ int_eq a b }
+{
+    a.nanometres() == b.nanometres()
+}
+
 fn have_one_step<A: Allocator>(machine: &Machine<A>) -> bool
     ensures { result ≡ have_one_step (file_of machine.now) }
 {
-    let step = machine.step.nanometres();
-    machine.motor_steps.x.nanometres() == step
-        && machine.motor_steps.y.nanometres() == step
-        && machine.motor_steps.z.nanometres() == step
+    let steps = &machine.motor_steps;
+    is_same(steps.x, machine.step)
+        && is_same(steps.y, machine.step)
+        && is_same(steps.z, machine.step)
 }
 
 fn motor_fact(axis: Axis, step: Nm) -> Line

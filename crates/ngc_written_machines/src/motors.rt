@@ -1,6 +1,5 @@
 //! The motors of a machine's axes.
-ghost use Rattle.std.specs.Prelude.{◌≡◌, ◌<◌, false};
-ghost use Rattle.ngc_motor_scale.specs.Scales.{IsMotorScale};
+ghost use Rattle.std.specs.Prelude.{◌≡◌, ◌≤◌, ◌<◌, false, unsigned_abs};
 ghost use Rattle.ngc_written_machines.specs.Motors as spec;
 
 use ngc_machine_figures::AxesSheet;
@@ -46,6 +45,24 @@ fn is_far(travel: Range) -> bool
     !(travel.low.unsigned_abs() <= 1_000_000_000 && travel.high.unsigned_abs() <= 1_000_000_000)
 }
 
+// Returns the next multiple of a step from the low end of a travel up.
+fn moved_up(step: u32, end: i64) -> i64
+    requires step { 0 < step }
+    requires near { unsigned_abs end ≤ 1000000000 }
+    ensures { result ≡ spec.moved_up step end }
+{
+    end + (-end).rem_euclid(i64::from(step))
+}
+
+// Returns the next multiple of a step from the high end of a travel down.
+fn moved_down(step: u32, end: i64) -> i64
+    requires step { 0 < step }
+    requires near { unsigned_abs end ≤ 1000000000 }
+    ensures { result ≡ spec.moved_down step end }
+{
+    end - end.rem_euclid(i64::from(step))
+}
+
 fn moved_inwards(step: u32, travel: Range) -> Range
     requires step { 0 < step }
     requires near { spec.is_far travel ≡ false }
@@ -54,10 +71,9 @@ fn moved_inwards(step: u32, travel: Range) -> Range
       high = spec.moved_down step travel.high;
     } }
 {
-    let step = i64::from(step);
     Range {
-        low: travel.low + (-travel.low).rem_euclid(step),
-        high: travel.high - travel.high.rem_euclid(step),
+        low: moved_up(step, travel.low),
+        high: moved_down(step, travel.high),
     }
 }
 
@@ -73,11 +89,7 @@ fn ends_of(grid: u32, step: u32, travel: Range) -> Range
 
 /// Returns the travel of each axis. Where the motor's step isn't the grid's, its ends are moved
 /// inwards to whole steps of the motor; an end that is out of range stays.
-pub(crate) fn travel_ends(
-    grid: u32,
-    own: &PerAxis<MotorScale>,
-    axes: &AxesSheet,
-) -> PerAxis<Range>
+pub(crate) fn travel_ends(grid: u32, own: &PerAxis<MotorScale>, axes: &AxesSheet) -> PerAxis<Range>
     requires { spec.AreScales own.now }
     ensures { result ≡ spec.travel_ends grid own.now axes.now }
 {
