@@ -21,7 +21,7 @@ const STEPS: Argument<'static> = Argument {
     is_named: true,
     is_required: false,
     takes: Takes::Text("N"),
-    help: "Steps of a motor for a millimetre, the same for all axes",
+    help: "Steps of the motors for a millimetre: one number for all\naxes, or X,Y,Z",
 };
 
 const TRAVEL: Argument<'static> = Argument {

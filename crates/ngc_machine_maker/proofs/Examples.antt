@@ -9,14 +9,23 @@ use Rattle.ngc_machine_maker.specs.declared.figures.Figures.{Figures}
 use Rattle.ngc_machine_maker.specs.declared.figures.Length.{Length}
 use Rattle.ngc_machine_maker.specs.declared.figures.PerAxis.{PerAxis}
 use Rattle.ngc_machine_maker.specs.declared.figures.Speed.{Speed}
+use Rattle.ngc_machine_maker.specs.declared.figures.StepsPerMillimetre.{StepsPerMillimetre}
 use Rattle.ngc_machine_maker.specs.declared.refusal.FigureRefusal.TheVariants as refusals
 use Rattle.ngc_machine_maker.specs.declared.refusal.Stop.TheVariants as stops
 use Rattle.ngc_machine_maker.specs.Formulas.{nearest_step, no_dump}
+use Rattle.ngc_machine_maker.specs.Motors.{checked_motors, finest}
 use Rattle.ngc_machine_maker.specs.Numbers.{numbers_of, ring_of}
 use Rattle.ngc_machine_maker.specs.Options.{usual_corner}
 
 abbrev pub three : {T : Type 0} → T → T → T → PerAxis T
 three x y z = record { x = x; y = y; z = z }
+
+-- steps per millimetre, in millionths
+abbrev pub motor : ℕ → StepsPerMillimetre
+motor n = record { millionths = n }
+
+abbrev pub same_motors : ℕ → PerAxis StepsPerMillimetre
+same_motors n = three (motor n) (motor n) (motor n)
 
 -- in whole millimetres, millimetres per minute, and millimetres per second squared
 abbrev pub mm : ℕ → Length
@@ -60,6 +69,7 @@ nearest_of_800 = refl
 abbrev pub small_router : Figures
 small_router = record {
   scale = record { steps = 800000000; per = 1000000000000 };
+  motors = same_motors 800000000;
   travel = three (mm 300) (mm 180) (mm 45);
   feed = three (mm_a_minute 1000) (mm_a_minute 1000) (mm_a_minute 600);
   acceleration = three (mm_a_second_squared 30) (mm_a_second_squared 30) (mm_a_second_squared 20);
@@ -102,6 +112,7 @@ numbers_of_a_small_router = refl
 abbrev bench_mill : Figures
 bench_mill = record {
   scale = record { steps = 1259842520; per = 1000000000000 };
+  motors = same_motors 1259842520;
   travel = three (mm 220) (mm 127) (mm 159);
   feed = three (mm_a_minute 558) (mm_a_minute 558) (mm_a_minute 400);
   acceleration = three (mm_a_second_squared 50) (mm_a_second_squared 50) (mm_a_second_squared 50);
@@ -143,6 +154,7 @@ numbers_of_a_bench_mill = refl
 abbrev pub large_router : Figures
 large_router = record {
   scale = record { steps = 188976000; per = 1000000000000 };
+  motors = same_motors 188976000;
   travel = three (mm 800) (mm 600) (mm 100);
   feed = three (mm_a_minute 10000) (mm_a_minute 10000) (mm_a_minute 5000);
   acceleration = three (mm_a_second_squared 200) (mm_a_second_squared 200) (mm_a_second_squared 150);
@@ -208,3 +220,31 @@ greatest_ring = refl
 
 long_ring : numbers_of (record large_router { ring = 1025 }) ≡ Err refusals.Ring
 long_ring = refl
+
+-- ---- motors
+
+-- 400 steps per millimetre are the finest, wherever they are
+finest_on_z : finest (three (motor 100000000) (motor 100000000) (motor 400000000)) ≡ motor 400000000
+finest_on_z = refl
+
+finest_on_x : finest (three (motor 400000000) (motor 40000000) (motor 100000000)) ≡ motor 400000000
+finest_on_x = refl
+
+unequal_with_rates : checked_motors true (three (motor 100000000) (motor 100000000) (motor 400000000)) ≡ Err (refusals.UnequalSteps (three (motor 100000000) (motor 100000000) (motor 400000000)))
+unequal_with_rates = refl
+
+unequal_without_rates : checked_motors false (three (motor 100000000) (motor 100000000) (motor 400000000)) ≡ Ok (three (motor 100000000) (motor 100000000) (motor 400000000))
+unequal_without_rates = refl
+
+equal_with_rates : checked_motors true (same_motors 800000000) ≡ Ok (same_motors 800000000)
+equal_with_rates = refl
+
+-- 20 and 2,000 steps per millimetre are the limits, for each motor
+limits_of_motors : checked_motors false (three (motor 20000000) (motor 2000000000) (motor 400000000)) ≡ Ok (three (motor 20000000) (motor 2000000000) (motor 400000000))
+limits_of_motors = refl
+
+long_step_of_y : checked_motors false (three (motor 100000000) (motor 19999999) (motor 400000000)) ≡ Err refusals.Step
+long_step_of_y = refl
+
+short_step_of_z : checked_motors false (three (motor 100000000) (motor 100000000) (motor 2000000001)) ≡ Err refusals.Step
+short_step_of_z = refl

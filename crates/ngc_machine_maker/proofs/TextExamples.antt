@@ -22,10 +22,10 @@ use Rattle.ngc_grbl_lines.specs.Entries.{content, after_dollar, after_number, se
 use Rattle.ngc_machine_maker.specs.DumpLines.{supplied_lines, axis_defaults, offset_after}
 use Rattle.ngc_machine_maker.specs.Grbl.{has_setting, value_in, setting, figures_in}
 use Rattle.ngc_machine_maker.specs.Stored.{stored_text, stored_in, place}
-use Rattle.ngc_machine_maker.specs.Options.{lengths_in, speeds_in, second_speed_in, frame_in}
-use Rattle.ngc_machine_maker.specs.Sentences.{refusal_text, refusal_line, axis_text, stop_text, value_text as mistake_text, unequal_text, example_text}
+use Rattle.ngc_machine_maker.specs.Options.{lengths_in, motors_in, speeds_in, second_speed_in, frame_in}
+use Rattle.ngc_machine_maker.specs.Sentences.{refusal_text, refusal_line, axis_text, stop_text, value_text as mistake_text, unequal_text}
 use Rattle.ngc_machine_maker.specs.Texts.{line_text, value_text, remark_text}
-use Rattle.ngc_machine_maker.proofs.Examples.{three, mm, mm_a_minute, small_router, large_router}
+use Rattle.ngc_machine_maker.proofs.Examples.{three, mm, mm_a_minute, motor, same_motors, small_router, large_router}
 
 -- ---- the file of the small router, and the note of the large one
 
@@ -83,6 +83,11 @@ note_of_a_large_router : notes_text (record small_numbers {
 unfolding digits number_text scale_after offset_after scale_text steps_text errors_text
 note_of_a_large_router = refl
 
+-- a note speaks of one step that serves all motors
+no_note_of_unequal_motors : notes_text (record small_numbers { step = 5292 }) (record large_router { motors = three (motor 40000000) (motor 40000000) (motor 188976000) }) ≡ codes ""
+unfolding scale_after offset_after
+no_note_of_unequal_motors = refl
+
 -- ---- options
 
 decimal_number : number_in 6 (codes "188.976") ≡ Some 188976000
@@ -96,6 +101,18 @@ number_without_a_whole = refl
 too_many_decimals : number_in 3 (codes "1.0005") ≡ None
 unfolding number_in
 too_many_decimals = refl
+
+motors_of_one_number : motors_in (codes "188.976") ≡ Ok (same_motors 188976000)
+unfolding number_in
+motors_of_one_number = refl
+
+motors_of_three_numbers : motors_in (codes "100,100,400") ≡ Ok (three (motor 100000000) (motor 100000000) (motor 400000000))
+unfolding number_in
+motors_of_three_numbers = refl
+
+motors_of_two_numbers : motors_in (codes "100,400") ≡ Err (refusals.Unread fields.Steps)
+unfolding number_in
+motors_of_two_numbers = refl
 
 two_points : number_in 6 (codes "1.2.3") ≡ None
 unfolding number_in
@@ -159,7 +176,15 @@ figures_of_settings : figures_in (codes "Grbl 1.1f ['$' for help]\n$23=3 (homing
 unfolding lines_of content after_dollar after_number setting_number setting_value place_text place_name place_values stored_text has_setting value_in setting place number_in
 figures_of_settings = refl
 
-unequal_settings : figures_in (codes "$23=3\n$27=1.000\n$100=800.000\n$101=400.000\n$102=800.000\n" ++ settings_of_feed) ≡ Err (refusals.UnequalSteps (three 800000000 400000000 800000000))
+-- belts of 100 steps a millimetre on X and Y and a screw of 400 on Z: the path has the grid of Z
+unequal_settings : figures_in (codes "$23=3\n$27=1.000\n$100=100.000\n$101=100.000\n$102=400.000\n" ++ settings_of_feed)
+    ≡ Ok (record small_router {
+      scale = record { steps = 400000000; per = 1000000000000 };
+      motors = three (motor 100000000) (motor 100000000) (motor 400000000);
+      grbl = true;
+      zero = three ends.High ends.High ends.High;
+      start = three (mm 299) (mm 179) (mm 1);
+    })
 unfolding lines_of content after_dollar after_number setting_number setting_value place_text place_name place_values stored_text has_setting value_in setting place number_in
 unequal_settings = refl
 
@@ -202,7 +227,7 @@ sentence_of_a_setting : refusal_line (refusals.Setting 100 2) ≡ codes "line 2:
 unfolding digits refusal_text mistake_text
 sentence_of_a_setting = refl
 
-sentence_of_unequal_steps : refusal_line (refusals.UnequalSteps (three 80000000 80000000 400000000))
-    ≡ codes "$100, $101 and $102 are 80, 80 and 400 steps a mm, and one step serves all axes: set the drivers' microsteps so that all three are equal, for example 400\n"
-unfolding digits number_text refusal_text unequal_text example_text
+sentence_of_unequal_steps : refusal_line (refusals.UnequalSteps (three (motor 80000000) (motor 80000000) (motor 188947000)))
+    ≡ codes "the motors have 80, 80 and 188.947 steps a mm, and with --rates one step serves all axes: leave out --rates\n"
+unfolding digits number_text refusal_text unequal_text
 sentence_of_unequal_steps = refl

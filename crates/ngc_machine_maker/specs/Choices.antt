@@ -16,6 +16,7 @@ use Rattle.ngc_machine_maker.specs.declared.refusal.Stop.{Stop}
 use Rattle.ngc_machine_maker.specs.declared.refusal.Stop.TheVariants as stops
 use Rattle.ngc_machine_maker.specs.Decimals.{begins, number_in, three_texts, three_by}
 use Rattle.ngc_machine_maker.specs.Formulas.{and_then}
+use Rattle.ngc_machine_maker.specs.Motors.{checked_motors}
 use Rattle.ngc_machine_maker.specs.Options.{each_of, length_of, acceleration_of, read_by}
 use Rattle.ngc_machine_maker.specs.Options.{second_speed_in}
 
@@ -110,8 +111,10 @@ chosen f choices =
     and_then (start_by f.zero f.start choices.start) (λ start.
     and_then (home_by f.zero stops.Home28 f.home28 choices.home28) (λ home28.
     and_then (home_by f.zero stops.Home30 f.home30 choices.home30) (λ home30.
+    and_then (checked_motors choices.rates f.motors) (λ motors.
     Ok (record {
       scale = f.scale;
+      motors = motors;
       travel = f.travel;
       feed = f.feed;
       acceleration = f.acceleration;
@@ -127,4 +130,4 @@ chosen f choices =
       home28 = home28;
       home30 = home30;
       dump = f.dump;
-    })))))))))
+    }))))))))))

@@ -9,7 +9,7 @@ use Rattle.ngc_machine_maker.specs.declared.line.Value.TheVariants as values
 use Rattle.ngc_machine_maker.specs.declared.numbers.MachineNumbers.{MachineNumbers}
 use Rattle.ngc_machine_maker.specs.DumpLines.{supplied_lines, offset_after, origin_lines, home_by}
 use Rattle.ngc_machine_maker.specs.ShopUnits.{speed, speeds, acceleration, arc_acceleration}
-use Rattle.ngc_machine_maker.specs.ShopUnits.{motor_step, is_whole, is_short, errors}
+use Rattle.ngc_machine_maker.specs.ShopUnits.{motor_step, is_rounded, is_short, errors}
 use Rattle.ngc_machine_maker.specs.Texts.{line_text, thousandths_text, axes_text}
 
 unfoldable pub heading : List ℕ
@@ -17,7 +17,7 @@ heading =
     codes "# Made by `ngc machine`. Lengths are nanometres, rates are millionths of a step in a\n"
     ++ codes "# tick, three numbers are X, Y, Z, and remarks are in the units of a shop.\n"
 
--- ---- the motor's step, if it is no whole number of nanometres
+-- ---- the motors' step, if all have the same and it is no whole number of nanometres
 
 abbrev pub direction_text : Bool → List ℕ
 direction_text short = if short then codes "less far" else codes "farther"
@@ -36,7 +36,7 @@ scale_text n f = steps_text n f ++ codes ": over their travel the axes go " ++ e
 
 -- after the first word of a remark or a note, if there is anything to say
 unfoldable pub scale_after : List ℕ → MachineNumbers → Figures → List ℕ
-scale_after before n f = if is_whole n f then [] else before ++ scale_text n f
+scale_after before n f = if is_rounded n f then before ++ scale_text n f else []
 
 -- ---- the keys
 

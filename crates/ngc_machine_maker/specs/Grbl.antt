@@ -10,7 +10,6 @@ use Rattle.ngc_machine_maker.specs.declared.figures.Figures.{Figures}
 use Rattle.ngc_machine_maker.specs.declared.figures.Dump.{Dump}
 use Rattle.ngc_machine_maker.specs.declared.figures.Length.{Length}
 use Rattle.ngc_machine_maker.specs.declared.figures.PerAxis.{PerAxis}
-use Rattle.ngc_machine_maker.specs.declared.figures.StepsPerMillimetre.{StepsPerMillimetre}
 use Rattle.ngc_machine_maker.specs.declared.figures.StoredPlaces.{StoredPlaces}
 use Rattle.ngc_machine_maker.specs.declared.figures.Supplied.{Supplied}
 use Rattle.ngc_machine_maker.specs.declared.grbl.Settings.{Settings}
@@ -87,19 +86,13 @@ three_required text number places =
     and_then (required text (number + 2) places) (λ z.
     Ok (record { x = x; y = y; z = z }))))
 
--- one step serves all axes
-abbrev pub common_steps : PerAxis ℕ → Result StepsPerMillimetre FigureRefusal
-common_steps p =
-    if p.x == p.y && p.y == p.z then Ok (steps p.x) else Err (refusals.UnequalSteps p)
-
 -- $100 to $102 are steps per millimetre, $110 to $112 the greatest speeds in millimetres per
 -- minute, $120 to $122 accelerations in millimetres per second squared, $130 to $132 the travel in
 -- millimetres, $23 the mask of axes that home to their low end, $27 the pull-off in millimetres,
 -- and $13 is not 0 if places are in inches
 abbrev pub settings_in : List ℕ → Result Settings FigureRefusal
 settings_in text =
-    and_then (three_required text 100 6) (λ all_steps.
-    and_then (common_steps all_steps) (λ steps.
+    and_then (three_required text 100 6) (λ motors.
     and_then (three_settings text 110 3) (λ feed.
     and_then (three_settings text 120 3) (λ acceleration.
     and_then (three_required text 130 6) (λ travel.
@@ -107,14 +100,14 @@ settings_in text =
     and_then (setting text 27 6) (λ pull_off.
     and_then (setting text 13 0) (λ unit.
     Ok (record {
-      steps = steps;
+      motors = each_of steps motors;
       feed = feed;
       acceleration = acceleration;
       travel = travel;
       mask = mask;
       pull_off = pull_off;
       unit = unit;
-    })))))))))
+    }))))))))
 
 -- ---- GRBL's defaults: 500 mm/min, 10 mm/s^2, homing to the high ends, a pull-off of 1 mm, and
 -- places in millimetres. They are those of its file config.h and of DEFAULTS_GENERIC, version 1.1
@@ -173,6 +166,7 @@ abbrev pub started_by_grbl : Figures → PerAxis Length → Dump → Figures
 started_by_grbl f start dump =
     record {
       scale = f.scale;
+      motors = f.motors;
       travel = f.travel;
       feed = f.feed;
       acceleration = f.acceleration;
@@ -193,7 +187,7 @@ started_by_grbl f start dump =
 -- zero is at the high end of each axis
 abbrev pub plain_figures : Settings → Figures
 plain_figures s =
-    figures_by s.steps (each_of length_of s.travel) (each_of speed_of (each_or 500000 s.feed))
+    figures_by s.motors (each_of length_of s.travel) (each_of speed_of (each_or 500000 s.feed))
     (each_of acceleration_of (each_or 10000 s.acceleration)) (same_for_all ends.High)
 
 -- the start is where homing ends

@@ -1,4 +1,5 @@
 pub mod Formulas
+pub mod Motors
 pub mod Ranges
 pub mod Safe
 pub mod Places

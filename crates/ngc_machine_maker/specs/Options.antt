@@ -17,6 +17,7 @@ use Rattle.ngc_machine_maker.specs.declared.refusal.FigureRefusal.{FigureRefusal
 use Rattle.ngc_machine_maker.specs.declared.refusal.FigureRefusal.TheVariants as refusals
 use Rattle.ngc_machine_maker.specs.Decimals.{number_in, numbers_in}
 use Rattle.ngc_machine_maker.specs.Formulas.{and_then, least, no_dump, ratio_of}
+use Rattle.ngc_machine_maker.specs.Motors.{finest}
 
 abbrev pub same_for_all : {T : Type 0} → T → PerAxis T
 same_for_all value = record { x = value; y = value; z = value }
@@ -47,9 +48,15 @@ abbrev pub read_by : {T U : Type 0} → Field → (T → U) → Option T → Res
 read_by field f None = Err (refusals.Unread field)
 read_by field f (Some x) = Ok (f x)
 
+-- one number for all axes, or a number for each
+abbrev pub all_or_each : Option ℕ → Option (PerAxis ℕ) → Option (PerAxis ℕ)
+all_or_each (Some n) each = Some (same_for_all n)
+all_or_each None each = each
+
 -- steps per millimetre have up to six decimals, and so have lengths in millimetres
-abbrev pub steps_in : List ℕ → Result StepsPerMillimetre FigureRefusal
-steps_in text = read_by fields.Steps steps (number_in 6 text)
+abbrev pub motors_in : List ℕ → Result (PerAxis StepsPerMillimetre) FigureRefusal
+motors_in text =
+    read_by fields.Steps (each_of steps) (all_or_each (number_in 6 text) (numbers_in 6 text))
 
 abbrev pub lengths_in : Field → List ℕ → Result (PerAxis Length) FigureRefusal
 lengths_in field text = read_by field (each_of length_of) (numbers_in 6 text)
@@ -98,13 +105,15 @@ reached_in_5_ms acceleration = acceleration * 5 * 60 / 1000000
 abbrev pub usual_corner : PerAxis Acceleration → Speed
 usual_corner accelerations = speed_of (max (reached_in_5_ms (least accelerations)) 120000)
 
--- the figures of a machine with this corner speed, the same jump, a ring of 256 commands, and arcs
--- at their feed and their turn. It starts at zero, and its programs are in our own language
-abbrev pub figures_by : StepsPerMillimetre → PerAxis Length → PerAxis Speed →
+-- the figures of a machine whose path has the grid of its finest motor. It has this corner speed, the
+-- same jump, a ring of 256 commands, and arcs at their feed and their turn. It starts at zero, and
+-- its programs are in our own language
+abbrev pub figures_by : PerAxis StepsPerMillimetre → PerAxis Length → PerAxis Speed →
     PerAxis Acceleration → PerAxis End → Figures
-figures_by steps travel feed acceleration zero =
+figures_by motors travel feed acceleration zero =
     record {
-      scale = ratio_of steps;
+      scale = ratio_of (finest motors);
+      motors = motors;
       travel = travel;
       feed = feed;
       acceleration = acceleration;
@@ -124,9 +133,9 @@ figures_by steps travel feed acceleration zero =
 
 abbrev pub figures_of : Options → Result Figures FigureRefusal
 figures_of o =
-    and_then (steps_in o.steps_per_mm.now) (λ steps.
+    and_then (motors_in o.steps_per_mm.now) (λ motors.
     and_then (lengths_in fields.Travel o.travel.now) (λ travel.
     and_then (speeds_in fields.Feed o.feed.now) (λ feed.
     and_then (accelerations_in fields.Acceleration o.acceleration.now) (λ acceleration.
     and_then (frame_by o.frame) (λ zero.
-    Ok (figures_by steps travel feed acceleration zero))))))
+    Ok (figures_by motors travel feed acceleration zero))))))

@@ -1,10 +1,10 @@
 -- The texts of refusals: what is wrong, and what to enter instead.
-use Rattle.std.specs.Prelude.{ℕ, ◌%◌, ◌==◌, ◌&&◌, nat_lt, nat_le, max, Bool, List, [], ◌++◌, codes}
-use Rattle.std.specs.Prelude.{decimal, if◌then◌else◌}
+use Rattle.std.specs.Prelude.{ℕ, List, ◌++◌, codes, decimal}
 use Rattle.ngc_text.specs.Millimetres.{size_text}
 use Rattle.ngc_machine_maker.specs.declared.figures.Axis.{Axis}
 use Rattle.ngc_machine_maker.specs.declared.figures.Axis.TheVariants as axes
 use Rattle.ngc_machine_maker.specs.declared.figures.PerAxis.{PerAxis}
+use Rattle.ngc_machine_maker.specs.declared.figures.StepsPerMillimetre.{StepsPerMillimetre}
 use Rattle.ngc_machine_maker.specs.declared.refusal.Field.{Field}
 use Rattle.ngc_machine_maker.specs.declared.refusal.Field.TheVariants as fields
 use Rattle.ngc_machine_maker.specs.declared.refusal.FigureRefusal.{FigureRefusal}
@@ -25,7 +25,7 @@ stop_text stops.Home30 = codes "home30"
 
 unfoldable pub field_text : Field → List ℕ
 field_text fields.Steps = codes
-    "--steps-per-mm is not one number for all axes with up to six decimals, as 188.976"
+    "--steps-per-mm is not one number or three, with at most six decimals, as 188.976 or 100,100,400"
 field_text fields.Travel = codes
     "--travel is not three lengths in mm, with at most six decimals, as 300,180,45"
 field_text fields.Feed = codes
@@ -48,30 +48,12 @@ unfoldable pub value_text : ℕ → ℕ → List ℕ → List ℕ
 value_text number at mistake = codes "line " ++ decimal at ++ codes ": the value of $"
     ++ decimal number ++ mistake
 
--- ---- steps that differ
+-- ---- motors that differ
 
-abbrev pub greatest : PerAxis ℕ → ℕ
-greatest p = max (max p.x p.y) p.z
-
-abbrev pub divides : ℕ → ℕ → Bool
-divides n m = nat_lt 0 n && (m % n == 0)
-
--- other microsteps can make all of them the greatest, if that has up to 2,000 steps a millimetre
--- and is a multiple of the others
-abbrev pub is_example : PerAxis ℕ → Bool
-is_example p =
-    nat_le (greatest p) 2000000000
-    && (divides p.x (greatest p) && (divides p.y (greatest p) && divides p.z (greatest p)))
-
--- they are in millionths
-unfoldable pub unequal_text : PerAxis ℕ → List ℕ
-unequal_text p = codes "$100, $101 and $102 are " ++ size_text p.x ++ codes ", " ++ size_text p.y
-    ++ codes " and " ++ size_text p.z ++ codes " steps a mm, and one step serves all axes: "
-    ++ codes "set the drivers' microsteps so that all three are equal"
-
-unfoldable pub example_text : PerAxis ℕ → List ℕ
-example_text p =
-    if is_example p then codes ", for example " ++ size_text (greatest p) else []
+unfoldable pub unequal_text : PerAxis StepsPerMillimetre → List ℕ
+unequal_text m = codes "the motors have " ++ size_text m.x.millionths ++ codes ", "
+    ++ size_text m.y.millionths ++ codes " and " ++ size_text m.z.millionths
+    ++ codes " steps a mm, and with --rates one step serves all axes: leave out --rates"
 
 unfoldable pub refusal_text : FigureRefusal → List ℕ
 refusal_text (refusals.Unread field) = field_text field
@@ -105,7 +87,7 @@ refusal_text (refusals.Digits number at) = value_text number at
     (codes " has too many digits: write it as Grbl does, with at most three decimals")
 refusal_text (refusals.Place stored at) = codes "line " ++ decimal at ++ codes ": the place of "
     ++ stored_text stored ++ codes " is not X, Y and Z, each at most 1000 mm from zero: correct it"
-refusal_text (refusals.UnequalSteps steps) = unequal_text steps ++ example_text steps
+refusal_text (refusals.UnequalSteps motors) = unequal_text motors
 
 -- a sentence on a line of its own
 abbrev pub refusal_line : FigureRefusal → List ℕ

@@ -1,9 +1,10 @@
 -- The numbers of a machine file in the units of a shop, as `ngc show` prints them.
-use Rattle.std.specs.Prelude.{ℕ, ◌+◌, ◌-◌, ◌*◌, ◌/◌, ◌==◌, nat_lt, ℤ, ◌-ℤ◌, unsigned_abs, Bool}
+use Rattle.std.specs.Prelude.{ℕ, ◌+◌, ◌-◌, ◌*◌, ◌/◌, ◌==◌, ◌&&◌, not, nat_lt, ℤ, ◌-ℤ◌, unsigned_abs, Bool}
 use Rattle.ngc_machine_maker.specs.declared.figures.Figures.{Figures}
 use Rattle.ngc_machine_maker.specs.declared.figures.PerAxis.{PerAxis}
 use Rattle.ngc_machine_maker.specs.declared.numbers.MachineNumbers.{MachineNumbers}
 use Rattle.ngc_machine_maker.specs.Formulas.{diagonal_turns}
+use Rattle.ngc_machine_maker.specs.Motors.{are_equal}
 
 -- the number of units in a number, to the nearest; halves go up
 abbrev pub rounded : ℕ → ℕ → ℕ
@@ -33,7 +34,7 @@ acceleration n = rounded (gain n n.change) 1000000000
 abbrev pub arc_acceleration : MachineNumbers → ℕ
 arc_acceleration n = rounded (diagonal_turns n.arc_feed * gain n n.turn) 1000000000000000
 
--- ---- the motor's step and the file's
+-- ---- the finest motor's step and the file's
 
 -- the motor's step, in thousandths of a nanometre
 abbrev pub motor_step : Figures → ℕ
@@ -45,6 +46,10 @@ file_step n f = n.step * f.scale.steps
 
 abbrev pub is_whole : MachineNumbers → Figures → Bool
 is_whole n f = file_step n f == f.scale.per
+
+-- one step serves all motors, and the file's is another
+abbrev pub is_rounded : MachineNumbers → Figures → Bool
+is_rounded n f = are_equal f.motors && not (is_whole n f)
 
 -- if the file's step is the longer one, the axes go less far than the file says
 abbrev pub is_short : MachineNumbers → Figures → Bool

@@ -1,10 +1,11 @@
 //! The optional settings of a machine, besides its figures.
-ghost use Rattle.std.specs.Prelude.{◌≡◌, IfOk};
+ghost use Rattle.std.specs.Prelude.{◌≡◌};
 ghost use Rattle.ngc_machine_maker.specs.Choices as spec;
 ghost use Rattle.ngc_machine_maker.specs.Options.{second_speed_in};
 
 use crate::decimal::{begins, number_in, split_three, without_first};
 use crate::figures::{Acceleration, End, Figures, Length, PerAxis, Speed};
+use crate::motors::checked_motors;
 use crate::options::acceleration_of;
 use crate::refusal::{Field, FigureRefusal, Stop};
 
@@ -26,6 +27,8 @@ pub struct Choices<'a> {
     pub ring: Option<&'a [u8]>,
     /// Whether arcs run at their feed at every place. They do so by default.
     pub arc_feed: bool,
+    /// Whether the file has rates, of version 2, which are in one step for all axes.
+    pub rates: bool,
     /// The coordinates of the start in millimetres, as `0,0,-1`.
     pub start: Option<&'a [u8]>,
     /// The coordinates of the place to which `G28` goes. `None`: the start.
@@ -212,10 +215,10 @@ fn home_by(
 }
 
 impl Figures {
-    /// Returns the figures with these choices, or the first choice that can't be read.
+    /// Returns the figures with these choices, or the first choice that can't be read. It refuses
+    /// motors whose step is out of range, and with rates motors whose steps differ.
     pub fn with_choices(&self, choices: &Choices<'_>) -> Result<Figures, FigureRefusal>
-        ensures value { result ≡ spec.chosen self.now choices.now }
-        ensures scale { IfOk result (λ f. f.scale ≡ self.now.scale) }
+        ensures { result ≡ spec.chosen self.now choices.now }
     {
         let corner = corner_by(self.corner, choices.corner)?;
         let jump = jump_by(self.jump, choices.jump)?;
@@ -225,8 +228,10 @@ impl Figures {
         let start = start_by(&self.zero, self.start, choices.start)?;
         let home28 = home_by(&self.zero, Stop::Home28, self.home28, choices.home28)?;
         let home30 = home_by(&self.zero, Stop::Home30, self.home30, choices.home30)?;
+        let motors = checked_motors(choices.rates, &self.motors)?;
         Ok(Figures {
             scale: self.scale,
+            motors,
             travel: self.travel,
             feed: self.feed,
             acceleration: self.acceleration,

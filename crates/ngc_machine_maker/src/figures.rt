@@ -147,8 +147,10 @@ impl Dump {
 /// The figures of a machine. A stop is the distance of an axis from its zero, into the travel.
 #[derive(Clone, Copy)]
 pub struct Figures {
-    /// The step of the motors: the same on all axes.
+    /// The step of the path's grid: that of the finest motor.
     pub scale: Ratio,
+    /// The motor of each axis.
+    pub motors: PerAxis<StepsPerMillimetre>,
     pub travel: PerAxis<Length>,
     /// The greatest speed of each axis.
     pub feed: PerAxis<Speed>,

@@ -23,7 +23,7 @@ use crate::figures::{Figures, PerAxis};
 use crate::line::{Remark, Value, say_line};
 use crate::numbers::MachineNumbers;
 use crate::shop_units::{
-    acceleration, arc_acceleration, errors, is_short, is_whole, motor_step, speed, speeds,
+    acceleration, arc_acceleration, errors, is_rounded, is_short, motor_step, speed, speeds,
 };
 use ngc_sentences::{Page, Part, say};
 use ngc_text::{Sink, WriteFault};
@@ -73,7 +73,7 @@ fn direction(short: bool) -> &'static [u8]
     if short { b"less far" } else { b"farther" }
 }
 
-// Says how far the axes go if the motor's step is no whole number of nanometres.
+// Says how far the axes go if the motors' step is no whole number of nanometres.
 #[tactic(auto, unfolding(crate::specs::File::scale_text))]
 fn say_scale<W: Sink>(numbers: &MachineNumbers, figures: &Figures, page: &mut Page, output: &mut W)
     requires numbers { AreInFile numbers.now }
@@ -123,7 +123,7 @@ fn say_scale_after<W: Sink>(
         (W.failures output.old) (W.failures output.new) page.old page.new
         (scale_after before.now numbers.now figures.now) }
 {
-    if !is_whole(numbers, figures) {
+    if is_rounded(numbers, figures) {
         say_some_scale(before, numbers, figures, page, output);
     }
 }
@@ -373,8 +373,8 @@ fn say_notes<W: Sink>(numbers: &MachineNumbers, figures: &Figures, page: &mut Pa
     say_offset_after(b"note: ", &figures.dump.places, page, output);
 }
 
-/// Writes the notes on the file: how far the axes go if the motors' step is no whole number of
-/// nanometres, and that an offset of G92 was in force. After a fault a prefix of them is written, and the sink has counted the failure.
+/// Writes the notes on the file: how far the axes go if the motors have one step and it is no whole
+/// number of nanometres, and that an offset of G92 was in force. After a fault a prefix of them is written, and the sink has counted the failure.
 pub fn write_notes<W: Sink>(
     numbers: &MachineNumbers,
     figures: &Figures,

@@ -1,5 +1,5 @@
 //! Figures from the settings that a controller with Grbl prints.
-ghost use Rattle.std.specs.Prelude.{◌≡◌, ◌+◌, ◌≤◌, IfOk};
+ghost use Rattle.std.specs.Prelude.{◌≡◌, ◌+◌, ◌≤◌};
 ghost use Rattle.ngc_machine_maker.specs.Grbl as spec;
 ghost use Rattle.ngc_machine_maker.specs.Options as options;
 
@@ -7,6 +7,7 @@ use crate::decimal::{begins, is_number, number_in, without_first};
 use crate::figures::{
     Dump, End, Figures, Length, PerAxis, StepsPerMillimetre, StoredPlaces, Supplied,
 };
+use crate::motors::motors_of;
 use crate::options::{accelerations, all_at, figures_by, length_of, lengths, speeds};
 use crate::refusal::FigureRefusal;
 use crate::stored::places_in;
@@ -16,7 +17,7 @@ use ngc_grbl_lines::{setting_number, setting_value, split_line};
 /// and accelerations in thousandths of a millimetre.
 #[derive(Clone, Copy)]
 pub(crate) struct Settings {
-    pub steps: StepsPerMillimetre,
+    pub motors: PerAxis<StepsPerMillimetre>,
     pub feed: PerAxis<Option<u32>>,
     pub acceleration: PerAxis<Option<u32>>,
     pub travel: PerAxis<u32>,
@@ -121,23 +122,10 @@ fn three_required(text: &[u8], number: u32, places: usize) -> Result<PerAxis<u32
     Ok(PerAxis { x, y, z })
 }
 
-fn common_steps(steps: &PerAxis<u32>) -> Result<StepsPerMillimetre, FigureRefusal>
-    ensures { result ≡ spec.common_steps steps.now }
-{
-    if steps.x == steps.y && steps.y == steps.z {
-        Ok(StepsPerMillimetre {
-            millionths: steps.x,
-        })
-    } else {
-        Err(FigureRefusal::UnequalSteps(*steps))
-    }
-}
-
 fn settings_in(text: &[u8]) -> Result<Settings, FigureRefusal>
     ensures { result ≡ spec.settings_in text.now }
 {
     let steps = three_required(text, 100, 6)?;
-    let steps = common_steps(&steps)?;
     let feed = three_settings(text, 110, 3)?;
     let acceleration = three_settings(text, 120, 3)?;
     let travel = three_required(text, 130, 6)?;
@@ -145,7 +133,7 @@ fn settings_in(text: &[u8]) -> Result<Settings, FigureRefusal>
     let pull_off = setting(text, 27, 6)?;
     let unit = setting(text, 13, 0)?;
     Ok(Settings {
-        steps,
+        motors: motors_of(&steps),
         feed,
         acceleration,
         travel,
@@ -247,7 +235,7 @@ fn plain_figures(settings: &Settings) -> Figures
     let feed = each_or(500_000, &settings.feed);
     let acceleration = each_or(10_000, &settings.acceleration);
     figures_by(
-        settings.steps,
+        settings.motors,
         lengths(&settings.travel),
         speeds(&feed),
         accelerations(&acceleration),
@@ -280,11 +268,10 @@ fn figures_from(settings: &Settings, places: StoredPlaces) -> Figures
 /// prints after `$$`, and the places that it prints after `$#`. Zero is at the high end of each axis,
 /// the start is where homing ends, and programs are in the language of Grbl. A speed, an
 /// acceleration, `$23`, `$27` or `$13` that is missing is Grbl's default. It refuses the first
-/// setting that can't be read, steps or travel that are missing, steps per millimetre that differ
-/// from axis to axis, and the first place that can't be read.
+/// setting that can't be read, steps or travel that are missing, and the first place that can't be
+/// read.
 pub fn read_grbl(text: &[u8]) -> Result<Figures, FigureRefusal>
-    ensures value { result ≡ spec.figures_in text.now }
-    ensures decimal { IfOk result (λ f. f.scale.per ≡ 1000000000000) }
+    ensures { result ≡ spec.figures_in text.now }
 {
     let settings = settings_in(text)?;
     let inches = or_default(0, settings.unit) != 0;

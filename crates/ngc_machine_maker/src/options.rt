@@ -1,19 +1,21 @@
 //! Figures from the texts of options.
-ghost use Rattle.std.specs.Prelude.{◌≡◌, IfOk};
+ghost use Rattle.std.specs.Prelude.{◌≡◌};
 ghost use Rattle.ngc_machine_maker.specs.declared.refusal.Field.TheVariants as fields;
+ghost use Rattle.ngc_machine_maker.specs.Decimals.{number_in as spec_number_in, numbers_in as spec_numbers_in};
 ghost use Rattle.ngc_machine_maker.specs.Options as spec;
 
 use crate::decimal::{number_in, numbers_in};
 use crate::figures::{
     Acceleration, Dump, End, Figures, Length, PerAxis, Ratio, Speed, StepsPerMillimetre,
 };
+use crate::motors::{finest, motors_of};
 use crate::rates::least;
 use crate::refusal::{Field, FigureRefusal};
 
 /// The texts of the required options, and of the frame.
 #[derive(Clone, Copy)]
 pub struct Options<'a> {
-    /// Steps per millimetre, as `800` or `188.976`: the same on all axes.
+    /// Steps per millimetre, as `800` or `188.976` for all axes, or as `100,100,400`.
     pub steps_per_mm: &'a [u8],
     /// The travel of X, Y and Z in millimetres, as `300,180,45`.
     pub travel: &'a [u8],
@@ -77,12 +79,26 @@ pub(crate) fn accelerations(numbers: &PerAxis<u32>) -> PerAxis<Acceleration>
     }
 }
 
-fn steps_in(text: &[u8]) -> Result<StepsPerMillimetre, FigureRefusal>
-    ensures { result ≡ spec.steps_in text.now }
+// Returns one number for all axes, or three numbers.
+fn all_or_each(text: &[u8]) -> Option<PerAxis<u32>>
+    ensures { result ≡ spec.all_or_each (spec_number_in 6 text.now) (spec_numbers_in 6 text.now) }
 {
     match number_in(text, 6) {
+        Some(number) => Some(PerAxis {
+            x: number,
+            y: number,
+            z: number,
+        }),
+        None => numbers_in(text, 6),
+    }
+}
+
+fn motors_in(text: &[u8]) -> Result<PerAxis<StepsPerMillimetre>, FigureRefusal>
+    ensures { result ≡ spec.motors_in text.now }
+{
+    match all_or_each(text) {
         None => Err(FigureRefusal::Unread(Field::Steps)),
-        Some(millionths) => Ok(StepsPerMillimetre { millionths }),
+        Some(numbers) => Ok(motors_of(&numbers)),
     }
 }
 
@@ -163,16 +179,17 @@ fn usual_corner(accelerations: &PerAxis<Acceleration>) -> Speed
 /// jump, a ring of 256 commands, and arcs that run at their feed and their turn at every place. Its
 /// programs are in our own language.
 pub(crate) fn figures_by(
-    steps: StepsPerMillimetre,
+    motors: PerAxis<StepsPerMillimetre>,
     travel: PerAxis<Length>,
     feed: PerAxis<Speed>,
     acceleration: PerAxis<Acceleration>,
     zero: PerAxis<End>,
 ) -> Figures
-    ensures { result ≡ spec.figures_by steps travel feed acceleration zero }
+    ensures { result ≡ spec.figures_by motors travel feed acceleration zero }
 {
     Figures {
-        scale: Ratio::of(steps),
+        scale: Ratio::of(finest(&motors)),
+        motors,
         travel,
         feed,
         acceleration,
@@ -198,14 +215,13 @@ pub(crate) fn figures_by(
 impl Figures {
     /// Returns the figures in these options, or the first option that can't be read.
     pub fn from_options(options: &Options<'_>) -> Result<Figures, FigureRefusal>
-        ensures value { result ≡ spec.figures_of options.now }
-        ensures decimal { IfOk result (λ f. f.scale.per ≡ 1000000000000) }
+        ensures { result ≡ spec.figures_of options.now }
     {
-        let steps = steps_in(options.steps_per_mm)?;
+        let motors = motors_in(options.steps_per_mm)?;
         let travel = lengths_in(Field::Travel, options.travel)?;
         let feed = speeds_in(Field::Feed, options.feed)?;
         let acceleration = accelerations_in(Field::Acceleration, options.acceleration)?;
         let zero = frame_by(options.frame)?;
-        Ok(figures_by(steps, travel, feed, acceleration, zero))
+        Ok(figures_by(motors, travel, feed, acceleration, zero))
     }
 }

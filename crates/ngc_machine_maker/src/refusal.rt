@@ -1,6 +1,6 @@
 //! The reasons why figures are refused.
 
-use crate::figures::{Axis, PerAxis};
+use crate::figures::{Axis, PerAxis, StepsPerMillimetre};
 
 /// A place at which all axes stop.
 #[derive(Clone, Copy)]
@@ -45,7 +45,7 @@ pub enum Stored {
 pub enum FigureRefusal {
     /// The text of an option can't be read.
     Unread(Field),
-    /// The motor's step is not from 500 to 50,000 nm, or its ratio is over more than 2^40 nm.
+    /// A motor's step is not from 500 to 50,000 nm, or its ratio is over more than 2^40 nm.
     Step,
     /// The ticks per second are not from 1 to 1,000,000.
     Ticks,
@@ -76,6 +76,6 @@ pub enum FigureRefusal {
     Digits(u32, usize),
     /// The place on the line with this number can't be read, or is farther than 1,000 mm from zero.
     Place(Stored, usize),
-    /// The steps per millimetre differ from axis to axis. They are in millionths.
-    UnequalSteps(PerAxis<u32>),
+    /// The motors' steps differ from axis to axis, and rates are in one step for all axes.
+    UnequalSteps(PerAxis<StepsPerMillimetre>),
 }

@@ -8,9 +8,8 @@ ghost use Rattle.ngc_machine_maker.specs.declared.refusal.FigureRefusal.TheVaria
 ghost use Rattle.ngc_machine_maker.specs.Sentences.{axis_text, stop_text, field_text, refusal_text};
 ghost use Rattle.ngc_machine_maker.specs.Sentences.{refusal_line};
 ghost use Rattle.ngc_machine_maker.specs.Sentences as spec;
-ghost use Rattle.ngc_text.specs.Millimetres.{size_text};
 
-use crate::figures::{Axis, PerAxis};
+use crate::figures::{Axis, PerAxis, StepsPerMillimetre};
 use crate::refusal::{Field, FigureRefusal, Stop, Stored};
 use crate::stored::stored_name;
 use ngc_sentences::{Page, Part, say};
@@ -61,7 +60,7 @@ fn say_field<W: Sink>(field: Field, page: &mut Page, output: &mut W)
 {
     match field {
         Field::Steps => {
-            say!(page, output; b"--steps-per-mm is not one number for all axes with up to six decimals, as 188.976")
+            say!(page, output; b"--steps-per-mm is not one number or three, with at most six decimals, as 188.976 or 100,100,400")
         }
         Field::Travel => {
             say!(page, output; b"--travel is not three lengths in mm, with at most six decimals, as 300,180,45")
@@ -137,62 +136,18 @@ fn say_place<W: Sink>(stored: Stored, at: usize, page: &mut Page, output: &mut W
     say!(page, output; b"line ", Part::Number(at as u128), b": the place of ", Part::Text(stored_name(stored)), b" is not X, Y and Z, each at most 1000 mm from zero: correct it");
 }
 
-fn greatest(steps: &PerAxis<u32>) -> u32
-    ensures { result ≡ spec.greatest steps.now }
-{
-    steps.x.max(steps.y).max(steps.z)
-}
-
-fn divides(number: u32, multiple: u32) -> bool
-    ensures { result ≡ spec.divides number multiple }
-{
-    number > 0 && multiple % number == 0
-}
-
-// Returns whether other microsteps can give all axes the greatest number of steps.
-fn is_example(steps: &PerAxis<u32>) -> bool
-    ensures { result ≡ spec.is_example steps.now }
-{
-    let all = greatest(steps);
-    all <= 2_000_000_000 && divides(steps.x, all) && divides(steps.y, all) && divides(steps.z, all)
-}
-
 #[tactic(auto, unfolding(crate::specs::Sentences::unequal_text))]
-fn say_unequal<W: Sink>(steps: &PerAxis<u32>, page: &mut Page, output: &mut W)
+fn say_unequal<W: Sink>(motors: &PerAxis<StepsPerMillimetre>, page: &mut Page, output: &mut W)
     ensures { Says (W.written output.old) (W.written output.new)
         (W.failures output.old) (W.failures output.new) page.old page.new
-        (spec.unequal_text steps.now) }
+        (spec.unequal_text motors.now) }
 {
-    say!(page, output; b"$100, $101 and $102 are ", Part::Size(u128::from(steps.x)), b", ", Part::Size(u128::from(steps.y)), b" and ", Part::Size(u128::from(steps.z)), b" steps a mm, and one step serves all axes: ", b"set the drivers' microsteps so that all three are equal");
-}
-
-fn say_some_example<W: Sink>(steps: u32, page: &mut Page, output: &mut W)
-    ensures { Says (W.written output.old) (W.written output.new)
-        (W.failures output.old) (W.failures output.new) page.old page.new
-        (codes ", for example " ++ size_text steps) }
-{
-    say!(page, output; b", for example ", Part::Size(u128::from(steps)));
-}
-
-#[tactic(auto, unfolding(crate::specs::Sentences::example_text))]
-fn say_example<W: Sink>(steps: &PerAxis<u32>, page: &mut Page, output: &mut W)
-    ensures { Says (W.written output.old) (W.written output.new)
-        (W.failures output.old) (W.failures output.new) page.old page.new
-        (spec.example_text steps.now) }
-{
-    if is_example(steps) {
-        say_some_example(greatest(steps), page, output);
-    }
-}
-
-#[tactic(auto, unfolding(crate::specs::Sentences::refusal_text))]
-fn say_unequal_steps<W: Sink>(steps: &PerAxis<u32>, page: &mut Page, output: &mut W)
-    ensures { Says (W.written output.old) (W.written output.new)
-        (W.failures output.old) (W.failures output.new) page.old page.new
-        (refusal_text (refusals.UnequalSteps steps.now)) }
-{
-    say_unequal(steps, page, output);
-    say_example(steps, page, output);
+    let (x, y, z) = (
+        motors.x.millionths,
+        motors.y.millionths,
+        motors.z.millionths,
+    );
+    say!(page, output; b"the motors have ", Part::Size(u128::from(x)), b", ", Part::Size(u128::from(y)), b" and ", Part::Size(u128::from(z)), b" steps a mm, and with --rates one step serves all axes: leave out --rates");
 }
 
 #[tactic(auto, unfolding(crate::specs::Sentences::refusal_text))]
@@ -266,7 +221,7 @@ fn say_refusal<W: Sink>(refusal: FigureRefusal, page: &mut Page, output: &mut W)
             output,
         ),
         FigureRefusal::Place(stored, at) => say_place(stored, at, page, output),
-        FigureRefusal::UnequalSteps(steps) => say_unequal_steps(&steps, page, output),
+        FigureRefusal::UnequalSteps(motors) => say_unequal(&motors, page, output),
     }
 }
 

@@ -5,10 +5,11 @@ ghost use Rattle.ngc_machine_maker.specs.InFile.{AreInFile};
 ghost use Rattle.ngc_machine_maker.specs.Ranges.{IsScale, IsTurn};
 ghost use Rattle.ngc_machine_maker.specs.ShopUnits.{rounded, step_speed, speed, speeds, gain};
 ghost use Rattle.ngc_machine_maker.specs.ShopUnits.{acceleration, arc_acceleration, motor_step};
-ghost use Rattle.ngc_machine_maker.specs.ShopUnits.{file_step, is_whole, is_short, error_over};
+ghost use Rattle.ngc_machine_maker.specs.ShopUnits.{file_step, is_whole, is_rounded, is_short, error_over};
 ghost use Rattle.ngc_machine_maker.specs.ShopUnits.{travel_length, errors};
 
 use crate::figures::{Figures, PerAxis};
+use crate::motors::are_equal;
 use crate::numbers::MachineNumbers;
 use crate::rates::diagonal_turns;
 
@@ -100,12 +101,21 @@ fn file_step(numbers: &MachineNumbers, figures: &Figures) -> u64
     u64::from(numbers.step) * figures.scale.steps
 }
 
-/// Returns whether the motor's step is a whole number of nanometres.
-pub fn is_whole(numbers: &MachineNumbers, figures: &Figures) -> bool
+// Returns whether the motor's step is a whole number of nanometres.
+fn is_whole(numbers: &MachineNumbers, figures: &Figures) -> bool
     requires { IsScale (scale_in numbers.now figures.now) }
     ensures { result ≡ is_whole numbers.now figures.now }
 {
     file_step(numbers, figures) == figures.scale.per
+}
+
+/// Returns whether one step serves all motors and isn't a whole number of nanometres, so that the
+/// file's is rounded.
+pub fn is_rounded(numbers: &MachineNumbers, figures: &Figures) -> bool
+    requires { IsScale (scale_in numbers.now figures.now) }
+    ensures { result ≡ is_rounded numbers.now figures.now }
+{
+    are_equal(&figures.motors) && !is_whole(numbers, figures)
 }
 
 /// Returns whether the file's step is longer than the motor's.

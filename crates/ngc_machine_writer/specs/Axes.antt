@@ -5,13 +5,13 @@ use Rattle.ngc_machine_maker.specs.declared.figures.End.{End}
 use Rattle.ngc_machine_maker.specs.declared.figures.End.TheVariants as ends
 use Rattle.ngc_machine_maker.specs.declared.figures.Figures.{Figures}
 use Rattle.ngc_machine_maker.specs.declared.figures.Length.{Length}
-use Rattle.ngc_machine_maker.specs.declared.figures.Ratio.{Ratio}
+use Rattle.ngc_machine_maker.specs.declared.figures.StepsPerMillimetre.{StepsPerMillimetre}
 use Rattle.ngc_machine_writer.specs.declared.axis.AxisFigures.{AxisFigures}
 use Rattle.ngc_machine_writer.specs.Lines.{acceleration_line, quantity_line, speed_line}
 
 abbrev pub x_of : Figures → AxisFigures
 x_of f = record {
-  motor = f.scale;
+  motor = f.motors.x;
   zero = f.zero.x;
   travel = f.travel.x;
   feed = f.feed.x;
@@ -20,7 +20,7 @@ x_of f = record {
 
 abbrev pub y_of : Figures → AxisFigures
 y_of f = record {
-  motor = f.scale;
+  motor = f.motors.y;
   zero = f.zero.y;
   travel = f.travel.y;
   feed = f.feed.y;
@@ -29,16 +29,16 @@ y_of f = record {
 
 abbrev pub z_of : Figures → AxisFigures
 z_of f = record {
-  motor = f.scale;
+  motor = f.motors.z;
   zero = f.zero.z;
   travel = f.travel.z;
   feed = f.feed.z;
   acceleration = f.acceleration.z;
 }
 
--- the steps of a ratio over a kilometre are millionths of the steps in a millimetre
-abbrev pub motor_line : Ratio → List ℕ
-motor_line motor = quantity_line (codes "motor") motor.steps (codes "steps/mm")
+-- as: motor = "188.976 steps/mm"
+abbrev pub motor_line : StepsPerMillimetre → List ℕ
+motor_line motor = quantity_line (codes "motor") motor.millionths (codes "steps/mm")
 
 -- as: travel = "-45 mm to 0 mm"
 abbrev pub travel_line : End → Length → List ℕ

@@ -4,14 +4,14 @@ ghost use Rattle.ngc_sentences.specs.Saying.{Says};
 ghost use Rattle.ngc_machine_writer.specs.Axes as spec;
 
 use crate::line::{say_acceleration, say_quantity, say_speed};
-use ngc_machine_maker::{Acceleration, End, Figures, Length, Ratio, Speed};
+use ngc_machine_maker::{Acceleration, End, Figures, Length, Speed, StepsPerMillimetre};
 use ngc_sentences::{Page, Part, say};
 use ngc_text::Sink;
 
 /// The figures of an axis.
 #[derive(Clone, Copy)]
 pub(crate) struct AxisFigures {
-    pub(crate) motor: Ratio,
+    pub(crate) motor: StepsPerMillimetre,
     pub(crate) zero: End,
     pub(crate) travel: Length,
     pub(crate) feed: Speed,
@@ -23,7 +23,7 @@ impl AxisFigures {
         ensures { result ≡ spec.x_of figures.now }
     {
         AxisFigures {
-            motor: figures.scale,
+            motor: figures.motors.x,
             zero: figures.zero.x,
             travel: figures.travel.x,
             feed: figures.feed.x,
@@ -35,7 +35,7 @@ impl AxisFigures {
         ensures { result ≡ spec.y_of figures.now }
     {
         AxisFigures {
-            motor: figures.scale,
+            motor: figures.motors.y,
             zero: figures.zero.y,
             travel: figures.travel.y,
             feed: figures.feed.y,
@@ -47,7 +47,7 @@ impl AxisFigures {
         ensures { result ≡ spec.z_of figures.now }
     {
         AxisFigures {
-            motor: figures.scale,
+            motor: figures.motors.z,
             zero: figures.zero.z,
             travel: figures.travel.z,
             feed: figures.feed.z,
@@ -76,7 +76,13 @@ pub(crate) fn say_axis<W: Sink>(name: &[u8], axis: &AxisFigures, page: &mut Page
         (spec.axis_lines name.now axis.now) }
 {
     say!(page, output; b"\n[axis.", Part::Text(name), b"]\n");
-    say_quantity(b"motor", axis.motor.steps, b"steps/mm", page, output);
+    say_quantity(
+        b"motor",
+        u64::from(axis.motor.millionths),
+        b"steps/mm",
+        page,
+        output,
+    );
     say_travel(axis.zero, axis.travel, page, output);
     say_speed(b"speed", axis.feed, page, output);
     say_acceleration(b"acceleration", axis.acceleration, page, output);

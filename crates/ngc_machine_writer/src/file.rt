@@ -229,10 +229,9 @@ fn say_file<W: Sink>(figures: &Figures, page: &mut Page, output: &mut W)
     say_origins(&figures.dump.places, page, output);
 }
 
-/// Writes a machine file of version 3 with these figures, whose motors' steps per millimetre have at
-/// most six decimals. After a fault a prefix of it is written, and the sink has counted the failure.
+/// Writes a machine file of version 3 with these figures. After a fault a prefix of it is written, and
+/// the sink has counted the failure.
 pub fn write_written_file<W: Sink>(figures: &Figures, sink: &mut W) -> Result<(), WriteFault>
-    requires { figures.now.scale.per ≡ 1000000000000 }
     ensures ok { OnOk result
         (Appends (W.written sink.old) (W.written sink.new) (spec.written_text figures.now)) }
     ensures fault { OnErr result (AppendsPrefix (W.written sink.old) (W.written sink.new)

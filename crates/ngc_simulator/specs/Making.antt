@@ -18,7 +18,7 @@ use Rattle.ngc_machine_maker.specs.Grbl.{figures_in}
 use Rattle.ngc_machine_maker.specs.Numbers.{numbers_of}
 use Rattle.ngc_machine_maker.specs.Options.{figures_of}
 use Rattle.ngc_machine_maker.specs.Sentences.{refusal_line}
-use Rattle.ngc_machine_maker.specs.ShopUnits.{is_whole}
+use Rattle.ngc_machine_maker.specs.ShopUnits.{is_rounded}
 use Rattle.ngc_machine_writer.specs.File.{written_text}
 use Rattle.ngc_setup_sheet.specs.Sheets.{warning_remarks}
 use Rattle.ngc_written_machines.specs.Reading.{any_machine}
@@ -58,6 +58,7 @@ pub record AreChoices (options : MachineOptions) (c : Choices) : Type 0 where
   pub ticks : option_map (λ t. t.now) options.ticks ≡ option_map (λ t. t.now) c.ticks
   pub ring : option_map (λ t. t.now) options.ring ≡ option_map (λ t. t.now) c.ring
   pub arc_feed : options.arc_feed ≡ c.arc_feed
+  pub rates : options.rates ≡ c.rates
   pub start : option_map (λ t. t.now) options.start ≡ option_map (λ t. t.now) c.start
   pub home28 : option_map (λ t. t.now) options.home28 ≡ option_map (λ t. t.now) c.home28
   pub home30 : option_map (λ t. t.now) options.home30 ≡ option_map (λ t. t.now) c.home30
@@ -115,10 +116,10 @@ IsUnmade keys (answers.Machine e) = IsUnread keys e
 IsUnmade keys _ = ⊥
 
 -- The keys of a machine file: figures with their units, or the rates of version 2, if those are asked
--- for or the motor's step is no whole number of nanometres.
+-- for or the motors have one step, which is no whole number of nanometres.
 abbrev pub keys_text : Bool → MachineNumbers → Figures → List ℕ
 keys_text rates numbers figures =
-    if rates || not (is_whole numbers figures) then file_text numbers figures
+    if rates || is_rounded numbers figures then file_text numbers figures
     else written_text figures
 
 abbrev pub WritesNumbers : Bool → Figures → Result MachineNumbers FigureRefusal → Option (List ℕ) →

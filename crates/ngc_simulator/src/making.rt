@@ -20,7 +20,7 @@ use ngc_command_line::MachineOptions;
 use ngc_inputs::{AnswerFault, Files, bytes_of};
 use ngc_machine_files::Machine;
 use ngc_machine_maker::{
-    Choices, FigureRefusal, Figures, MachineNumbers, Options, is_whole, numbers_of, read_grbl,
+    Choices, FigureRefusal, Figures, MachineNumbers, Options, is_rounded, numbers_of, read_grbl,
     write_machine_file, write_notes, write_refusal,
 };
 use ngc_machine_writer::write_written_file;
@@ -86,6 +86,7 @@ fn choices_of<'a>(options: &MachineOptions<'a>) -> Choices<'a>
         ticks: bytes_in(options.ticks),
         ring: bytes_in(options.ring),
         arc_feed: options.arc_feed,
+        rates: options.rates,
         start: bytes_in(options.start),
         home28: bytes_in(options.home28),
         home30: bytes_in(options.home30),
@@ -99,7 +100,6 @@ fn requested_figures(
 ) -> Result<Figures, FigureRefusal>
     requires { is_some dump ≡ false → has_all_figures options.now ≡ true }
     ensures asked { IsAskedFor options.now (option_map (λ d. d.now) dump.entry) result }
-    ensures decimal { IfOk result (λ f. f.scale.per ≡ 1000000000000) }
 {
     let choices = choices_of(options);
     let given = match dump {
@@ -129,7 +129,8 @@ fn refused(alloc: Global, refusal: FigureRefusal) -> Result<Notes, AnswerFault>
 }
 
 // Returns the keys of a machine file: figures with their units, or the rates of version 2, each with
-// its remark, if those are asked for or the motor's step is no whole number of nanometres.
+// its remark, if those are asked for or the motors have one step, which is no whole number of
+// nanometres.
 fn keys_text(
     alloc: Global,
     rates: bool,
@@ -138,12 +139,11 @@ fn keys_text(
 ) -> Result<Vec<u8, Global>, AnswerFault>
     requires numbers { AreInFile numbers.now }
     requires scale { IsScale (scale_in numbers.now figures.now) }
-    requires decimal { figures.now.scale.per ≡ 1000000000000 }
     ensures text { IfOk result (λ text. text.items ≡ keys_text rates numbers.now figures.now) }
     ensures fault { IfErr result (λ fault. fault ≡ AnswerFault.Memory) }
 {
     let mut keys = Device::new(Vec::new(alloc));
-    let written = if rates || !is_whole(numbers, figures) {
+    let written = if rates || is_rounded(numbers, figures) {
         write_machine_file(numbers, figures, &mut keys)
     } else {
         write_written_file(figures, &mut keys)
@@ -191,7 +191,6 @@ fn made_text(
 ) -> Result<Vec<u8, Global>, AnswerFault>
     requires numbers { AreInFile numbers.now }
     requires scale { IsScale (scale_in numbers.now figures.now) }
-    requires decimal { figures.now.scale.per ≡ 1000000000000 }
     ensures made { MatchResult result
         (λ text. IsMadeText (keys_text rates numbers.now figures.now) text.items)
         (IsUnmade (keys_text rates numbers.now figures.now)) }

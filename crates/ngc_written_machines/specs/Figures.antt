@@ -14,6 +14,7 @@ use Rattle.ngc_machine_maker.specs.declared.figures.Figures.{Figures}
 use Rattle.ngc_machine_maker.specs.declared.figures.Length.{Length}
 use Rattle.ngc_machine_maker.specs.declared.figures.PerAxis.{PerAxis}
 use Rattle.ngc_machine_maker.specs.declared.figures.Speed.{Speed}
+use Rattle.ngc_machine_maker.specs.declared.figures.StepsPerMillimetre.{StepsPerMillimetre}
 use Rattle.ngc_machine_maker.specs.Formulas.{no_dump}
 
 -- the length of a travel: 0 if it ends below its beginning, and 2^32 - 1 nm if it is longer, which
@@ -93,10 +94,15 @@ turns_by_place c = by_place c.arc_feed
 abbrev pub no_length : Length
 no_length = record { nanometres = 0 }
 
--- only the rates of these figures count: the machine starts at the low end of each travel
+abbrev pub no_steps : StepsPerMillimetre
+no_steps = record { millionths = 0 }
+
+-- only the rates of these figures count, which are on the grid of the finest motor: the motors have no
+-- steps, and the machine starts at the low end of each travel
 abbrev pub figures_of : HeadSheet → MotorScale → Figures
 figures_of h scale = record {
   scale = record { steps = scale.steps; per = scale.per };
+  motors = record { x = no_steps; y = no_steps; z = no_steps };
   travel = travels h.axes;
   feed = feeds h.axes;
   acceleration = accelerations h.axes;

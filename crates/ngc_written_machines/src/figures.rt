@@ -5,7 +5,9 @@ ghost use Rattle.ngc_written_machines.specs.Figures as spec;
 use ngc_machine_figures::{
     Acceleration as WrittenAcceleration, AxesSheet, ControlSheet, HeadSheet, Speed as WrittenSpeed,
 };
-use ngc_machine_maker::{Acceleration, Dump, End, Figures, Length, PerAxis, Ratio, Speed};
+use ngc_machine_maker::{
+    Acceleration, Dump, End, Figures, Length, PerAxis, Ratio, Speed, StepsPerMillimetre,
+};
 use ngc_motor_scale::MotorScale;
 use ngc_quantities::Range;
 
@@ -138,16 +140,22 @@ fn turns_by_place(control: &ControlSheet) -> bool
     }
 }
 
-/// Returns the figures of a machine whose motors have this scale. Only their rates count: it starts
-/// at the low end of each travel.
+/// Returns the figures of a machine whose finest motor has this scale. Only their rates count: the
+/// motors have no steps, and the machine starts at the low end of each travel.
 pub(crate) fn figures_of(head: &HeadSheet, scale: &MotorScale) -> Figures
     ensures { result ≡ spec.figures_of head.now scale.now }
 {
     let start = Length { nanometres: 0 };
+    let motor = StepsPerMillimetre { millionths: 0 };
     Figures {
         scale: Ratio {
             steps: scale.steps,
             per: scale.per,
+        },
+        motors: PerAxis {
+            x: motor,
+            y: motor,
+            z: motor,
         },
         travel: travels(&head.axes),
         feed: feeds(&head.axes),

@@ -39,7 +39,7 @@ returns-in-LowArcs g c =
 pub returns-in-UnequalSteps : goal.returns-in-UnequalSteps
 unfolding refusal_text
 returns-in-UnequalSteps g c =
-    rw c.in-UnequalSteps.is c.say_unequal_steps.ensures
+    rw c.in-UnequalSteps.is c.say_unequal.ensures
 
 pub returns-in-SlowFeed : goal.returns-in-SlowFeed
 unfolding refusal_text
