@@ -35,7 +35,7 @@ pub(crate) fn setup() -> &'static [Row]
             example: "machine file `step = 499`",
             answer: "`ngc: fault 262 machine`",
             place: None,
-            mend: "A step of 0.01 mm is `step = 10000`. In version 3 `motor` says the step: the same for all axes.",
+            mend: "A step of 0.01 mm is `step = 10000`. In version 3 the `motor` of each axis says its step.",
         },
         Row {
             number: 263,
