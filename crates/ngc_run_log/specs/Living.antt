@@ -49,7 +49,8 @@ form_of (live.Samples inverted) = forms.Samples inverted
 
 -- ---- the text between two pieces
 
--- the text state of motors at these counts before the first event, and after outcomes that have counts
+-- the text state of motors at these counts before the first event, and after outcomes that have
+-- counts
 abbrev pub first_paused : LiveForm → StepPos → TextState
 first_paused live.Log position = texts.Log
 first_paused live.Times position = texts.Times 0

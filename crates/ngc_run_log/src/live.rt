@@ -178,7 +178,11 @@ impl<A: Allocator + Copy> LiveRun<A> {
             list: self.switches.as_slice(),
         };
         let trace = Trace::going_on(&self.paused, switches);
-        let mut recorder = Recorder::new(trace, self.controller.motors(), self.controller.position());
+        let mut recorder = Recorder::new(
+            trace,
+            self.controller.motors(),
+            self.controller.position(),
+        );
         match send_line(
             &mut self.controller,
             self.feeds_ring,

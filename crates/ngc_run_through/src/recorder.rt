@@ -32,6 +32,19 @@ pub struct Recorder<'s> {
     pub chunk: Chunk,
 }
 
+// Returns whether an outcome is that of a tick in which nothing is commanded and nothing ends.
+fn is_quiet(outcome: &Result<Reply, EventFault>) -> bool
+    ensures { IsTrue result → outcome.now ≡ Ok (Ticked None None) }
+{
+    matches!(
+        outcome,
+        Ok(Reply::Ticked {
+            position: None,
+            ending: None,
+        })
+    )
+}
+
 impl<'s> Recorder<'s> {
     /// Returns a recorder without events, for a machine with these motors at a grid point.
     pub fn new(trace: Trace<'s>, motors: Motors, position: StepPos) -> Recorder<'s>
@@ -75,13 +88,7 @@ impl<'s> Recorder<'s> {
         let told = counted(&self.motors, &self.report.position, outcome);
         self.report.count(event, outcome);
         // Most ticks write nothing.
-        if let Ok(
-            Reply::Ticked {
-                position: None,
-                ending: None,
-            },
-        ) = told
-        {
+        if is_quiet(&told) {
             self.trace.rest(1);
             return Ok(());
         }

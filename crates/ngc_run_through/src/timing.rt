@@ -172,7 +172,11 @@ fn time_all<A: Allocator + Copy>(
         (λ _. controller.new.accepted ≡ controller.old.accepted) }
     ensures memory { IfErr result (λ fault. fault ≡ RunFault.Memory) }
 {
-    let mut recorder = Recorder::new(Trace::NotReported, controller.motors(), controller.position());
+    let mut recorder = Recorder::new(
+        Trace::NotReported,
+        controller.motors(),
+        controller.position(),
+    );
     let count = controller.commands().len();
     let first = count.min(controller.ring());
     load_first(controller, first, &mut recorder);

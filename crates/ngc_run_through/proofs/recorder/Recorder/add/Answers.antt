@@ -3,9 +3,9 @@ use Rattle.std.proofs.lemmas.Result.{on_err_weaker}
 use Rattle.ngc_run_through.proofs.QuietTicks.{on_ok_both, one_quiet, one_told, one_unwritten}
 use Rattle.ngc_run_through.proofs.recorder.Recorder.add.Goals as goal
 
-pub returns-in-Ok-clause-records : goal.returns-in-Ok-clause-records
-returns-in-Ok-clause-records g c =
-    one_quiet c.args.event c.args.outcome.now _ c.args.self.now _ _ c.count.ensures refl c.counted-told.ensures c.in-Ok.is c.rest.ensures refl
+pub returns-then-is_quiet-clause-records : goal.returns-then-is_quiet-clause-records
+returns-then-is_quiet-clause-records g c =
+    one_quiet c.args.event c.args.outcome.now _ c.args.self.now _ _ c.count.ensures refl c.counted-told.ensures (c.is_quiet.ensures c.if-is_quiet.true) c.rest.ensures refl
 
 pub returns-clause-fault : goal.returns-clause-fault
 returns-clause-fault g c = on_err_weaker c.tell.result (one_unwritten c.args.outcome.now _ c.args.self.now _ _ c.counted-told.ensures) c.tell.ensures.fault
