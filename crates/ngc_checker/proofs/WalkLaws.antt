@@ -89,6 +89,17 @@ move_step machine s w start cs i c m place entry entries h e is stands at =
     ∙ ap (λ (p : Point3). after_move machine s w m cs entry entries p (i + 1)) (sym stands)
     ∙ ap (after_move machine s w m cs entry entries place) same
 
+-- the motion at command i is the first of those that are left
+pub indices_step : (k start : ℕ) (cs : List Command) (i : ℕ) (c : Command) (m : Motion)
+    → i < length cs → c ≡ get_or cs i c → c.action ≡ Move m → k ≡ start + i
+    → motion_indices k (actions_of (drop i cs)) ≡ k ∷ motion_indices (k + 1) (actions_of (drop (k + 1 - start) cs))
+indices_step k start cs i c m h e is at =
+    let split = left_at i cs c h e in
+    let same : i + 1 ≡ k + 1 - start = omega (arith, at) in
+    ap (λ (l : List Command). motion_indices k (actions_of l)) split
+    ∙ ap (λ (a : Action). motion_indices k (a ∷ actions_of (drop (i + 1) cs))) is
+    ∙ ap (λ (j : ℕ). k ∷ motion_indices (k + 1) (actions_of (drop j cs))) same
+
 -- ---- a motion that is the program's next one
 
 alike_heads : (i j : ℕ) (is js : List ℕ) → i ≡ j → first_difference (i ∷ is) (j ∷ js) ≡ first_difference is js
