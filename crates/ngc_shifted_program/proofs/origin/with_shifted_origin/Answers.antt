@@ -7,6 +7,7 @@ invariant_of-shifted g c =
     let m = c.in_ok-shifted.shifted in
     record {
       step_in_range = m.step_in_range;
+      motors_in_range = m.motors_in_range;
       ticks_in_range = m.ticks_in_range;
       max_rate_in_range = m.max_rate_in_range;
       axis_rates_in_range = m.axis_rates_in_range;
