@@ -1,5 +1,5 @@
 //! The mistake of a machine file.
-ghost use Rattle.std.specs.Prelude.{◌≡◌, ◌⊎◌, OnOk, OnErr, option_map};
+ghost use Rattle.std.specs.Prelude.{◌≡◌, ◌⊎◌, Err, IfSome, OnOk, OnErr, option_map};
 ghost use Rattle.std.specs.Io.KnownBytes.{Appends, Keeps};
 ghost use Rattle.toml.specs.View.{view};
 ghost use Rattle.ngc_text.specs.Failures.{CountsFailure};
@@ -59,6 +59,16 @@ fn write_written<W: Sink>(
     }
 }
 
+// Returns why a file of version 3 is refused, or nothing if it isn't or memory is refused.
+fn refusal_in(alloc: Global, tree: &Value) -> Option<WrittenRefusal>
+    ensures { IfSome result (λ r. machine_of (view tree.now) ≡ Err r) }
+{
+    match written_machine(alloc, tree) {
+        Err(WrittenFault::Refused(refusal)) => Some(refusal),
+        _ => None,
+    }
+}
+
 // Writes the mistake of a file of version 3. If memory is refused, nothing is written.
 fn write_third<W: Sink>(
     alloc: Global,
@@ -74,9 +84,9 @@ fn write_third<W: Sink>(
         (spec.third_text name.now bytes.now (machine_of (view tree.now)))) }
     ensures counts { CountsFailure (W.failures sink.old) (W.failures sink.new) result }
 {
-    match written_machine(alloc, tree) {
-        Err(WrittenFault::Refused(refusal)) => write_written(name, bytes, refusal, sink),
-        _ => Ok(()),
+    match refusal_in(alloc, tree) {
+        Some(refusal) => write_written(name, bytes, refusal, sink),
+        None => Ok(()),
     }
 }
 
