@@ -259,10 +259,13 @@ fn say_demanded<A: Allocator, W: Sink>(
         (W.failures output.old) (W.failures output.new) page.old page.new
         (spec.demanded_text form (file_of machine.now) commands.now told fixture) }
 {
-    match (told, fixture) {
-        (Some(at), Some(number)) => say_at(form, machine, commands, at, number, page, output),
-        _ => {}
-    }
+    let Some(at) = told else {
+        return;
+    };
+    let Some(number) = fixture else {
+        return;
+    };
+    say_at(form, machine, commands, at, number, page, output);
 }
 
 /// Writes what a reported command that meets a fixture lacks of the margin, and that a traverse may
