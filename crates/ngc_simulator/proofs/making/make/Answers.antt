@@ -8,7 +8,7 @@ use Rattle.std.specs.Io.KnownBytes.{Appends}
 use Rattle.ngc_simulator.specs.Making.{Makes, WritesNumbers, keys_text}
 use Rattle.ngc_inputs.specs.declared.fault.AnswerFault.TheVariants as answers
 use Rattle.ngc_inputs.proofs.JobLaws.{keeps_same}
-use Rattle.ngc_simulator.proofs.MakingLaws.{of_no_error, unmade}
+use Rattle.ngc_simulator.proofs.MakingLaws.{of_no_error, refused_figures, refused_numbers, unmade}
 use Rattle.ngc_simulator.proofs.making.make.Goals as goal
 
 pub returns-in_err-text-clause-makes : goal.returns-in_err-text-clause-makes
@@ -62,3 +62,16 @@ returns-clause-makes g c =
 
 pub returns-then-is_err-clause-makes : goal.returns-then-is_err-clause-makes
 returns-then-is_err-clause-makes g c = keeps_same (g.W.Sink.written c.args.output.now)
+
+pub returns-in-Err-clause-makes : goal.returns-in-Err-clause-makes
+returns-in-Err-clause-makes g c =
+    let old = g.W.Sink.written c.args.output.now in
+    refused_figures c.args.options.now (option_map (λ d. d.now) c.args.dump) old c.in-Err.refusal c.refused.result c.in-Err.ensures.asked (keeps_same old)
+    c.refused.ensures.notes c.refused.ensures.fault
+
+pub returns-in-Err-numbers_of-clause-makes : goal.returns-in-Err-numbers_of-clause-makes
+returns-in-Err-numbers_of-clause-makes g c =
+    let old = g.W.Sink.written c.args.output.now in
+    refused_numbers c.args.options.now (option_map (λ d. d.now) c.args.dump) old c.in-Ok.figures c.in-Err-numbers_of.refusal c.refused-in-Err-numbers_of.result
+    c.in-Ok.ensures.asked (sym c.in-Err-numbers_of.ensures.value) (keeps_same old) c.refused-in-Err-numbers_of.ensures.notes
+    c.refused-in-Err-numbers_of.ensures.fault
