@@ -557,9 +557,9 @@ const JOBS: &[JobRow] = &[
     (
         b"report\n--job=plate/ngc.toml",
         b"machine = \"a\\nb.toml\"\n",
-        2,
+        3,
         b"",
-        b"error: a word of the call has a line break\n",
+        b"ngc: fault 269 job\n",
     ),
     // A carriage return before a line feed ends the line, and one within a word breaks it.
     (b"report\r\n--all", b"", 0, b"report\n--all\n", b""),
