@@ -882,7 +882,7 @@ def material(checks, page):
     checks.equal("and described by two corners", page.value("ngc.sceneNow(ngc.store.state).stock"), {"low": [0, 0, -20], "high": [100, 60, 0], "system": "G54"})
     page.do(f"{form}.low.value = '0 0 -90'; {form}.high.value = '10 10 -80'; document.getElementById('stock-system').value = '0'; document.querySelector('#stock button').click()")
     checks.equal("another one takes its place", page.value("ngc.sceneNow(ngc.store.state).stock"), {"low": [0, 0, -90], "high": [10, 10, -80], "system": None})
-    page.give({"one.toml": page.read("clamped_mill.toml")})
+    page.give({"one.toml": page.read("bench_mill.toml")})
     page.forget_notices()
     page.value(f"{form}.low.value = '0 0 -20'; {form}.high.value = '100 60 0'; document.querySelector('#stock button').click(); 0")
     checks.has("a machine file of version 1 can't have one, and the page says so", page.notices, "A machine file of version 1")
