@@ -1,24 +1,20 @@
 //! Reports of programs for other controls.
-ghost use Rattle.std.specs.Prelude.{◌≡◌, ◌∷◌, ◌≤◌, ◌<◌, IfErr, IfOk, MatchResult, Some, length, unwrap_or};
+ghost use Rattle.std.specs.Prelude.{◌≡◌, IfErr, IfOk, MatchResult, Some, unwrap_or};
 ghost use Rattle.ngc_canonical.specs.Interpreter.{setup_of};
-ghost use Rattle.ngc_dialect_execution.specs.Text as spec;
 ghost use Rattle.ngc_inputs.specs.Faults.{FailsByOutput};
 ghost use Rattle.ngc_inputs.specs.Unread.{FailsByInput, SourceFails};
-ghost use Rattle.ngc_line_reader.specs.Program.{split_lines};
 ghost use Rattle.ngc_dialect_notes.specs.Notes.{no_notes};
 ghost use Rattle.ngc_simulator.specs.Answers.{DialectReportResult, report_inputs_in};
 ghost use Rattle.ngc_simulator.specs.DialectReports.{IsNotedJob, ReportsDialect};
-ghost use Rattle.ngc_simulator.specs.DialectReports.{begins_with_slash, has_deleted};
 ghost use Rattle.ngc_simulator.specs.Dialects.{NotesRefusal};
 
 use crate::dialects::{Sent, read_sent_reporting, traced_at};
 use crate::done::{Done, Notes};
 use crate::reporting::report_job;
 use crate::reporting_files::request_of;
-use memchr::memchr;
 use ngc_certificate_text::Setting;
 use ngc_command_line::ReportOptions;
-use ngc_dialect_execution::Wanted;
+use ngc_dialect_execution::{Wanted, has_deleted_lines};
 use ngc_dialect_names::Dialect;
 use ngc_dialect_notes::Notes as ProgramNotes;
 use ngc_inputs::{AnswerFault, Files, Shop};
@@ -26,55 +22,6 @@ use ngc_job::Job;
 use ngc_program_report::{FramedJob, OtherText, ReportRequest, ReportedText};
 use ngc_text::Sink;
 use std::alloc::Global;
-
-// Returns the first line of a text, and what follows its line feed.
-fn first_line(text: &[u8]) -> (&[u8], &[u8])
-    requires { 1 ≤ length text.now }
-    ensures lines { split_lines text.now ≡ result.0.now ∷ split_lines result.1.now }
-    ensures shorter { length result.1.now < length text.now }
-{
-    match memchr(b'\n', text) {
-        Some(end) => (&text[..end], &text[end + 1..]),
-        None => (text, &text[text.len()..]),
-    }
-}
-
-fn is_blank(byte: u8) -> bool
-    ensures { result ≡ spec.is_blank byte }
-{
-    byte == b' ' || byte == b'\t' || byte == b'\r'
-}
-
-// Returns the first byte of a line that isn't white space.
-fn first_byte(line: &[u8]) -> Option<u8>
-    ensures { result ≡ spec.first_byte line.now }
-{
-    line.iter().copied().find(|byte| !is_blank(*byte))
-}
-
-fn begins_with_slash(line: &[u8]) -> bool
-    ensures { result ≡ begins_with_slash line.now }
-{
-    match first_byte(line) {
-        None => false,
-        Some(byte) => byte == b'/',
-    }
-}
-
-// Returns whether a line of a text begins with `/`.
-fn has_deleted_lines(text: &[u8]) -> bool
-    ensures { result ≡ has_deleted text.now }
-{
-    let mut rest = text;
-    while !rest.is_empty() {
-        let (line, after) = first_line(rest);
-        if begins_with_slash(line) {
-            return true;
-        }
-        rest = after;
-    }
-    false
-}
 
 const NOTES: Wanted = Wanted {
     notes: true,
