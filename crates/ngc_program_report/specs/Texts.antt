@@ -31,8 +31,8 @@ use Rattle.ngc_report.specs.Forms.{closing, opening, report_text}
 use Rattle.ngc_report.specs.Marks.{named_line}
 use Rattle.ngc_report.specs.Quotes.{quoted}
 use Rattle.ngc_report.specs.Reports.{fit_lines, refusal_lines, refusals_head, scene_lines}
-use Rattle.ngc_report.specs.Scenes.{scene_at}
-use Rattle.ngc_report.specs.Warnings.{warning_lines}
+use Rattle.ngc_findings.specs.Scenes.{scene_at}
+use Rattle.ngc_findings.specs.Warnings.{warning_lines}
 use Rattle.ngc_report.specs.declared.form.Form.{Form}
 use Rattle.ngc_report.specs.declared.form.Form.TheVariants.{Words, Json}
 use Rattle.ngc_length_warnings.specs.Spelling.{length_warnings}

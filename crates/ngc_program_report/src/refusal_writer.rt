@@ -14,7 +14,7 @@ ghost use Rattle.ngc_frames.specs.Walks.{WalksOver};
 ghost use Rattle.ngc_refused_values.specs.Texts.{value_line};
 ghost use Rattle.ngc_report.specs.Marks.{named_line};
 ghost use Rattle.ngc_report.specs.Quotes.{quoted};
-ghost use Rattle.ngc_report.specs.Scenes.{StandsAfter};
+ghost use Rattle.ngc_findings.specs.Scenes.{StandsAfter};
 ghost use Rattle.ngc_program_report.specs.Coordinates.{coordinates_text, history_of};
 ghost use Rattle.ngc_program_report.specs.Reported.{reported};
 ghost use Rattle.ngc_program_report.specs.Texts.{all_refusals, cause_text, command_refusal};
@@ -35,6 +35,7 @@ use crate::subject::{Execution, Heading, Subject};
 use ngc_canonical::Fault;
 use ngc_certificate::{Setting, place_fault};
 use ngc_commands::{Command, Way};
+use ngc_findings::Standing;
 use ngc_frames::{FrameInForce, FrameWalk};
 use ngc_line_reader::Program;
 use ngc_machine_files::Machine;
@@ -42,8 +43,8 @@ use ngc_origin_warnings::write_missing_origin;
 use ngc_origins::Origins;
 use ngc_refused_values::write_values;
 use ngc_report::{
-    Form, Standing, collect_refusals_head, collect_refused_command, write_line, write_named,
-    write_refusal, write_text_line,
+    Form, collect_refusals_head, collect_refused_command, write_line, write_named, write_refusal,
+    write_text_line,
 };
 use ngc_text::{Chunk, Sink, WriteFault, write_all};
 use std::alloc::Allocator;

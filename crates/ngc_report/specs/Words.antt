@@ -6,27 +6,27 @@ use Rattle.ngc_fixed_length.specs.declared.points.Point3.{Point3}
 use Rattle.ngc_text.specs.Millimetres.{number_text, size_text, mm_text}
 use Rattle.ngc_machine_files.specs.declared.tools.Tool.{Tool}
 use Rattle.ngc_collision.specs.Inside.{place_of}
-use Rattle.ngc_report.specs.declared.clearing.Clearing.{Clearing}
-use Rattle.ngc_report.specs.declared.clearing.Clearing.TheVariants as clearings
-use Rattle.ngc_report.specs.declared.clearing.Passed.{Passed}
-use Rattle.ngc_report.specs.declared.line.Along.{Along}
-use Rattle.ngc_report.specs.declared.line.Line.{Line}
-use Rattle.ngc_report.specs.declared.line.Line.TheVariants as lines
-use Rattle.ngc_report.specs.declared.margins.Axis.{Axis}
-use Rattle.ngc_report.specs.declared.margins.Axis.TheVariants.{X, Y, Z}
-use Rattle.ngc_report.specs.declared.margins.Side.{Side}
-use Rattle.ngc_report.specs.declared.margins.Side.TheVariants.{Below, Above}
-use Rattle.ngc_report.specs.declared.nearest.Nearest.{Nearest}
-use Rattle.ngc_report.specs.declared.scene.Met.{Met}
-use Rattle.ngc_report.specs.declared.scene.Obstacle.{Obstacle}
-use Rattle.ngc_report.specs.declared.scene.Obstacle.TheVariants.{Travel, Fixture}
-use Rattle.ngc_report.specs.declared.scene.Scene.{Scene}
-use Rattle.ngc_report.specs.declared.uses.ToolUse.{ToolUse}
-use Rattle.ngc_report.specs.declared.warnings.Concern.{Concern}
-use Rattle.ngc_report.specs.declared.warnings.Concern.TheVariants.{NoTool, IdleSpindle}
-use Rattle.ngc_report.specs.declared.warnings.Concern.TheVariants.{FastFeed, NearlyFull, LowHome}
-use Rattle.ngc_report.specs.declared.warnings.Concern.TheVariants.{LowAcross, Untested}
-use Rattle.ngc_report.specs.declared.warnings.Warning.{Warning}
+use Rattle.ngc_findings.specs.declared.clearing.Clearing.{Clearing}
+use Rattle.ngc_findings.specs.declared.clearing.Clearing.TheVariants as clearings
+use Rattle.ngc_findings.specs.declared.clearing.Passed.{Passed}
+use Rattle.ngc_findings.specs.declared.line.Along.{Along}
+use Rattle.ngc_findings.specs.declared.line.Line.{Line}
+use Rattle.ngc_findings.specs.declared.line.Line.TheVariants as lines
+use Rattle.ngc_findings.specs.declared.margins.Axis.{Axis}
+use Rattle.ngc_findings.specs.declared.margins.Axis.TheVariants.{X, Y, Z}
+use Rattle.ngc_findings.specs.declared.margins.Side.{Side}
+use Rattle.ngc_findings.specs.declared.margins.Side.TheVariants.{Below, Above}
+use Rattle.ngc_findings.specs.declared.nearest.Nearest.{Nearest}
+use Rattle.ngc_findings.specs.declared.scene.Met.{Met}
+use Rattle.ngc_findings.specs.declared.scene.Obstacle.{Obstacle}
+use Rattle.ngc_findings.specs.declared.scene.Obstacle.TheVariants.{Travel, Fixture}
+use Rattle.ngc_findings.specs.declared.scene.Scene.{Scene}
+use Rattle.ngc_findings.specs.declared.uses.ToolUse.{ToolUse}
+use Rattle.ngc_findings.specs.declared.warnings.Concern.{Concern}
+use Rattle.ngc_findings.specs.declared.warnings.Concern.TheVariants.{NoTool, IdleSpindle}
+use Rattle.ngc_findings.specs.declared.warnings.Concern.TheVariants.{FastFeed, NearlyFull, LowHome}
+use Rattle.ngc_findings.specs.declared.warnings.Concern.TheVariants.{LowAcross, Untested}
+use Rattle.ngc_findings.specs.declared.warnings.Warning.{Warning}
 
 -- ---- lengths
 

@@ -5,14 +5,13 @@ ghost use Rattle.ngc_text.specs.Failures.{CountsFailure};
 ghost use Rattle.ngc_text.specs.Written.{AppendsPrefix};
 ghost use Rattle.ngc_machine_files.specs.Machine.{file_of};
 ghost use Rattle.ngc_sentences.specs.Saying.{Says};
-ghost use Rattle.ngc_report.specs.Warnings.{warned, traverse_lines, motion_lines, warning_lines};
+ghost use Rattle.ngc_findings.specs.Warnings.{warned, traverse_lines, motion_lines, warning_lines};
 ghost use Rattle.ngc_report.specs.Forms.{report_text};
 
 use crate::form::Form;
-use crate::line::Line;
 use crate::report::say_lines;
-use crate::warnings::{Concern, warning_about};
 use ngc_commands::Command;
+use ngc_findings::{Concern, Line, warning_about};
 use ngc_machine_files::Machine;
 use ngc_sentences::Page;
 use ngc_text::{Sink, WriteFault};

@@ -11,14 +11,11 @@ ghost use Rattle.ngc_report.specs.Words.{nose_text, obstacle_text, over_text, pa
 ghost use Rattle.ngc_report.specs.Words.{shift_text, side_text, space_text, space_words, use_text};
 ghost use Rattle.ngc_report.specs.Words.{verdict_text, warning_text};
 
-use crate::clearing::{Clearing, Inward, Passed};
-use crate::line::{Along, Line};
-use crate::margins::{Axis, Margin, Side};
-use crate::nearest::Nearest;
-use crate::scene::{Met, Obstacle, Scene};
-use crate::uses::ToolUse;
-use crate::warnings::{Concern, Warning};
 use ngc_collision::Place;
+use ngc_findings::{
+    Along, Axis, Clearing, Concern, Inward, Line, Margin, Met, Nearest, Obstacle, Passed, Scene,
+    Side, ToolUse, Warning,
+};
 use ngc_machine_files::{Name, Tool};
 use ngc_sentences::{Page, Part, say};
 use ngc_text::Sink;

@@ -1,7 +1,7 @@
 use Rattle.std.proofs.Common.{◌++◌}
 use Rattle.ngc_machine_files.specs.Machine.{file_of}
-use Rattle.ngc_report.specs.Warnings.{motion_lines, warned}
-use Rattle.ngc_report.specs.declared.warnings.Concern.TheVariants.{IdleSpindle, NoTool}
+use Rattle.ngc_findings.specs.Warnings.{motion_lines, warned}
+use Rattle.ngc_findings.specs.declared.warnings.Concern.TheVariants.{IdleSpindle, NoTool}
 use Rattle.ngc_report.proofs.Sentences.{then_lines}
 use Rattle.ngc_report.proofs.warned.say_warnings.Goals as goal
 
