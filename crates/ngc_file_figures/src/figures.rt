@@ -1,6 +1,6 @@
 //! The figures of a machine file, and of both files.
-ghost use Rattle.std.specs.Prelude.{◌≡◌};
-ghost use Rattle.ngc_file_figures.specs.Files.{no_figures, values_of};
+ghost use Rattle.std.specs.Prelude.{◌≡◌, min};
+ghost use Rattle.ngc_file_figures.specs.Files as spec;
 
 use crate::limits::ToolLimits;
 
@@ -37,10 +37,72 @@ pub struct FileFigures<'a> {
     pub tools: &'a [ToolLimits],
 }
 
+/// Returns the greatest speed of each axis.
+pub fn speeds_of(figures: &Option<MachineFigures>) -> Option<AxisFigures>
+    ensures { result ≡ spec.speeds_of figures.now }
+{
+    match figures {
+        Some(figures) => Some(figures.speeds),
+        None => None,
+    }
+}
+
+fn lesser(a: u64, b: u64) -> u64
+    ensures { result ≡ min a b }
+{
+    if a <= b { a } else { b }
+}
+
+fn least(figures: &AxisFigures) -> u64
+    ensures { result ≡ spec.least figures.now }
+{
+    lesser(lesser(figures.x, figures.y), figures.z)
+}
+
+/// Returns the least of the axes' accelerations.
+pub fn acceleration_of(figures: &Option<MachineFigures>) -> Option<u64>
+    ensures { result ≡ spec.acceleration_of figures.now }
+{
+    match figures {
+        Some(figures) => Some(least(&figures.accelerations)),
+        None => None,
+    }
+}
+
+/// Returns the greatest speed where the direction changes.
+pub fn corner_of(figures: &Option<MachineFigures>) -> Option<u64>
+    ensures { result ≡ spec.corner_of figures.now }
+{
+    match figures {
+        Some(figures) => figures.corner,
+        None => None,
+    }
+}
+
+/// Returns the greatest change of an axis' speed where two motions meet.
+pub fn jump_of(figures: &Option<MachineFigures>) -> Option<u64>
+    ensures { result ≡ spec.jump_of figures.now }
+{
+    match figures {
+        Some(figures) => figures.jump,
+        None => None,
+    }
+}
+
+/// Returns the greatest acceleration towards the centre of an arc.
+pub fn turn_of(figures: &Option<MachineFigures>) -> Option<u64>
+    ensures { result ≡ spec.turn_of figures.now }
+{
+    match figures {
+        Some(figures) => figures.turn,
+        None => None,
+    }
+}
+
 impl<'a> FileFigures<'a> {
     /// Returns the figures of files that aren't of version 3.
     pub fn none() -> FileFigures<'a>
-        ensures { values_of result ≡ no_figures }
+        ensures { spec.values_of result ≡ spec.no_figures }
     {
         FileFigures {
             machine: None,

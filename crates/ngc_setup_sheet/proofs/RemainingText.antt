@@ -5,6 +5,7 @@ use Rattle.std.proofs.lemmas.List.Concat.{flat_map-append}
 use Rattle.ngc_machine_files.specs.Machine.{MachineFile}
 use Rattle.ngc_machine_files.specs.declared.machine.Fixture.{Fixture}
 use Rattle.ngc_machine_files.specs.declared.tools.Tool.{Tool}
+use Rattle.ngc_file_figures.specs.declared.limits.ToolLimits.{ToolLimits}
 use Rattle.ngc_setup_sheet.specs.Sheets.{fixture_lines, fixtures_from, tool_lines}
 use Rattle.ngc_setup_sheet.specs.declared.reach.Reach.{Reach}
 use Rattle.ngc_setup_sheet.specs.Spelling.{line_text, lines_text}

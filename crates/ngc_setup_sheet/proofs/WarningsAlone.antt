@@ -7,6 +7,7 @@ use Rattle.std.proofs.lemmas.List.Elements.{filter-append}
 use Rattle.ngc_machine_files.specs.Machine.{MachineFile}
 use Rattle.ngc_machine_files.specs.declared.machine.Fixture.{Fixture}
 use Rattle.ngc_machine_files.specs.declared.tools.Tool.{Tool}
+use Rattle.ngc_file_figures.specs.declared.limits.ToolLimits.{ToolLimits}
 use Rattle.ngc_setup_sheet.specs.Sheets.{fixture_lines, fixtures_from, tool_lines, is_warning, as_fact, as_remark}
 use Rattle.ngc_setup_sheet.specs.Spelling.{line_text, lines_text}
 use Rattle.ngc_setup_sheet.specs.Writes.{styled, chosen}

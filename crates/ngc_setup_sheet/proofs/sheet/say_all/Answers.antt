@@ -14,4 +14,4 @@ returns g c =
     let reach = c.of-reach.ensures.value in
     says_as (then (then (rw (c.as_slice.ensures.value, c.machine_lines-lines.ensures, reach) at c.say_lines.ensures)
     (says_as c.say_fixtures.ensures (ap (λ r. lines_text (fixtures_from m r 0 m.fixtures)) reach))) c.say_table.ensures)
-    (three (machine_lines m (reach_of ts)) (fixtures_from m (reach_of ts) 0 m.fixtures) (table_lines ts))
+    (three (machine_lines m c.args.figures.now.machine (reach_of ts)) (fixtures_from m (reach_of ts) 0 m.fixtures) (table_lines c.args.figures.now.tools.now ts))
