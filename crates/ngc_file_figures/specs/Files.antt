@@ -3,6 +3,7 @@ use Rattle.std.specs.Prelude.{ℕ, min, List, [], Option, Some, None}
 use Rattle.ngc_file_figures.specs.declared.figures.AxisFigures.{AxisFigures}
 use Rattle.ngc_file_figures.specs.declared.figures.FileFigures.{FileFigures}
 use Rattle.ngc_file_figures.specs.declared.figures.MachineFigures.{MachineFigures}
+use Rattle.ngc_file_figures.specs.declared.figures.StoredFigures.{StoredFigures}
 use Rattle.ngc_file_figures.specs.declared.limits.ToolLimits.{ToolLimits}
 
 -- of the machine file, if it has version 3, and of each tool of the table, if that has
@@ -12,6 +13,9 @@ pub record FigureValues : Type 0 where
 
 abbrev pub values_of : FileFigures → FigureValues
 values_of f = record { machine = f.machine; tools = f.tools.now }
+
+abbrev pub stored : StoredFigures → FigureValues
+stored f = record { machine = f.machine; tools = f.tools.items }
 
 -- of files of other versions
 abbrev pub no_figures : FigureValues

@@ -110,3 +110,24 @@ impl<'a> FileFigures<'a> {
         }
     }
 }
+
+/// What a machine file and a tool table say besides the machine and its tools, with a list of its own.
+#[derive(Drop)]
+pub struct StoredFigures {
+    /// `None` unless the machine file has version 3.
+    pub machine: Option<MachineFigures>,
+    /// One for each tool, in the table's order, if the table has version 3; otherwise none.
+    pub tools: Vec<ToolLimits>,
+}
+
+impl StoredFigures {
+    /// Returns the figures.
+    pub fn figures(&self) -> FileFigures<'_>
+        ensures { spec.values_of result ≡ spec.stored self.now }
+    {
+        FileFigures {
+            machine: self.machine,
+            tools: self.tools.as_slice(),
+        }
+    }
+}

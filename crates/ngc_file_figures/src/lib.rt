@@ -8,6 +8,7 @@ mod limits;
 
 pub use cutter::Cutter;
 pub use figures::{
-    AxisFigures, FileFigures, MachineFigures, acceleration_of, corner_of, jump_of, speeds_of, turn_of,
+    AxisFigures, FileFigures, MachineFigures, StoredFigures, acceleration_of, corner_of, jump_of,
+    speeds_of, turn_of,
 };
 pub use limits::{Limits, ToolLimits, limits_of};

@@ -16,10 +16,10 @@ pub next_fixture : (m : MachineFile) (r : Reach) (fs : List Fixture) (i : ℕ) (
 next_fixture m r fs i f inside found =
     ap (fixtures_from m r i) (drop_more fs i f inside) ∙ ap (λ (x : Fixture). fixture_lines m r i x ++ fixtures_from m r (i + 1) (drop (i + 1) fs)) (sym found)
 
-pub next_tool : (b : Bool) (tools : List Tool) (i : ℕ) (t : Tool) → i < length tools → t ≡ get_or tools i t
-    → flat_map (tool_lines b) (drop i tools) ≡ tool_lines b t ++ flat_map (tool_lines b) (drop (i + 1) tools)
-next_tool b tools i t inside found =
-    ap (flat_map (tool_lines b)) (drop_more tools i t inside) ∙ ap (λ (x : Tool). tool_lines b x ++ flat_map (tool_lines b) (drop (i + 1) tools)) (sym found)
+pub next_tool : (b : Bool) (table : List ToolLimits) (tools : List Tool) (i : ℕ) (t : Tool) → i < length tools → t ≡ get_or tools i t
+    → flat_map (tool_lines b table) (drop i tools) ≡ tool_lines b table t ++ flat_map (tool_lines b table) (drop (i + 1) tools)
+next_tool b table tools i t inside found =
+    ap (flat_map (tool_lines b table)) (drop_more tools i t inside) ∙ ap (λ (x : Tool). tool_lines b table x ++ flat_map (tool_lines b table) (drop (i + 1) tools)) (sym found)
 
 -- ---- and as text
 
@@ -31,9 +31,9 @@ pub next_fixture_text : (m : MachineFile) (r : Reach) (fs : List Fixture) (i : �
 next_fixture_text m r fs i f inside found = ap lines_text (next_fixture m r fs i f inside found)
     ∙ both (fixture_lines m r i f) (fixtures_from m r (i + 1) (drop (i + 1) fs))
 
-pub next_tool_text : (b : Bool) (tools : List Tool) (i : ℕ) (t : Tool) → i < length tools → t ≡ get_or tools i t
-    → lines_text (flat_map (tool_lines b) (drop i tools)) ≡ lines_text (tool_lines b t) ++ lines_text (flat_map (tool_lines b) (drop (i + 1) tools))
-next_tool_text b tools i t inside found = ap lines_text (next_tool b tools i t inside found) ∙ both (tool_lines b t) (flat_map (tool_lines b) (drop (i + 1) tools))
+pub next_tool_text : (b : Bool) (table : List ToolLimits) (tools : List Tool) (i : ℕ) (t : Tool) → i < length tools → t ≡ get_or tools i t
+    → lines_text (flat_map (tool_lines b table) (drop i tools)) ≡ lines_text (tool_lines b table t) ++ lines_text (flat_map (tool_lines b table) (drop (i + 1) tools))
+next_tool_text b table tools i t inside found = ap lines_text (next_tool b table tools i t inside found) ∙ both (tool_lines b table t) (flat_map (tool_lines b table) (drop (i + 1) tools))
 
 -- ---- three lists of lines
 

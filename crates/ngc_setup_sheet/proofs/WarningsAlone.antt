@@ -69,9 +69,9 @@ next_fixture_warned s m r fs i f inside found =
     ap (λ l. lines_text (chosen s l)) (next_fixture m r fs i f inside found)
     ∙ both_chosen s (fixture_lines m r i f) (fixtures_from m r (i + 1) (drop (i + 1) fs))
 
-pub next_tool_warned : (s : Style) (b : Bool) (tools : List Tool) (i : ℕ) (t : Tool) → i < length tools → t ≡ get_or tools i t
-    → lines_text (chosen s (flat_map (tool_lines b) (drop i tools)))
-    ≡ lines_text (chosen s (tool_lines b t)) ++ lines_text (chosen s (flat_map (tool_lines b) (drop (i + 1) tools)))
-next_tool_warned s b tools i t inside found =
-    ap (λ l. lines_text (chosen s l)) (next_tool b tools i t inside found)
-    ∙ both_chosen s (tool_lines b t) (flat_map (tool_lines b) (drop (i + 1) tools))
+pub next_tool_warned : (s : Style) (b : Bool) (table : List ToolLimits) (tools : List Tool) (i : ℕ) (t : Tool) → i < length tools → t ≡ get_or tools i t
+    → lines_text (chosen s (flat_map (tool_lines b table) (drop i tools)))
+    ≡ lines_text (chosen s (tool_lines b table t)) ++ lines_text (chosen s (flat_map (tool_lines b table) (drop (i + 1) tools)))
+next_tool_warned s b table tools i t inside found =
+    ap (λ l. lines_text (chosen s l)) (next_tool b table tools i t inside found)
+    ∙ both_chosen s (tool_lines b table t) (flat_map (tool_lines b table) (drop (i + 1) tools))
