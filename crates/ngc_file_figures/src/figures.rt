@@ -3,6 +3,7 @@ ghost use Rattle.std.specs.Prelude.{◌≡◌, min};
 ghost use Rattle.ngc_file_figures.specs.Files as spec;
 
 use crate::limits::ToolLimits;
+use std::alloc::Global;
 
 /// A figure of each axis.
 #[derive(Clone, Copy)]
@@ -121,8 +122,18 @@ pub struct StoredFigures {
 }
 
 impl StoredFigures {
+    /// Returns the figures of files that aren't of version 3. It allocates nothing.
+    pub fn none(alloc: Global) -> StoredFigures
+        ensures { spec.stored result ≡ spec.no_figures }
+    {
+        StoredFigures {
+            machine: None,
+            tools: Vec::new(alloc),
+        }
+    }
+
     /// Returns the figures.
-    pub fn figures(&self) -> FileFigures<'_>
+    pub fn borrowed(&self) -> FileFigures<'_>
         ensures { spec.values_of result ≡ spec.stored self.now }
     {
         FileFigures {

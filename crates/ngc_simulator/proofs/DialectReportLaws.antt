@@ -1,5 +1,6 @@
 -- The report of a program for another control, from the results of its parts.
 use Rattle.std.proofs.Common.{◌≡◌, ℕ, List, Option, Some, None, Result, Ok, Err, IfErr, inr, refl}
+use Rattle.ngc_file_figures.specs.Files.{values_of}
 use Rattle.ngc_canonical.specs.State.{Setup}
 use Rattle.ngc_dialect_names.specs.declared.dialect.Dialect.{Dialect}
 use Rattle.ngc_inputs.specs.Unread.{unread_by}
@@ -20,7 +21,7 @@ use Rattle.ngc_simulator.specs.declared.done.Done.{Done}
 
 -- a report that isn't written whole
 pub dialect_stopped : (d : Dialect) (setup : Setup) (source : List ℕ) (request : ReportRequest) (f : FramedData) (old new : Option (List ℕ)) (fault : AnswerFault)
-    → IsFramedDialect d setup source f → ReportsJob f (other_lines source (dialect_notes d setup source)) request old new (Err fault) → ReportsDialect d setup source request old new (Err fault)
+    → IsFramedDialect d setup source f → ReportsJob f (other_lines (values_of request.figures) source (dialect_notes d setup source)) request old new (Err fault) → ReportsDialect d setup source request old new (Err fault)
 dialect_stopped d setup source request f old new answers.Memory framed tells = absurd tells
 dialect_stopped d setup source request f old new _ framed tells = (f, framed, tells)
 

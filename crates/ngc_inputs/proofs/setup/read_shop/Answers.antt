@@ -1,8 +1,9 @@
-use Rattle.std.specs.Prelude.{option_map}
+use Rattle.std.specs.Prelude.{◌≡◌, [], option_map}
 use Rattle.ngc_machine_files.specs.Machine.{file_of}
 use Rattle.ngc_inputs.specs.Unread.{OfMachine, OfTools, SourceFails, setup_input, shop_inputs, unread_by}
 use Rattle.ngc_report.proofs.Converted.{turned}
-use Rattle.ngc_inputs.proofs.SetupLaws.{refused_machine, refused_tools}
+use Rattle.ngc_written_tools.specs.Reading.{any_limits}
+use Rattle.ngc_inputs.proofs.SetupLaws.{kept_said, refused_machine, refused_tools}
 use Rattle.ngc_inputs.proofs.UnreadLaws.{machine_read, reported_before, tools_told, unread_told}
 use Rattle.ngc_inputs.specs.Shops.{ShopResultIs}
 use Rattle.ngc_inputs.proofs.setup.read_shop.Goals as goal
@@ -40,3 +41,10 @@ returns-in_err-table-clause-unread g c =
     (option_map (λ n. n.now) c.args.machine) (option_map (λ n. n.now) c.args.tools) _ _ _ (unread_by c.in_err-table.field-0.0)
     (machine_read _ _ (file_of c.in_ok-written.written.machine) c.in_ok-written.ensures.said) c.read_machine.ensures.keeps c.in_ok-written.ensures.unread
     c.in_err-table.ensures.unread)
+
+pub returns-clause-figures : goal.returns-clause-figures
+returns-clause-figures g c = record {
+  machine = c.in_ok-written.ensures.figures;
+  tools = kept_said any_limits [] (g.F.Files.bytes c.args.files.now) (g.F.Files.bytes c.read_machine.new.files) (option_map (λ n. n.now) c.args.tools)
+      (λ l. c.in_ok-table.table.limits.items ≡ l) c.read_machine.ensures.keeps c.in_ok-table.ensures.limits;
+}
