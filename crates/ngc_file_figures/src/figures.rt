@@ -100,18 +100,6 @@ pub fn turn_of(figures: &Option<MachineFigures>) -> Option<u64>
     }
 }
 
-impl<'a> FileFigures<'a> {
-    /// Returns the figures of files that aren't of version 3.
-    pub fn none() -> FileFigures<'a>
-        ensures { spec.values_of result ≡ spec.no_figures }
-    {
-        FileFigures {
-            machine: None,
-            tools: &[],
-        }
-    }
-}
-
 /// What a machine file and a tool table say besides the machine and its tools, with a list of its own.
 #[derive(Drop)]
 pub struct StoredFigures {

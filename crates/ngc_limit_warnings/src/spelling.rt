@@ -47,7 +47,7 @@ fn say_words<W: Sink>(kind: Kind, found: &Breaches, page: &mut Page, output: &mu
 {
     let breach = &found.first.breach;
     say!(page, output; b"warning: ", Part::Text(kind_text(kind)), b": ", Part::Number(found.count as u128), b", the first in line ", Part::Number(u128::from(found.first.line)), b": ");
-    say!(page, output; Part::Size(u128::from(breach.number)), Part::Text(unit_text(kind)), b" with ", Part::Tool(breach.tool), b", which has ");
+    say!(page, output; Part::Size(u128::from(breach.number)), Part::Text(unit_text(kind)), b" with tool ", Part::Number(u128::from(breach.tool)), b", which has ");
     say_limits(&breach.limits, page, output);
     say!(page, output; Part::Text(unit_text(kind)), b".\n");
 }

@@ -22,8 +22,8 @@ use Rattle.ngc_machine_files.specs.declared.machine.Rapids.TheVariants as ways
 use Rattle.ngc_machine_files.specs.declared.machine.StockBox.{StockBox}
 use Rattle.ngc_machine_files.specs.declared.parts.Part.{Part}
 use Rattle.ngc_machine_files.specs.declared.tools.Tool.{Tool}
-use Rattle.ngc_setup_sheet.specs.Figures.{steps_a_millimetre, millimetres_a_minute, acceleration}
-use Rattle.ngc_setup_sheet.specs.Figures.{arc_acceleration}
+use Rattle.ngc_machine_speeds.specs.Speeds.{steps_a_millimetre, millimetres_a_minute, acceleration}
+use Rattle.ngc_machine_speeds.specs.Speeds.{arc_acceleration}
 use Rattle.ngc_setup_sheet.specs.Reaches.{reach_of, is_out_of_reach, is_outside_travel}
 use Rattle.ngc_setup_sheet.specs.Spelling.{lines_text}
 use Rattle.ngc_setup_sheet.specs.Warnings.{is_odd_speed, is_odd_acceleration, is_short_travel}
@@ -258,16 +258,21 @@ fixture_facts i f =
     ∷ from (facts.Extent axes.Y) f.low.y f.high.y ∷
     from (facts.Extent axes.Z) f.low.z f.high.z ∷ []
 
-abbrev pub fixture_lines : MachineFile → Reach → ℕ → Fixture → List Line
-fixture_lines m r i f =
+abbrev pub thin_warning : Option MachineFigures → ℕ → Warning
+thin_warning None i = warnings.Thin i
+thin_warning (Some w) i = warnings.WrittenThin i
+
+-- the warnings fit the version of the machine file
+abbrev pub fixture_lines : MachineFile → Option MachineFigures → Reach → ℕ → Fixture → List Line
+fixture_lines m w r i f =
     fixture_facts i f
-    ++ (warned (is_thin f) (warnings.Thin i)
+    ++ (warned (is_thin f) (thin_warning w i)
     ++ warned (is_out_of_reach m r f) (warnings.OutOfReach i))
 
 -- numbered from i on
-abbrev pub fixtures_from : MachineFile → Reach → ℕ → List Fixture → List Line
-fixtures_from m r i [] = []
-fixtures_from m r i (f ∷ fs) = fixture_lines m r i f ++ fixtures_from m r (i + 1) fs
+abbrev pub fixtures_from : MachineFile → Option MachineFigures → Reach → ℕ → List Fixture → List Line
+fixtures_from m w r i [] = []
+fixtures_from m w r i (f ∷ fs) = fixture_lines m w r i f ++ fixtures_from m w r (i + 1) fs
 
 -- ---- tools
 
@@ -331,7 +336,7 @@ table_lines table tools =
 abbrev pub sheet : MachineFile → FigureValues → List Tool → List Line
 sheet m v tools =
     machine_lines m v.machine (reach_of tools)
-    ++ (fixtures_from m (reach_of tools) 0 m.fixtures ++ table_lines v.tools tools)
+    ++ (fixtures_from m v.machine (reach_of tools) 0 m.fixtures ++ table_lines v.tools tools)
 
 -- its text
 abbrev pub sheet_text : MachineFile → FigureValues → List Tool → List ℕ

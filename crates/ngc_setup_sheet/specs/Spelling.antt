@@ -148,6 +148,8 @@ warning_text (warnings.Origin s) = codes "the origin of " ++ system_text s
     ++ codes " is outside the travel: no tool reaches it"
 warning_text (warnings.Thin n) = codes "fixture " ++ decimal n
     ++ codes " is thinner than 0.1 mm: its corners are in nanometres"
+warning_text (warnings.WrittenThin n) = codes "fixture " ++ decimal n
+    ++ codes " is thinner than 0.1 mm: is the unit of its corners right?"
 warning_text (warnings.OutOfReach n) =
     codes "fixture " ++ decimal n ++ codes " is where no tool reaches"
 warning_text (warnings.Short n) = codes "tool " ++ decimal n

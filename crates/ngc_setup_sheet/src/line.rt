@@ -130,6 +130,8 @@ pub enum Warning {
     Origin(System),
     /// A thin fixture, by its number.
     Thin(usize),
+    /// The same in a file of version 3.
+    WrittenThin(usize),
     /// A fixture out of reach, by its number.
     OutOfReach(usize),
     /// A short tool, by its number.

@@ -15,12 +15,11 @@ ghost use Rattle.ngc_setup_sheet.specs.Sheets.{machine_warnings, machine_lines, 
 ghost use Rattle.ngc_setup_sheet.specs.Sheets.{acceleration_facts, acceleration_figure, arc_warning};
 ghost use Rattle.ngc_setup_sheet.specs.Sheets.{axis_fact, axis_written, corner_note_by, cutter_lines};
 ghost use Rattle.ngc_setup_sheet.specs.Sheets.{feed_lines, is_thousandths, limit_lines, short_warning};
-ghost use Rattle.ngc_setup_sheet.specs.Sheets.{speed_facts, speed_figure, turning_lines};
+ghost use Rattle.ngc_setup_sheet.specs.Sheets.{speed_facts, speed_figure, thin_warning, turning_lines};
 ghost use Rattle.ngc_setup_sheet.specs.Sheets.{fixture_lines, part_line, part_lines, tool_facts};
 ghost use Rattle.ngc_setup_sheet.specs.Sheets.{tool_lines, dialect_facts, stock_facts, machine_end};
 ghost use Rattle.ngc_setup_sheet.specs.declared.line.Warning.TheVariants as warnings;
 
-use crate::figures::{acceleration, arc_acceleration, millimetres_a_minute, steps_a_millimetre};
 use crate::line::{Axis, Fact, Figure, Line, Span, Warning};
 use crate::reach::{Reach, end_of, is_out_of_reach, is_outside_travel};
 use crate::warnings::{
@@ -34,6 +33,7 @@ use ngc_file_figures::{
 };
 use ngc_fixed_length::{Nm, Point3, System};
 use ngc_machine_files::{ArcFeed, Fixture, Machine, Part, Parts, Rapids, Tool};
+use ngc_machine_speeds::{acceleration, arc_acceleration, millimetres_a_minute, steps_a_millimetre};
 use std::alloc::Allocator;
 
 /// Space for the lines of a machine, of a fixture or of a tool.
@@ -549,18 +549,33 @@ fn fixture_facts(number: usize, fixture: &Fixture) -> [Line; 4]
     ]
 }
 
+// Returns the warning of a thin fixture, which fits the version of the machine file.
+fn thin_warning(written: &Option<MachineFigures>, number: usize) -> Warning
+    ensures { result ≡ thin_warning written.now number }
+{
+    match written {
+        None => Warning::Thin(number),
+        Some(_) => Warning::WrittenThin(number),
+    }
+}
+
 pub(crate) fn fixture_lines<A: Allocator>(
     machine: &Machine<A>,
+    written: &Option<MachineFigures>,
     reach: &Reach,
     number: usize,
     fixture: &Fixture,
 ) -> Lines
     requires { IsReach reach.now }
-    ensures { result.items ≡ fixture_lines (file_of machine.now) reach.now number fixture.now }
+    ensures { result.items ≡ fixture_lines (file_of machine.now) written.now reach.now number fixture.now }
 {
     let mut lines = ArrayVec::new();
     add_all(&mut lines, &fixture_facts(number, fixture));
-    warn(&mut lines, is_thin(fixture), Warning::Thin(number));
+    warn(
+        &mut lines,
+        is_thin(fixture),
+        thin_warning(written, number),
+    );
     let unreached = is_out_of_reach(machine, reach, fixture);
     warn(&mut lines, unreached, Warning::OutOfReach(number));
     lines

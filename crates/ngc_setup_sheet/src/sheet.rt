@@ -14,7 +14,7 @@ use crate::lines::{fixture_lines, lines_after_tools, machine_lines, tool_lines};
 use crate::reach::Reach;
 use crate::warnings::are_unset;
 use crate::writer::say_lines;
-use ngc_file_figures::{FileFigures, ToolLimits};
+use ngc_file_figures::{FileFigures, MachineFigures, ToolLimits};
 use ngc_machine_files::{Machine, Tool};
 use ngc_sentences::Page;
 use ngc_text::{Sink, WriteFault};
@@ -22,6 +22,7 @@ use std::alloc::Allocator;
 
 fn say_fixtures<A: Allocator, W: Sink>(
     machine: &Machine<A>,
+    written: &Option<MachineFigures>,
     reach: &Reach,
     page: &mut Page,
     output: &mut W,
@@ -30,10 +31,11 @@ fn say_fixtures<A: Allocator, W: Sink>(
     ensures { Says (W.written output.old) (W.written output.new)
         (W.failures output.old) (W.failures output.new) page.old page.new
         (lines_text
-        (fixtures_from (file_of machine.now) reach.now 0 (file_of machine.now).fixtures)) }
+        (fixtures_from (file_of machine.now) written.now reach.now 0
+        (file_of machine.now).fixtures)) }
 {
     for (i, fixture) in machine.fixtures.as_slice().iter().enumerate() {
-        let lines = fixture_lines(machine, reach, i, fixture);
+        let lines = fixture_lines(machine, written, reach, i, fixture);
         say_lines(lines.as_slice(), page, output);
     }
 }
@@ -80,7 +82,7 @@ fn say_all<A: Allocator, W: Sink>(
     let reach = Reach::of(tools);
     let lines = machine_lines(machine, &figures.machine, &reach);
     say_lines(lines.as_slice(), page, output);
-    say_fixtures(machine, &reach, page, output);
+    say_fixtures(machine, &figures.machine, &reach, page, output);
     say_table(figures.tools, tools, page, output);
 }
 

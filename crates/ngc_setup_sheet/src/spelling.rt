@@ -246,6 +246,8 @@ fn say_warning_text<W: Sink>(warning: &Warning, page: &mut Page, output: &mut W)
             say!(page, output; b"the origin of ", Part::Text(system_name(*system)), b" is outside the travel: no tool reaches it"),
         Warning::Thin(number) =>
             say!(page, output; b"fixture ", Part::Number(*number as u128), b" is thinner than 0.1 mm: its corners are in nanometres"),
+        Warning::WrittenThin(number) =>
+            say!(page, output; b"fixture ", Part::Number(*number as u128), b" is thinner than 0.1 mm: is the unit of its corners right?"),
         Warning::OutOfReach(number) =>
             say!(page, output; b"fixture ", Part::Number(*number as u128), b" is where no tool reaches"),
         Warning::Short(number) =>

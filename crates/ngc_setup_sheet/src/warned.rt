@@ -17,7 +17,7 @@ use crate::lines::{fixture_lines, lines_after_tools, machine_lines, tool_lines};
 use crate::reach::Reach;
 use crate::warnings::are_unset;
 use crate::writer::{Style, say_warning_lines};
-use ngc_file_figures::{FileFigures, ToolLimits};
+use ngc_file_figures::{FileFigures, MachineFigures, ToolLimits};
 use ngc_machine_files::{Machine, Tool};
 use ngc_sentences::Page;
 use ngc_text::{Sink, WriteFault};
@@ -26,6 +26,7 @@ use std::alloc::Allocator;
 fn warn_of_fixtures<A: Allocator, W: Sink>(
     style: Style,
     machine: &Machine<A>,
+    written: &Option<MachineFigures>,
     reach: &Reach,
     page: &mut Page,
     output: &mut W,
@@ -34,10 +35,11 @@ fn warn_of_fixtures<A: Allocator, W: Sink>(
     ensures { Says (W.written output.old) (W.written output.new)
         (W.failures output.old) (W.failures output.new) page.old page.new
         (lines_text (chosen style
-        (fixtures_from (file_of machine.now) reach.now 0 (file_of machine.now).fixtures))) }
+        (fixtures_from (file_of machine.now) written.now reach.now 0
+        (file_of machine.now).fixtures))) }
 {
     for (i, fixture) in machine.fixtures.as_slice().iter().enumerate() {
-        let lines = fixture_lines(machine, reach, i, fixture);
+        let lines = fixture_lines(machine, written, reach, i, fixture);
         say_warning_lines(style, lines.as_slice(), page, output);
     }
 }
@@ -92,7 +94,7 @@ fn warn_of_all<A: Allocator, W: Sink>(
     let reach = Reach::of(tools);
     let lines = machine_lines(machine, &figures.machine, &reach);
     say_warning_lines(style, lines.as_slice(), page, output);
-    warn_of_fixtures(style, machine, &reach, page, output);
+    warn_of_fixtures(style, machine, &figures.machine, &reach, page, output);
     warn_of_table(style, figures.tools, tools, page, output);
 }
 
