@@ -96,11 +96,7 @@ fn named_machine<F: Files>(
     }
 }
 
-fn named_tools<F: Files>(
-    alloc: Global,
-    name: &str,
-    files: &mut F,
-) -> Result<ToolTable, AnswerFault>
+fn named_tools<F: Files>(alloc: Global, name: &str, files: &mut F) -> Result<ToolTable, AnswerFault>
     ensures said { MatchResult result
         (λ t. IfTools (F.bytes files.old) (Some name.now) (λ says. says ≡ Ok (tools_of t.tools)))
         (RefusesTools (F.bytes files.old) (Some name.now)) }

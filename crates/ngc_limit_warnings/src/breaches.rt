@@ -133,9 +133,7 @@ fn breach_with(kind: Kind, in_use: &InUse, way: &Way, pace: &Pace) -> Option<Bre
     ensures { result ≡ breach_with kind in_use.now way.now pace.now }
 {
     match (&in_use.limits, pace) {
-        (Some(limits), Pace::Feed(feed)) => {
-            breach_by(kind, limits, &in_use.spindle, way, feed)
-        }
+        (Some(limits), Pace::Feed(feed)) => { breach_by(kind, limits, &in_use.spindle, way, feed) }
         _ => None,
     }
 }

@@ -64,7 +64,14 @@ fn say_motion_warnings<A: Allocator, W: Sink>(
         (W.failures output.old) (W.failures output.new) page.old page.new
         (report_text form (motion_lines (file_of machine.now) speeds commands.now)) }
 {
-    say_warned(form, machine, Concern::FastFeed(speeds), commands, page, output);
+    say_warned(
+        form,
+        machine,
+        Concern::FastFeed(speeds),
+        commands,
+        page,
+        output,
+    );
     say_warned(form, machine, Concern::NearlyFull, commands, page, output);
     say_traverse_warnings(form, machine, commands, page, output);
 }

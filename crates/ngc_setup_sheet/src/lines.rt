@@ -33,7 +33,9 @@ use ngc_file_figures::{
 };
 use ngc_fixed_length::{Nm, Point3, System};
 use ngc_machine_files::{ArcFeed, Fixture, Machine, Part, Parts, Rapids, Tool};
-use ngc_machine_speeds::{acceleration, arc_acceleration, millimetres_a_minute, steps_a_millimetre};
+use ngc_machine_speeds::{
+    acceleration, arc_acceleration, millimetres_a_minute, steps_a_millimetre,
+};
 use std::alloc::Allocator;
 
 /// Space for the lines of a machine, of a fixture or of a tool.
@@ -115,10 +117,7 @@ fn axis_speed<A: Allocator>(machine: &Machine<A>, rate: u32) -> u128
     millimetres_a_minute(machine, machine.max_rate.min(rate))
 }
 
-fn step_facts<A: Allocator>(
-    machine: &Machine<A>,
-    written: &Option<MachineFigures>,
-) -> [Line; 6]
+fn step_facts<A: Allocator>(machine: &Machine<A>, written: &Option<MachineFigures>) -> [Line; 6]
     ensures { result ≡ step_facts (file_of machine.now) written.now }
 {
     let steps = Figure::PerMillimetre(steps_a_millimetre(machine));
@@ -177,11 +176,7 @@ fn add_motors<A: Allocator>(lines: &mut Lines, machine: &Machine<A>)
     }
 }
 
-fn add_jump<A: Allocator>(
-    lines: &mut Lines,
-    machine: &Machine<A>,
-    written: &Option<MachineFigures>,
-)
+fn add_jump<A: Allocator>(lines: &mut Lines, machine: &Machine<A>, written: &Option<MachineFigures>)
     requires { array_vec_len lines.old < 55 }
     ensures items { lines.new.items
         ≡ lines.old.items ++ jump_facts (file_of machine.now) written.now }
@@ -571,11 +566,7 @@ pub(crate) fn fixture_lines<A: Allocator>(
 {
     let mut lines = ArrayVec::new();
     add_all(&mut lines, &fixture_facts(number, fixture));
-    warn(
-        &mut lines,
-        is_thin(fixture),
-        thin_warning(written, number),
-    );
+    warn(&mut lines, is_thin(fixture), thin_warning(written, number));
     let unreached = is_out_of_reach(machine, reach, fixture);
     warn(&mut lines, unreached, Warning::OutOfReach(number));
     lines

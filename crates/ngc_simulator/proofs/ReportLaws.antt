@@ -271,8 +271,11 @@ pub reported_files : (bytes after : FileBytes) (figures : FileFigures) (options 
     → PlacedResultIs bytes (Some options.machine.now) (Some options.tools.now) options.changes (Ok shop) → KeepsFiles bytes after
     → source ≡ after (option_map (λ n. n.now) options.program)
     → IfSome source (λ text. Reports (setup_of shop.machine shop.tools) text (request_of figures options) old new outcome) → ReportsOn bytes options old new outcome
-reported_files bytes after figures options shop source old new outcome are said keeps is reports = (figures, are,
-    on_placed bytes (Some options.machine.now) (Some options.tools.now) options.changes (setup_of shop.machine shop.tools)
-    (λ setup. IfSome (bytes (option_map (λ n. n.now) options.program)) (λ text. Reports setup text (request_of figures options) old new outcome))
-    said.0 said.1 (of_file _ source (λ text. Reports (setup_of shop.machine shop.tools) text (request_of figures options) old new outcome)
-    (is ∙ keeps (option_map (λ n. n.now) options.program)) reports))
+reported_files bytes after figures options shop source old new outcome are said keeps is reports = (
+  figures,
+  are,
+  on_placed bytes (Some options.machine.now) (Some options.tools.now) options.changes (setup_of shop.machine shop.tools)
+      (λ setup. IfSome (bytes (option_map (λ n. n.now) options.program)) (λ text. Reports setup text (request_of figures options) old new outcome))
+      said.0 said.1 (of_file _ source (λ text. Reports (setup_of shop.machine shop.tools) text (request_of figures options) old new outcome)
+      (is ∙ keeps (option_map (λ n. n.now) options.program)) reports),
+)

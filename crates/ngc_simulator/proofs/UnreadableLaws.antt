@@ -77,9 +77,12 @@ module _ (bytes after : FileBytes) (options : ReportOptions) (shop : Shop) (sour
 
   reports_on : (figures : FileFigures) (new : Option (List ℕ)) (outcome : Result (Unit {0}) AnswerFault) → AreFiguresOf bytes options figures →
       Known (Reported figures new outcome) → ReportsOn bytes options old new outcome
-  reports_on figures new outcome are reports = (figures, are,
-      on_placed bytes (Some options.machine.now) (Some options.tools.now) options.changes (setup_of shop.machine shop.tools)
-      (λ setup. Known (λ text. Reports setup text (request_of figures options) old new outcome)) said.0 said.1 reports)
+  reports_on figures new outcome are reports = (
+    figures,
+    are,
+    on_placed bytes (Some options.machine.now) (Some options.tools.now) options.changes (setup_of shop.machine shop.tools)
+        (λ setup. Known (λ text. Reports setup text (request_of figures options) old new outcome)) said.0 said.1 reports,
+  )
 
   abbrev Prints : Option (List ℕ) → AnswerFault → List ℕ → Type 0
   Prints new answer text = ReportsUnreadableFile (requested_form options.json) (option_map (λ n. n.now) options.program) text old new answer

@@ -5,9 +5,7 @@ ghost use Rattle.ngc_written_tools.specs.Limits as spec;
 
 use crate::sheet::{LimitSheet, MeasuredTool};
 use ngc_file_figures::{Limits, ToolLimits};
-use ngc_machine_figures::{
-    FeedLimits, FileRefusal, Key, Speed, ToolKey, TurningLimits, optional,
-};
+use ngc_machine_figures::{FeedLimits, FileRefusal, Key, Speed, ToolKey, TurningLimits, optional};
 use std::alloc::{AllocError, Global};
 use toml::Value;
 

@@ -37,11 +37,14 @@ returns-clause-comes g c =
     let reports = report_asked sent c.without_figures.result.0 figures c.args.options.now c.request_of.result (g.W.Sink.written c.read_sent_reporting.new.output) new outcome
     moved.dialect moved.machine moved.tools moved.text c.request_of.ensures c.report_sent.ensures.reports in
     let are = subst (AreFiguresIn bytes machine tools) (sym (c.borrowed.ensures ∙ ap stored moved.figures)) c.in_ok-sent.ensures.figures in
-    dialect_reported c.args.control.now bytes c.args.options.now old new outcome
-    (figures, are, on_read c.args.control.now machine tools c.args.options.now.changes (option_map (λ n. n.now) c.args.options.now.program) bytes sent
-    (λ d s source. ReportsDialect d s source (request_of figures c.args.options.now) old new outcome) c.in_ok-sent.ensures.sent.0
-    (subst (λ (o : Option (List ℕ)). ReportsDialect sent.dialect (setup_of sent.shop.machine sent.shop.tools) sent.text.items (request_of figures c.args.options.now) o new outcome)
-    c.in_ok-sent.ensures.sent.1 reports))
+    dialect_reported c.args.control.now bytes c.args.options.now old new outcome (
+      figures,
+      are,
+      on_read c.args.control.now machine tools c.args.options.now.changes (option_map (λ n. n.now) c.args.options.now.program) bytes sent
+          (λ d s source. ReportsDialect d s source (request_of figures c.args.options.now) old new outcome) c.in_ok-sent.ensures.sent.0
+          (subst (λ (o : Option (List ℕ)). ReportsDialect sent.dialect (setup_of sent.shop.machine sent.shop.tools) sent.text.items (request_of figures c.args.options.now) o new outcome)
+          c.in_ok-sent.ensures.sent.1 reports),
+    )
 
 pub returns-clause-unread : goal.returns-clause-unread
 returns-clause-unread g c =

@@ -23,9 +23,12 @@ shown : (bytes : FileBytes) (options : ShowOptions) (shop : Shop) (old new : Opt
     → AreFiguresIn bytes (Some options.machine.now) (option_map (λ n. n.now) options.tools) (stored shop.figures)
     → ShopResultIs bytes (Some options.machine.now) (option_map (λ n. n.now) options.tools) (Ok shop)
     → Shows options.warnings (stored shop.figures) (setup_of shop.machine shop.tools) old new outcome → ShowsOn bytes options old new outcome
-shown bytes options shop old new outcome are said shows = (stored shop.figures, are,
-    on_setup bytes (Some options.machine.now) (option_map (λ n. n.now) options.tools) (setup_of shop.machine shop.tools)
-    (λ setup. Shows options.warnings (stored shop.figures) setup old new outcome) said.0 said.1 shows)
+shown bytes options shop old new outcome are said shows = (
+  stored shop.figures,
+  are,
+  on_setup bytes (Some options.machine.now) (option_map (λ n. n.now) options.tools) (setup_of shop.machine shop.tools)
+      (λ setup. Shows options.warnings (stored shop.figures) setup old new outcome) said.0 said.1 shows,
+)
 
 pub returns-in_err-shop-clause-comes : goal.returns-in_err-shop-clause-comes
 returns-in_err-shop-clause-comes g c =
