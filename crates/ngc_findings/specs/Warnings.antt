@@ -1,10 +1,11 @@
 -- Mistakes in a program that passes. Our own.
-use Rattle.std.specs.Prelude.{ℕ, ◌+◌, ◌*◌, min, nat_lt, nat_le, ℤ, int_lt, unsigned_abs, List, []}
+use Rattle.std.specs.Prelude.{ℕ, ◌+◌, ◌*◌, min, max, nat_lt, nat_le, ℤ, int_lt, unsigned_abs, List, []}
 use Rattle.std.specs.Prelude.{◌∷◌, ◌++◌}
 use Rattle.std.specs.Prelude.{length, Option, Some, None, Bool, true, false, not, ◌&&◌, ◌||◌}
 use Rattle.std.specs.Prelude.{if◌then◌else◌}
 use Rattle.std.specs.List.{list_any}
 use Rattle.std.specs.Ordering.{int_eq}
+use Rattle.ngc_file_figures.specs.declared.figures.AxisFigures.{AxisFigures}
 use Rattle.ngc_fixed_length.specs.Grid.{grid}
 use Rattle.ngc_fixed_length.specs.declared.points.GridBox.{GridBox}
 use Rattle.ngc_fixed_length.specs.declared.points.Point2.{Point2}
@@ -89,10 +90,28 @@ greatest_speed machine way =
 
 -- A feed in nanometres per minute that is above it. A speed is rounded down to a whole millionth in
 -- a machine file, so a feed below the speed of the next rate is not above it.
-abbrev pub is_fast : MachineFile → Way → Pace → Bool
-is_fast machine way (Feed (PerMinute feed)) =
+abbrev pub is_above_rate : MachineFile → Way → ℕ → Bool
+is_above_rate machine way feed =
     nat_le (60 * (greatest_speed machine way + step_speed machine)) (1000000 * feed)
-is_fast machine way _ = false
+
+abbrev pub greatest_of : AxisFigures → ℕ
+greatest_of s = max (max s.x s.y) s.z
+
+-- the greatest speed of a motion with this box, by the speeds of the axes as they are written
+abbrev pub greatest_written : AxisFigures → GridBox → ℕ
+greatest_written s b =
+    rate_on_axis b.low.x b.high.x s.x
+    (rate_on_axis b.low.y b.high.y s.y
+    (rate_on_axis b.low.z b.high.z s.z (greatest_of s)))
+
+-- where speeds are written, none is rounded
+abbrev pub is_above : MachineFile → Option AxisFigures → Way → ℕ → Bool
+is_above machine None way feed = is_above_rate machine way feed
+is_above machine (Some s) way feed = nat_lt (greatest_written s (reach machine.step way)) feed
+
+abbrev pub is_fast : MachineFile → Option AxisFigures → Way → Pace → Bool
+is_fast machine speeds way (Feed (PerMinute feed)) = is_above machine speeds way feed
+is_fast machine speeds way _ = false
 
 -- ---- nearly a full circle
 
@@ -175,7 +194,7 @@ is_low_across step area e _ _ = false
 abbrev pub concerns : MachineFile → Concern → ToolState → Motion → Bool
 concerns machine NoTool s m = is_unarmed machine s.reached.tool m.way
 concerns machine IdleSpindle s m = is_idle s.is_turning s.reached.tool m.pace
-concerns machine FastFeed s m = is_fast machine m.way m.pace
+concerns machine (FastFeed speeds) s m = is_fast machine speeds m.way m.pace
 concerns machine NearlyFull s m = is_nearly_full m.way
 concerns machine LowHome s m = is_low_home machine s.reached.tool m.way m.pace
 concerns machine LowAcross s m = is_low_across machine.step s.area s.entry m.way m.pace
@@ -225,15 +244,16 @@ abbrev pub traverse_lines : MachineFile → List Command → List told.Line
 traverse_lines machine commands = warned machine LowHome commands ++ warned machine LowAcross commands
 
 -- the warnings about single motions, and about traverses
-abbrev pub motion_lines : MachineFile → List Command → List told.Line
-motion_lines machine commands =
-    warned machine FastFeed commands
+abbrev pub motion_lines : MachineFile → Option AxisFigures → List Command → List told.Line
+motion_lines machine speeds commands =
+    warned machine (FastFeed speeds) commands
     ++ (warned machine NearlyFull commands ++ traverse_lines machine commands)
 
-abbrev pub warning_lines : MachineFile → List Command → List told.Line
-warning_lines machine commands =
+-- with the speeds of the axes as they are written, if the machine file has them
+abbrev pub warning_lines : MachineFile → Option AxisFigures → List Command → List told.Line
+warning_lines machine speeds commands =
     warned machine NoTool commands
-    ++ (warned machine IdleSpindle commands ++ motion_lines machine commands)
+    ++ (warned machine IdleSpindle commands ++ motion_lines machine speeds commands)
 
 -- ---- the count of commands
 

@@ -1,5 +1,5 @@
 //! Mistakes in a program that passes.
-ghost use Rattle.std.specs.Prelude.{◌≡◌, ◌+◌, ◌*◌, ◌≤◌, ◌<◌, ◌^◌, ◌∷◌, [], map, fold, unsigned_abs};
+ghost use Rattle.std.specs.Prelude.{◌≡◌, ◌+◌, ◌*◌, ◌≤◌, ◌<◌, ◌^◌, ◌∷◌, [], map, fold, max, unsigned_abs};
 ghost use Rattle.ngc_fixed_length.specs.Limits.{MILLION};
 ghost use Rattle.std.specs.List.{list_any};
 ghost use Rattle.std.specs.Ordering.{int_eq};
@@ -7,7 +7,8 @@ ghost use Rattle.ngc_collision.specs.Inside.{solid_of};
 ghost use Rattle.ngc_fixed_length.specs.Length.{IsStep};
 ghost use Rattle.ngc_machine_files.specs.Machine.{file_of};
 ghost use Rattle.ngc_findings.specs.Warnings.{leaves, is_unarmed, step_speed, greatest_speed};
-ghost use Rattle.ngc_findings.specs.Warnings.{rate_on_axis, greatest_rate};
+ghost use Rattle.ngc_findings.specs.Warnings.{rate_on_axis, greatest_rate, greatest_of};
+ghost use Rattle.ngc_findings.specs.Warnings.{is_above_rate, is_above, greatest_written};
 ghost use Rattle.ngc_findings.specs.Warnings.{is_idle, square_apart, ends_meet, is_nearly_full};
 ghost use Rattle.ngc_findings.specs.Warnings.{is_fast, is_at, goes_home, is_low, comes_low};
 ghost use Rattle.ngc_findings.specs.Warnings.{is_low_home, concerns, is_concerned, line_of};
@@ -22,6 +23,7 @@ use crate::ways::square_between;
 use ngc_arc_geometry::Arc;
 use ngc_collision::Solid;
 use ngc_commands::{Action, Command, Feed, Motion, Pace, Way};
+use ngc_file_figures::AxisFigures;
 use ngc_fixed_length::{GridBox, Nm, Point2, Point3, StepPos};
 use ngc_machine_files::{Machine, Tool};
 use std::alloc::Allocator;
@@ -33,9 +35,10 @@ pub enum Concern {
     NoTool,
     /// Feeds with a tool while the spindle is off, or at speed 0.
     IdleSpindle,
-    /// Feeds per minute above the greatest speed that the machine has along an axis on this motion.
-    /// Inverse time feeds and traverses don't count.
-    FastFeed,
+    /// Feeds per minute above the greatest speed that the machine has along an axis on this motion: by
+    /// these speeds of its file in nanometres per minute, or else by its rates. Inverse time feeds and
+    /// traverses don't count.
+    FastFeed(Option<AxisFigures>),
     /// Arcs of more than 359 degrees, but no full circles, whose ends lie less than 0.01 mm apart
     /// in the plane: usually an arc of less than a degree whose ends were rounded.
     NearlyFull,
@@ -154,14 +157,72 @@ fn greatest_speed<A: Allocator>(machine: &Machine<A>, way: &Way) -> u64
     u64::from(greatest_rate(machine, &reach(machine.step, way))) * step_speed(machine)
 }
 
-fn is_fast<A: Allocator>(machine: &Machine<A>, way: &Way, pace: &Pace) -> bool
-    ensures { result ≡ is_fast (file_of machine.now) way.now pace.now }
+// Returns whether a feed is above the speed of the machine's rates.
+fn is_above_rate<A: Allocator>(machine: &Machine<A>, way: &Way, feed: u64) -> bool
+    ensures { result ≡ is_above_rate (file_of machine.now) way.now feed }
+{
+    let above = greatest_speed(machine, way) + step_speed(machine);
+    60 * u128::from(above) <= 1_000_000 * u128::from(feed)
+}
+
+fn greater(a: u64, b: u64) -> u64
+    ensures { result ≡ max a b }
+{
+    if a <= b { b } else { a }
+}
+
+fn greatest_of(speeds: &AxisFigures) -> u64
+    ensures { result ≡ greatest_of speeds.now }
+{
+    greater(greater(speeds.x, speeds.y), speeds.z)
+}
+
+// Returns a speed, limited to that of an axis along which a motion goes from `low` to `high`.
+fn speed_on_axis(low: i32, high: i32, of_axis: u64, speed: u64) -> u64
+    ensures { result ≡ rate_on_axis low high of_axis speed }
+{
+    if low == high {
+        speed
+    } else {
+        speed.min(of_axis)
+    }
+}
+
+// Returns the least of the speeds of the axes along which a box extends, or the greatest of all where
+// it is a point.
+fn greatest_written(speeds: &AxisFigures, bounds: &GridBox) -> u64
+    ensures { result ≡ greatest_written speeds.now bounds.now }
+{
+    let (low, high) = (&bounds.low, &bounds.high);
+    let z = speed_on_axis(low.z, high.z, speeds.z, greatest_of(speeds));
+    let y = speed_on_axis(low.y, high.y, speeds.y, z);
+    speed_on_axis(low.x, high.x, speeds.x, y)
+}
+
+fn is_above<A: Allocator>(
+    machine: &Machine<A>,
+    speeds: &Option<AxisFigures>,
+    way: &Way,
+    feed: u64,
+) -> bool
+    ensures { result ≡ is_above (file_of machine.now) speeds.now way.now feed }
+{
+    match speeds {
+        None => is_above_rate(machine, way, feed),
+        Some(speeds) => greatest_written(speeds, &reach(machine.step, way)) < feed,
+    }
+}
+
+fn is_fast<A: Allocator>(
+    machine: &Machine<A>,
+    speeds: &Option<AxisFigures>,
+    way: &Way,
+    pace: &Pace,
+) -> bool
+    ensures { result ≡ is_fast (file_of machine.now) speeds.now way.now pace.now }
 {
     match pace {
-        Pace::Feed(Feed::PerMinute(feed)) => {
-            let above = greatest_speed(machine, way) + step_speed(machine);
-            60 * u128::from(above) <= 1_000_000 * u128::from(*feed)
-        }
+        Pace::Feed(Feed::PerMinute(feed)) => is_above(machine, speeds, way, *feed),
         Pace::Feed(Feed::Inverse(_)) | Pace::Rapid => false,
     }
 }
@@ -332,7 +393,7 @@ fn concerns<A: Allocator>(
     match concern {
         Concern::NoTool => is_unarmed(machine, tool, &motion.way),
         Concern::IdleSpindle => is_idle(before.is_turning, tool, &motion.pace),
-        Concern::FastFeed => is_fast(machine, &motion.way, &motion.pace),
+        Concern::FastFeed(speeds) => is_fast(machine, &speeds, &motion.way, &motion.pace),
         Concern::NearlyFull => is_nearly_full(&motion.way),
         Concern::LowHome => is_low_home(machine, tool, &motion.way, &motion.pace),
         Concern::LowAcross => is_low_across(

@@ -190,7 +190,7 @@ fn report_first<A: Allocator, W: Sink>(
     setting: Setting,
     command: u32,
     history: &FrameHistory<A>,
-    request: &ReportRequest,
+    request: &ReportRequest<'_>,
     output: &mut W,
 ) -> Result<(), WriteFault>
     ensures { Writes (W.written output.old) (W.written output.new) (W.failures output.old)
@@ -272,7 +272,7 @@ fn report_all<A: Allocator + Copy, W: Sink>(
     framed: &FramedJob<A>,
     setting: Setting,
     command: u32,
-    request: ReportRequest,
+    request: ReportRequest<'_>,
     output: &mut W,
 ) -> Result<(), ReportFault>
     requires made { IsMade framed.now.job.machine request.cuts framed.now.job.off
@@ -329,7 +329,7 @@ pub fn report_refusal<A: Allocator + Copy, W: Sink>(
     framed: &FramedJob<A>,
     setting: Setting,
     command: u32,
-    request: ReportRequest,
+    request: ReportRequest<'_>,
     output: &mut W,
 ) -> Result<(), ReportFault>
     requires made { IsMade framed.now.job.machine request.cuts framed.now.job.off

@@ -85,7 +85,7 @@ fn write_quoted<A: Allocator, W: Sink>(
         (W.failures output.new) result (quoted form number (reported text.now).quoted) }
 {
     match text {
-        ReportedText::Own(program) => write_line(form, program, number, output),
+        ReportedText::Own(program, _) => write_line(form, program, number, output),
         ReportedText::Other(other) => write_text_line(form, other.text, number, output),
     }
 }
@@ -213,6 +213,7 @@ fn write_misfit_end<A: Allocator, W: Sink>(
     ensures { Writes (W.written output.old) (W.written output.new) (W.failures output.old)
         (W.failures output.new) result
         (shop_text subject.now.form (setup_of subject.now.machine.now subject.now.tools.now)
+        (reported subject.now.text.now).figures
         ++ ending subject.now.form 304) }
 {
     write_shop(subject, output)?;

@@ -148,7 +148,7 @@ clearing_text (Some (clearings.Travel i)) = inward_text i.axis i.side i.shift
 unfoldable pub concern_text : Concern → List ℕ
 concern_text NoTool = codes "motions without a tool, away from the height of the start"
 concern_text IdleSpindle = codes "feeds with a tool and the spindle off"
-concern_text FastFeed = codes "feeds above the greatest speed of the machine"
+concern_text (FastFeed speeds) = codes "feeds above the greatest speed of the machine"
 concern_text NearlyFull = codes "arcs of over 359 degrees with ends less than 0.01 mm apart"
 concern_text LowHome = codes "traverses home along X or Y, below the top of a fixture"
 concern_text LowAcross = codes "traverses across the work without a retract before them"

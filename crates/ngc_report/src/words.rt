@@ -127,7 +127,7 @@ pub(crate) fn concern_words(concern: Concern) -> &'static [u8]
     match concern {
         Concern::NoTool => b"motions without a tool, away from the height of the start",
         Concern::IdleSpindle => b"feeds with a tool and the spindle off",
-        Concern::FastFeed => b"feeds above the greatest speed of the machine",
+        Concern::FastFeed(_) => b"feeds above the greatest speed of the machine",
         Concern::NearlyFull => b"arcs of over 359 degrees with ends less than 0.01 mm apart",
         Concern::LowHome => b"traverses home along X or Y, below the top of a fixture",
         Concern::LowAcross => b"traverses across the work without a retract before them",

@@ -3,6 +3,8 @@ use Rattle.std.specs.Prelude.{◌≡◌, ◌⊎◌, ℕ, Bool, true, false, List
 use Rattle.std.specs.Prelude.{Result, Ok, Err, IfSome, option_map, MatchOption, None}
 use Rattle.std.specs.Prelude.{if◌then◌else◌}
 use Rattle.std.specs.Io.KnownBytes.{Appends, Keeps}
+use Rattle.ngc_file_figures.specs.Files.{FigureValues, values_of}
+use Rattle.ngc_file_figures.specs.declared.figures.FileFigures.{FileFigures}
 use Rattle.ngc_command_line.specs.declared.options.ListOptions.{ListOptions}
 use Rattle.ngc_command_line.specs.declared.options.AdaptOptions.{AdaptOptions}
 use Rattle.ngc_command_line.specs.declared.options.CertifyOptions.{CertifyOptions}
@@ -55,7 +57,7 @@ use Rattle.ngc_simulator.specs.Lives.{Lives, live_named}
 use Rattle.ngc_simulator.specs.DialectRuns.{LivesDialect, RunsDialect, RunsDialectThrough}
 use Rattle.ngc_simulator.specs.Running.{IsTimeOf, Runs, RunsThrough}
 use Rattle.ngc_canonical.specs.State.{Setup}
-use Rattle.ngc_inputs.specs.Setups.{FileBytes, OnPlaced, OnSetup}
+use Rattle.ngc_inputs.specs.Setups.{AreFiguresIn, FileBytes, OnPlaced, OnSetup}
 use Rattle.ngc_margins.specs.declared.changes.Changes.{Changes}
 use Rattle.ngc_inputs.specs.Shops.{RefusesPlaced, RefusesShop}
 use Rattle.ngc_simulator.specs.Mistaken.{ReportsPlacedRefusal, ReportsRefusal}
@@ -137,30 +139,40 @@ DrawsFrom bytes options view old new outcome =
 abbrev pub ShowsOn : FileBytes → ShowOptions → Option (List ℕ) → Option (List ℕ) →
     Result (Unit {0}) AnswerFault → Type 0
 ShowsOn bytes options old new outcome =
+    (figures : FigureValues) × AreFiguresIn bytes (Some options.machine.now)
+    (option_map (λ name. name.now) options.tools) figures ×
     OnSetup bytes (Some options.machine.now) (option_map (λ name. name.now) options.tools)
-    (λ setup. Shows options.warnings setup old new outcome)
+    (λ setup. Shows options.warnings figures setup old new outcome)
 
 -- the form that is requested of a report
 abbrev pub requested_form : Bool → Form
 requested_form false = Words
 requested_form true = Json
 
-abbrev pub request_of : ReportOptions → ReportRequest
-request_of options = record {
+-- what is requested of a report, with what the files say besides the machine and its tools
+abbrev pub request_of : FileFigures → ReportOptions → ReportRequest
+request_of figures options = record {
   cuts = options.cuts;
   all = options.all;
   form = requested_form options.json;
   origins = options.changes.origins;
+  figures = figures;
   some_cuts = options.some_cuts;
 }
+
+-- what a call's machine file and tool table say besides the machine and its tools
+abbrev pub AreFiguresOf : FileBytes → ReportOptions → FileFigures → Type 0
+AreFiguresOf bytes options figures =
+    AreFiguresIn bytes (Some options.machine.now) (Some options.tools.now) (values_of figures)
 
 abbrev pub ReportsOn : FileBytes → ReportOptions → Option (List ℕ) → Option (List ℕ) →
     Result (Unit {0}) AnswerFault → Type 0
 ReportsOn bytes options old new outcome =
+    (figures : FileFigures) × AreFiguresOf bytes options figures ×
     OnPlaced bytes (Some options.machine.now) (Some options.tools.now) options.changes
     (λ setup.
     IfSome (bytes (option_map (λ name. name.now) options.program))
-    (λ text. Reports setup text (request_of options) old new outcome))
+    (λ text. Reports setup text (request_of figures options) old new outcome))
 
 -- A machine file or tool table that is refused leaves the output unchanged, and so does a file that
 -- isn't read.
@@ -421,9 +433,10 @@ StopsReport control bytes options old new fault =
 abbrev pub DialectReportsOn : List ℕ → FileBytes → ReportOptions → Option (List ℕ) →
     Option (List ℕ) → Result Done AnswerFault → Type 0
 DialectReportsOn control bytes options old new outcome =
+    (figures : FileFigures) × AreFiguresOf bytes options figures ×
     OnDialect control bytes (Some options.machine.now) (Some options.tools.now) options.changes
     (option_map (λ name. name.now) options.program)
-    (λ d setup source. ReportsDialect d setup source (request_of options) old new outcome)
+    (λ d setup source. ReportsDialect d setup source (request_of figures options) old new outcome)
 
 abbrev pub DialectReportResult : List ℕ → FileBytes → ReportOptions → Option (List ℕ) →
     Option (List ℕ) → Result Done AnswerFault → Type 0

@@ -13,6 +13,7 @@ use Rattle.ngc_dialect_notes.specs.declared.notes.Notes.{Notes}
 use Rattle.ngc_job.specs.Job.{AreCommands}
 use Rattle.ngc_dialect_execution.specs.Text.{has_deleted}
 use Rattle.ngc_dialect_names.specs.declared.dialect.Dialect.{Dialect}
+use Rattle.ngc_file_figures.specs.Files.{values_of}
 use Rattle.ngc_frames.specs.Changes.{start_frame}
 use Rattle.ngc_inputs.specs.declared.fault.AnswerFault.{AnswerFault}
 use Rattle.ngc_inputs.specs.declared.fault.AnswerFault.TheVariants as answers
@@ -79,11 +80,11 @@ abbrev pub ReportsDialect : Dialect → Setup → List ℕ → ReportRequest →
     Option (List ℕ) → Result Done AnswerFault → Type 0
 ReportsDialect d setup source request old new (Ok Quietly) = (f : FramedData) ×
     IsFramedDialect d setup source f ×
-    ReportsJob f (other_lines source (dialect_notes d setup source)) request old new (Ok tt)
+    ReportsJob f (other_lines (values_of request.figures) source (dialect_notes d setup source)) request old new (Ok tt)
 ReportsDialect d setup source request old new (Ok (RunThrough time)) = ⊥
 ReportsDialect d setup source request old new (Ok (WithNotes notes)) =
     NotesRefusal d setup source notes × Keeps old new
 ReportsDialect d setup source request old new (Err answers.Memory) = Keeps old new
 ReportsDialect d setup source request old new (Err fault) = (f : FramedData) ×
     IsFramedDialect d setup source f ×
-    ReportsJob f (other_lines source (dialect_notes d setup source)) request old new (Err fault)
+    ReportsJob f (other_lines (values_of request.figures) source (dialect_notes d setup source)) request old new (Err fault)

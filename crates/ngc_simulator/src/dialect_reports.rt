@@ -17,6 +17,7 @@ use ngc_command_line::ReportOptions;
 use ngc_dialect_execution::{Wanted, has_deleted_lines};
 use ngc_dialect_names::Dialect;
 use ngc_dialect_notes::Notes as ProgramNotes;
+use ngc_file_figures::StoredFigures;
 use ngc_inputs::{AnswerFault, Files, Shop};
 use ngc_job::Job;
 use ngc_program_report::{FramedJob, OtherText, ReportRequest, ReportedText};
@@ -62,7 +63,7 @@ fn framed_dialect(
         Err(notes) => return Ok(Err(notes)),
     };
     if !has_deleted_lines(text) {
-        let Shop { machine, tools } = shop;
+        let Shop { machine, tools, .. } = shop;
         let job = Job::from_commands(machine, tools, off.framed.commands, None);
         let framed = FramedJob {
             job,
@@ -81,7 +82,7 @@ fn framed_dialect(
         Ok(on) => on,
         Err(notes) => return Ok(Err(notes)),
     };
-    let Shop { machine, tools } = shop;
+    let Shop { machine, tools, .. } = shop;
     let job = Job::from_commands(
         machine,
         tools,
@@ -100,11 +101,42 @@ fn framed_dialect(
     }))
 }
 
+// Returns the same without its figures, and its figures.
+fn without_figures(alloc: Global, sent: Sent) -> (Sent, StoredFigures)
+    ensures dialect { result.0.dialect ≡ sent.dialect }
+    ensures machine { result.0.shop.machine ≡ sent.shop.machine }
+    ensures tools { result.0.shop.tools ≡ sent.shop.tools }
+    ensures text { result.0.text ≡ sent.text }
+    ensures figures { result.1 ≡ sent.shop.figures }
+{
+    let Sent {
+        dialect,
+        shop,
+        text,
+    } = sent;
+    let Shop {
+        machine,
+        tools,
+        figures,
+    } = shop;
+    let shop = Shop {
+        machine,
+        tools,
+        figures: StoredFigures::none(alloc),
+    };
+    let sent = Sent {
+        dialect,
+        shop,
+        text,
+    };
+    (sent, figures)
+}
+
 // Writes the report of a program, or returns notes on why it is refused.
 fn report_sent<W: Sink>(
     alloc: Global,
     sent: Sent,
-    request: ReportRequest,
+    request: ReportRequest<'_>,
     output: &mut W,
 ) -> Result<Done, AnswerFault>
     ensures reports { ReportsDialect sent.dialect (setup_of sent.shop.machine sent.shop.tools)
@@ -120,6 +152,7 @@ fn report_sent<W: Sink>(
         Ok(noted) => {
             let other = OtherText {
                 text: text.as_slice(),
+                figures: request.figures,
                 off: noted.off,
                 on: noted.on,
             };
@@ -148,5 +181,6 @@ pub(crate) fn report_dialect<F: Files, W: Sink>(
     ensures sink { FailsByOutput result (W.failures output.old) (W.failures output.new) }
 {
     let sent = read_sent_reporting(alloc, control, options, files, output)?;
-    report_sent(alloc, sent, request_of(options), output)
+    let (sent, figures) = without_figures(alloc, sent);
+    report_sent(alloc, sent, request_of(figures.borrowed(), options), output)
 }

@@ -1,6 +1,7 @@
 //! Programs for other controls that are executed in their own language: their files, their commands, and
 //! why they are refused.
 ghost use Rattle.std.specs.Prelude.{◌≡◌, false, IfErr, IfOk, IfSome, IsSome, MatchResult, OnOk, Ok, Some, option_map};
+ghost use Rattle.ngc_file_figures.specs.Files.{stored};
 ghost use Rattle.ngc_canonical.specs.Interpreter.{setup_of};
 ghost use Rattle.ngc_dialect_execution.specs.Program.{meaning_in};
 ghost use Rattle.ngc_dialect_faults.specs.Lines.{fault_line};
@@ -8,7 +9,7 @@ ghost use Rattle.ngc_simulator.specs.Answers.{StopsReport, dialect_inputs, repor
 ghost use Rattle.ngc_simulator.specs.DialectReports.{IsTraced, dialect_frames};
 ghost use Rattle.ngc_simulator.specs.Dialects.{IsRead, IsSent, NotesFault, StopsSending};
 ghost use Rattle.ngc_inputs.specs.Faults.{FailsByOutput};
-ghost use Rattle.ngc_inputs.specs.Setups.{KeepsFiles, KeepsNamed};
+ghost use Rattle.ngc_inputs.specs.Setups.{AreFiguresIn, KeepsFiles, KeepsNamed};
 ghost use Rattle.ngc_inputs.specs.Unread.{FailsByInput, ReportsUnread, SourceFails};
 ghost use Rattle.ngc_job.specs.Job.{AreCommands};
 ghost use Rattle.ngc_machine_files.specs.Machine.{file_of};
@@ -110,6 +111,8 @@ pub(crate) fn read_sent_reporting<F: Files, W: Sink>(
         (Some options.now.tools.now) options.now.changes
         (option_map (λ n. n.now) options.now.program) (F.bytes files.old) sent
         × (W.written output.new ≡ W.written output.old)) }
+    ensures figures { IfOk result (λ sent. AreFiguresIn (F.bytes files.old)
+        (Some options.now.machine.now) (Some options.now.tools.now) (stored sent.shop.figures)) }
     ensures stops { IfErr result (StopsReport control.now (F.bytes files.old) options.now
         (W.written output.old) (W.written output.new)) }
     ensures unread { FailsByInput (SourceFails F.R.remaining F.R.failures) (F.bytes files.old)

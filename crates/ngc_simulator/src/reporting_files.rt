@@ -12,7 +12,8 @@ use crate::mistaken_files::read_placed_reporting;
 use crate::reporting::report_program;
 use crate::unread_files::report_unreadable;
 use ngc_command_line::ReportOptions;
-use ngc_inputs::{AnswerFault, Files, open_file};
+use ngc_file_figures::FileFigures;
+use ngc_inputs::{AnswerFault, Files, Shop, open_file};
 use ngc_program_report::ReportRequest;
 use ngc_report::Form;
 use ngc_text::Sink;
@@ -25,15 +26,19 @@ pub(crate) fn requested_form(json: bool) -> Form
     if json { Form::Json } else { Form::Words }
 }
 
-/// Returns what is requested of a report.
-pub(crate) fn request_of(options: &ReportOptions<'_>) -> ReportRequest
-    ensures { result ≡ request_of options.now }
+/// Returns what is requested of a report, with what the files say besides the machine and its tools.
+pub(crate) fn request_of<'a>(
+    figures: FileFigures<'a>,
+    options: &ReportOptions<'_>,
+) -> ReportRequest<'a>
+    ensures { result ≡ request_of figures options.now }
 {
     ReportRequest {
         cuts: options.cuts,
         all: options.all,
         form: requested_form(options.json),
         origins: options.changes.origins,
+        figures,
     }
 }
 
@@ -53,21 +58,19 @@ fn report_own<F: Files, W: Sink>(
         (own_report_inputs options.now) (F.failures files.old) (F.failures files.new) result }
     ensures sink { FailsByOutput result (W.failures output.old) (W.failures output.new) }
 {
-    let request = request_of(options);
-    let form = request.form;
+    let form = requested_form(options.json);
     let (machine, tools) = (options.machine, Some(options.tools));
     let changes = &options.changes;
     let shop = read_placed_reporting(alloc, form, machine, tools, changes, files, output)?;
     report_all_faults(alloc, options, form, &shop, files, output)?;
     let mut source = open_file(options.program, files)?;
-    let fault = match report_program(
-        alloc,
-        &mut source,
-        shop.machine,
-        shop.tools,
-        request,
-        output,
-    ) {
+    let Shop {
+        machine,
+        tools,
+        figures,
+    } = shop;
+    let request = request_of(figures.borrowed(), options);
+    let fault = match report_program(alloc, &mut source, machine, tools, request, output) {
         Ok(()) => return Ok(Done::Quietly),
         Err(fault) => fault,
     };

@@ -9,5 +9,5 @@ pub returns : goal.returns
 returns g c =
     let m = file_of c.args.machine.now in
     let cs = c.args.commands.now in
-    then_lines c.args.form (warned m FastFeed cs) (warned m NearlyFull cs ++ traverse_lines m cs) c.say_warned.ensures
+    then_lines c.args.form (warned m (FastFeed c.args.speeds) cs) (warned m NearlyFull cs ++ traverse_lines m cs) c.say_warned.ensures
     (then_lines c.args.form (warned m NearlyFull cs) (traverse_lines m cs) c.say_warned-2.ensures c.say_traverse_warnings.ensures)

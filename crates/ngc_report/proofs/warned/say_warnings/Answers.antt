@@ -9,5 +9,5 @@ pub returns : goal.returns
 returns g c =
     let m = file_of c.args.machine.now in
     let cs = c.args.commands.now in
-    then_lines c.args.form (warned m NoTool cs) (warned m IdleSpindle cs ++ motion_lines m cs) c.say_warned.ensures
-    (then_lines c.args.form (warned m IdleSpindle cs) (motion_lines m cs) c.say_warned-2.ensures c.say_motion_warnings.ensures)
+    then_lines c.args.form (warned m NoTool cs) (warned m IdleSpindle cs ++ motion_lines m c.args.speeds cs) c.say_warned.ensures
+    (then_lines c.args.form (warned m IdleSpindle cs) (motion_lines m c.args.speeds cs) c.say_warned-2.ensures c.say_motion_warnings.ensures)

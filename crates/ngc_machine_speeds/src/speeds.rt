@@ -2,9 +2,9 @@
 ghost use Rattle.std.specs.Prelude.{◌≡◌, ◌≤◌, ◌<◌, ◌*◌, ◌^◌, unsigned_abs};
 ghost use Rattle.ngc_fixed_length.specs.Length.{IsStep};
 ghost use Rattle.ngc_machine_files.specs.Machine.{file_of};
-ghost use Rattle.ngc_setup_sheet.specs.Figures.{rounded, step_speed, speed, gain};
-ghost use Rattle.ngc_setup_sheet.specs.Figures.{millimetres_a_minute, acceleration};
-ghost use Rattle.ngc_setup_sheet.specs.Figures.{diagonal_turns, pull, arc_acceleration, steps_a_millimetre};
+ghost use Rattle.ngc_machine_speeds.specs.Speeds.{rounded, step_speed, speed, gain};
+ghost use Rattle.ngc_machine_speeds.specs.Speeds.{millimetres_a_minute, acceleration};
+ghost use Rattle.ngc_machine_speeds.specs.Speeds.{diagonal_turns, pull, arc_acceleration, steps_a_millimetre};
 
 use ngc_fixed_length::Nm;
 use ngc_machine_files::{ArcFeed, Machine};
@@ -38,7 +38,7 @@ fn step_speed<A: Allocator>(machine: &Machine<A>) -> u64
 }
 
 /// Returns the speed of a rate, in millionths of a nanometre per second.
-pub(crate) fn speed<A: Allocator>(machine: &Machine<A>, rate: u32) -> u64
+pub fn speed<A: Allocator>(machine: &Machine<A>, rate: u32) -> u64
     requires { rate ≤ 1000000 }
     ensures value { result ≡ speed (file_of machine.now) rate }
     ensures bound { result ≤ 50000000000000000 }
@@ -47,7 +47,7 @@ pub(crate) fn speed<A: Allocator>(machine: &Machine<A>, rate: u32) -> u64
 }
 
 /// Returns an acceleration in steps per tick, per tick, as nanometres per second squared.
-pub(crate) fn gain<A: Allocator>(machine: &Machine<A>, steps: u64) -> u128
+pub fn gain<A: Allocator>(machine: &Machine<A>, steps: u64) -> u128
     requires { steps ≤ 1000000000000 }
     ensures value { result ≡ gain (file_of machine.now) steps }
     ensures bound { result ≤ 50000000000000000000000000000 }
@@ -56,14 +56,14 @@ pub(crate) fn gain<A: Allocator>(machine: &Machine<A>, steps: u64) -> u128
 }
 
 /// Returns the steps per millimetre, in thousandths.
-pub(crate) fn steps_a_millimetre<A: Allocator>(machine: &Machine<A>) -> u128
+pub fn steps_a_millimetre<A: Allocator>(machine: &Machine<A>) -> u128
     ensures { result ≡ steps_a_millimetre (file_of machine.now) }
 {
     rounded(1_000_000_000, u128::from(size_of(machine.step)))
 }
 
 /// Returns the speed of a rate, in thousandths of a millimetre per minute.
-pub(crate) fn millimetres_a_minute<A: Allocator>(machine: &Machine<A>, rate: u32) -> u128
+pub fn millimetres_a_minute<A: Allocator>(machine: &Machine<A>, rate: u32) -> u128
     requires { rate ≤ 1000000 }
     ensures { result ≡ millimetres_a_minute (file_of machine.now) rate }
 {
@@ -71,7 +71,7 @@ pub(crate) fn millimetres_a_minute<A: Allocator>(machine: &Machine<A>, rate: u32
 }
 
 /// Returns the acceleration along the path, in thousandths of a millimetre per second squared.
-pub(crate) fn acceleration<A: Allocator>(machine: &Machine<A>) -> u128
+pub fn acceleration<A: Allocator>(machine: &Machine<A>) -> u128
     ensures { result ≡ acceleration (file_of machine.now) (file_of machine.now).change }
 {
     rounded(gain(machine, u64::from(machine.change)), 1_000_000_000)
@@ -90,7 +90,7 @@ fn diagonal_turns(arc_feed: &ArcFeed) -> u128
 
 /// Returns the greatest acceleration towards the centre of an arc that is aimed at, in millionths of
 /// a millionth of a nanometre per second squared.
-pub(crate) fn pull<A: Allocator>(machine: &Machine<A>) -> u128
+pub fn pull<A: Allocator>(machine: &Machine<A>) -> u128
     ensures value { result ≡ pull (file_of machine.now) }
     ensures bound { result ≤ 100000000000000000000000000000 }
 {
@@ -99,7 +99,7 @@ pub(crate) fn pull<A: Allocator>(machine: &Machine<A>) -> u128
 
 /// Returns the greatest acceleration towards the centre of an arc that is aimed at, in thousandths
 /// of a millimetre per second squared.
-pub(crate) fn arc_acceleration<A: Allocator>(machine: &Machine<A>) -> u128
+pub fn arc_acceleration<A: Allocator>(machine: &Machine<A>) -> u128
     ensures { result ≡ arc_acceleration (file_of machine.now) }
 {
     rounded(pull(machine), 1_000_000_000_000_000)
