@@ -14,5 +14,7 @@ pub struct ReportRequest {
     pub form: Form,
     /// The origins that replace those of the machine file, which the report names.
     pub origins: Origins,
+    /// The most cells that a block of material is divided into, at most 4,000,000.
+    pub cells: u32,
     ghost some_cuts: { 1 ≤ cuts },
 }
