@@ -22,7 +22,8 @@ pub record WalkData : Type 0 where
   pub feeds : List Found
   pub cuts : List Cut
 
--- some of the cells, or the end of a motion, is more than two metres from the machine's zero
+-- some of the cells, or the end of a motion, is more than two metres from the machine's zero; or the cells are
+-- more than 4,000,000, which `--cells` doesn't allow
 abbrev pub IsFar : Stock → List Command → Type 0
 IsFar s commands = ¬ (IsGrid s.grid) ⊎ ¬ (IsTrue (are_reached commands))
 
