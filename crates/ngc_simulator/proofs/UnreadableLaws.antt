@@ -88,7 +88,7 @@ module _ (bytes after : FileBytes) (options : ReportOptions) (shop : Shop) (sour
   unreadable_on : (new : Option (List ℕ)) (answer : AnswerFault) → Known (Prints new answer) → UnreadableOn bytes options old new answer
   unreadable_on new answer tells =
       on_placed bytes (Some options.machine.now) (Some options.tools.now) options.changes (setup_of shop.machine shop.tools)
-      (λ setup. Known (Prints new answer)) said.0 said.1 tells
+      (λ setup. (is_idle options.cells setup.machine.stock ≡ false) × Known (Prints new answer)) said.0 said.1 (divides, tells)
 
   -- where nothing is written besides the report
   pub reported_comes : (new : Option (List ℕ)) (fault : AnswerFault) → OfCertifying fault → IfSome source (Reported new (Err fault)) →
@@ -133,6 +133,7 @@ module _ (bytes after : FileBytes) (options : ReportOptions) (shop : Shop) (sour
   faults_comes new fault all tells = inr (inr (inr (
     all,
     on_placed bytes (Some options.machine.now) (Some options.tools.now) options.changes (setup_of shop.machine shop.tools)
-        (λ setup. Known (λ text. ReportsFaults setup (requested_form options.json) text old new fault)) said.0 said.1
-        (known (ToldAll new fault) tells),
+        (λ setup. (is_idle options.cells setup.machine.stock ≡ false)
+        × Known (λ text. ReportsFaults setup (requested_form options.json) text old new fault)) said.0 said.1
+        (divides, known (ToldAll new fault) tells),
   )))

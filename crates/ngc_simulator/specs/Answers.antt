@@ -159,12 +159,17 @@ request_of options = record {
   some_cuts = options.some_cuts;
 }
 
--- the report of a program; there is a block of material where a number of cells is requested
+-- P of the machine of a report and its tools; it has a block of material where a number of cells is
+-- requested
+abbrev pub OnReportShop : FileBytes → ReportOptions → (Setup → Type 0) → Type 0
+OnReportShop bytes options P =
+    OnPlaced bytes (Some options.machine.now) (Some options.tools.now) options.changes
+    (λ setup. (is_idle options.cells setup.machine.stock ≡ false) × P setup)
+
 abbrev pub ReportsOn : FileBytes → ReportOptions → Option (List ℕ) → Option (List ℕ) →
     Result (Unit {0}) AnswerFault → Type 0
 ReportsOn bytes options old new outcome =
-    OnPlaced bytes (Some options.machine.now) (Some options.tools.now) options.changes
-    (λ setup. (is_idle options.cells setup.machine.stock ≡ false) ×
+    OnReportShop bytes options (λ setup.
     IfSome (bytes (option_map (λ name. name.now) options.program))
     (λ text. Reports setup text (request_of options) old new outcome))
 
@@ -382,8 +387,7 @@ ShowResult bytes options old new outcome =
 abbrev pub UnreadableOn : FileBytes → ReportOptions → Option (List ℕ) → Option (List ℕ) →
     AnswerFault → Type 0
 UnreadableOn bytes options old new fault =
-    OnPlaced bytes (Some options.machine.now) (Some options.tools.now) options.changes
-    (λ setup.
+    OnReportShop bytes options (λ setup.
     IfSome (bytes (option_map (λ name. name.now) options.program)) (λ text.
     ReportsUnreadableFile (requested_form options.json)
     (option_map (λ name. name.now) options.program) text old new fault))
@@ -392,8 +396,7 @@ UnreadableOn bytes options old new fault =
 abbrev pub FaultsOn : FileBytes → ReportOptions → Option (List ℕ) → Option (List ℕ) →
     AnswerFault → Type 0
 FaultsOn bytes options old new fault = (options.all ≡ true) ×
-    OnPlaced bytes (Some options.machine.now) (Some options.tools.now) options.changes
-    (λ setup.
+    OnReportShop bytes options (λ setup.
     IfSome (bytes (option_map (λ name. name.now) options.program)) (λ text.
     ReportsFaults setup (requested_form options.json) text old new fault))
 
