@@ -273,5 +273,8 @@ reported_files bytes after options shop source old new outcome said keeps is div
     on_placed bytes (Some options.machine.now) (Some options.tools.now) options.changes (setup_of shop.machine shop.tools)
     (λ setup. (is_idle options.cells setup.machine.stock ≡ false)
     × IfSome (bytes (option_map (λ n. n.now) options.program)) (λ text. Reports setup text (request_of options) old new outcome))
-    said.0 said.1 (divides, of_file _ source (λ text. Reports (setup_of shop.machine shop.tools) text (request_of options) old new outcome)
-    (is ∙ keeps (option_map (λ n. n.now) options.program)) reports)
+    said.0 said.1 (
+      divides,
+      of_file _ source (λ text. Reports (setup_of shop.machine shop.tools) text (request_of options) old new outcome)
+          (is ∙ keeps (option_map (λ n. n.now) options.program)) reports,
+    )

@@ -39,9 +39,11 @@ returns-clause-comes g c =
     dialect_reported c.args.control.now bytes c.args.options.now old new outcome
     (on_read c.args.control.now machine tools c.args.options.now.changes (option_map (λ n. n.now) c.args.options.now.program) bytes sent
     (λ d s source. (is_idle c.args.options.now.cells s.machine.stock ≡ false)
-    × ReportsDialect d s source (request_of c.args.options.now) old new outcome) c.in_ok-sent.ensures.sent.0
-    (c.in_ok-sent.ensures.sent.2, subst (λ (o : Option (List ℕ)). ReportsDialect sent.dialect setup sent.text.items (request_of c.args.options.now) o new outcome)
-    c.in_ok-sent.ensures.sent.1 reports))
+    × ReportsDialect d s source (request_of c.args.options.now) old new outcome) c.in_ok-sent.ensures.sent.0 (
+      c.in_ok-sent.ensures.sent.2,
+      subst (λ (o : Option (List ℕ)). ReportsDialect sent.dialect setup sent.text.items (request_of c.args.options.now) o new outcome)
+          c.in_ok-sent.ensures.sent.1 reports,
+    ))
 
 pub returns-clause-unread : goal.returns-clause-unread
 returns-clause-unread g c =
