@@ -40,9 +40,10 @@ pub(crate) fn request_of(options: &ReportOptions<'_>) -> ReportRequest
 }
 
 // Writes the report of a program in our own language. Its faults are those of a certificate that isn't
-// made. If a machine file or a tool table is refused, its mistake is written, and so is a sentence if a
-// number of cells is requested without material. If a named program can't be read, the line at fault is written. If all is requested, all faults of a named program that can't
-// be read or is refused are written.
+// made. If a machine file or a tool table is refused, its mistake is written, and a sentence if a number
+// of cells is requested without material. If a named program can't be read, the line at fault is
+// written. If all is requested, all faults of a named program that can't be read or is refused are
+// written.
 fn report_own<F: Files, W: Sink>(
     alloc: Global,
     options: &ReportOptions<'_>,
