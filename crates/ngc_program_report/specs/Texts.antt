@@ -72,10 +72,12 @@ pub record Findings : Type 0 where
 abbrev pub findings : ProgramTimeData → Option WalkData → Findings
 findings time material = record { time = time; material = material }
 
--- a machine runs these commands in this time, and a walk over them finds these traverses
-pub record AreFindings (machine : MachineFile) (commands : List Command) (f : Findings) : Type 0 where
+-- a machine runs these commands in this time, and a walk over them, with at most `cells` cells, finds these
+-- traverses
+pub record AreFindings (cells : ℕ) (machine : MachineFile) (commands : List Command) (f : Findings) :
+    Type 0 where
   pub lasts : LastsFor machine commands f.time
-  pub walked : IsWalked machine commands f.material
+  pub walked : IsWalked cells machine commands f.material
 
 -- the line with the time
 abbrev pub takes_words : RunTime → List ℕ

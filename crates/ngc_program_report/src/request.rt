@@ -17,5 +17,7 @@ pub struct ReportRequest<'a> {
     pub origins: Origins,
     /// What the machine file and the tool table say besides the machine and its tools.
     pub figures: FileFigures<'a>,
+    /// The most cells that a block of material is divided into, at most 4,000,000.
+    pub cells: u32,
     ghost some_cuts: { 1 ≤ cuts },
 }

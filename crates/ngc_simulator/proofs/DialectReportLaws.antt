@@ -1,5 +1,5 @@
 -- The report of a program for another control, from the results of its parts.
-use Rattle.std.proofs.Common.{◌≡◌, ℕ, List, Option, Some, None, Result, Ok, Err, IfErr, inr, refl}
+use Rattle.std.proofs.Common.{◌≡◌, ℕ, List, Option, Some, None, Result, Ok, Err, IfErr, inl, inr, refl}
 use Rattle.ngc_file_figures.specs.Files.{values_of}
 use Rattle.ngc_file_figures.specs.declared.figures.FileFigures.{FileFigures}
 use Rattle.ngc_canonical.specs.Interpreter.{setup_of}
@@ -13,8 +13,7 @@ use Rattle.ngc_program_report.specs.Reported.{other_lines}
 use Rattle.ngc_program_report.specs.declared.request.ReportRequest.{ReportRequest}
 use Rattle.ngc_command_line.specs.declared.options.ReportOptions.{ReportOptions}
 use Rattle.ngc_inputs.specs.Setups.{FileBytes}
-use Rattle.ngc_simulator.specs.Answers.{DialectReportResult, DialectReportsOn, StopsReport, request_of, requested_form}
-use Rattle.ngc_simulator.specs.Mistaken.{ReportsPlacedRefusal}
+use Rattle.ngc_simulator.specs.Answers.{DialectReportResult, DialectReportsOn, StopsReport, StopsShop, request_of}
 use Rattle.ngc_simulator.specs.DialectReports.{IsFramedDialect, ReportsDialect, dialect_notes}
 use Rattle.ngc_simulator.specs.Reporting.{ReportsJob}
 use Rattle.ngc_simulator.specs.declared.dialects.Sent.{Sent}
@@ -48,12 +47,12 @@ report_read d setup source request old new (Err _) tells = refl
 
 -- ---- its files
 
--- a machine file or a tool table that is refused, or a file that isn't read
+-- a machine file or a tool table that is refused, a file that isn't read, or cells without material
 pub stops_report : (control : List ℕ) (bytes : FileBytes) (options : ReportOptions) (old new : Option (List ℕ)) (fault : AnswerFault)
-    → ReportsPlacedRefusal (requested_form options.json) bytes (Some options.machine.now) (Some options.tools.now) options.changes old new fault
-    → StopsReport control bytes options old new fault
-stops_report control bytes options old new answers.UnknownControl refuses = absurd refuses.0
-stops_report control bytes options old new _ refuses = refuses
+    → StopsShop bytes options old new fault → StopsReport control bytes options old new fault
+stops_report control bytes options old new answers.UnknownControl (inl refuses) = absurd refuses.0
+stops_report control bytes options old new answers.UnknownControl (inr idle) = absurd idle.1
+stops_report control bytes options old new _ stops = stops
 
 -- a report that is made of files that were read
 pub dialect_reported : (control : List ℕ) (bytes : FileBytes) (options : ReportOptions) (old new : Option (List ℕ)) (outcome : Result Done AnswerFault)

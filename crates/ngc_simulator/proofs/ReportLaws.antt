@@ -22,10 +22,11 @@ use Rattle.ngc_certificate.specs.declared.fault.MakeFault.TheVariants.{NotCleare
 use Rattle.ngc_certificate.specs.Made.{IsMade}
 use Rattle.ngc_job.specs.Job.{IsJobOf, commands_in}
 use Rattle.ngc_command_line.specs.declared.options.ReportOptions.{ReportOptions}
-use Rattle.ngc_machine_files.specs.Machine.{MachineFile}
+use Rattle.ngc_machine_files.specs.Machine.{MachineFile, file_of}
 use Rattle.ngc_machine_files.specs.declared.tools.Tool.{Tool}
 use Rattle.ngc_file_figures.specs.declared.figures.FileFigures.{FileFigures}
 use Rattle.ngc_simulator.specs.Answers.{AreFiguresOf, ReportsOn, request_of}
+use Rattle.ngc_simulator.specs.Cells.{is_idle}
 use Rattle.ngc_program_report.specs.JobReports.{IsFitText, IsRefusalText, IsRefusalsText, IsStartClear, OffBegins, Prints}
 use Rattle.ngc_program_report.specs.Coordinates.{History}
 use Rattle.ngc_program_report.specs.Framed.{FramedData, IsHistoryAt, frames_in, setup_in}
@@ -72,14 +73,14 @@ module _ (setup : Setup) (bytes : List ℕ) (request : ReportRequest) (text : Pr
   frames_at Off = frames_as Off f.off off_is
   frames_at On = frames_as On f.on on_is
 
-  fit_report : (c : CertificateData) (t : List ℕ) → IsMadeOf f.job request.cuts c → IsFitText f c request.form request.origins (own_lines (values_of request.figures) text.lines) t → IsFitReport setup bytes request t
+  fit_report : (c : CertificateData) (t : List ℕ) → IsMadeOf f.job request.cuts c → IsFitText f c request.form request.origins request.cells (own_lines (values_of request.figures) text.lines) t → IsFitReport setup bytes request t
   fit_report c t made is = record {
     certificate = c;
     made = made_for_file setup bytes request.cuts text f.job c is_text have is_job made;
     off_found = is.off_found;
-    off_are = subst (λ (m : MachineFile). AreFindings m f.job.off is.off_found) the_job.machine is.off_are;
+    off_are = subst (λ (m : MachineFile). AreFindings request.cells m f.job.off is.off_found) the_job.machine is.off_are;
     on_found = is.on_found;
-    on_are = subst (λ (m : MachineFile). AreFindings m (commands_in true f.job) is.on_found) the_job.machine is.on_are;
+    on_are = subst (λ (m : MachineFile). AreFindings request.cells m (commands_in true f.job) is.on_found) the_job.machine is.on_are;
     tells = is.tells
         ∙ ap (λ (d : Bool). fits_text request.form request.origins d (setup_in f.job) f.job.off (commands_in true f.job) c is.off_found is.on_found
         f.off f.on (own_lines (values_of request.figures) text.lines)) the_job.apart
@@ -177,7 +178,7 @@ job_unread f lines request old new r P tells read = absurd (subst (ReportsJob f 
 -- ---- a job that isn't reported whole
 
 pub fit_stopped : (f : FramedData) (lines : ReportedLines) (request : ReportRequest) (c : CertificateData) (old new : Option (List ℕ)) (fault : ReportFault)
-    → IsMadeOf f.job request.cuts c → Prints (IsFitText f c request.form request.origins lines) old new (Err fault)
+    → IsMadeOf f.job request.cuts c → Prints (IsFitText f c request.form request.origins request.cells lines) old new (Err fault)
     → ReportsJob f lines request old new (Err (of_report fault))
 fit_stopped f lines request c old new faults.Memory made tells = tells
 fit_stopped f lines request c old new (faults.Write fault) made tells =
@@ -269,13 +270,17 @@ pub reported_files : (bytes after : FileBytes) (figures : FileFigures) (options 
     (outcome : Result (Unit {0}) AnswerFault)
     → AreFiguresOf bytes options figures
     → PlacedResultIs bytes (Some options.machine.now) (Some options.tools.now) options.changes (Ok shop) → KeepsFiles bytes after
-    → source ≡ after (option_map (λ n. n.now) options.program)
+    → source ≡ after (option_map (λ n. n.now) options.program) → is_idle options.cells (file_of shop.machine).stock ≡ false
     → IfSome source (λ text. Reports (setup_of shop.machine shop.tools) text (request_of figures options) old new outcome) → ReportsOn bytes options old new outcome
-reported_files bytes after figures options shop source old new outcome are said keeps is reports = (
+reported_files bytes after figures options shop source old new outcome are said keeps is divides reports = (
   figures,
   are,
   on_placed bytes (Some options.machine.now) (Some options.tools.now) options.changes (setup_of shop.machine shop.tools)
-      (λ setup. IfSome (bytes (option_map (λ n. n.now) options.program)) (λ text. Reports setup text (request_of figures options) old new outcome))
-      said.0 said.1 (of_file _ source (λ text. Reports (setup_of shop.machine shop.tools) text (request_of figures options) old new outcome)
-      (is ∙ keeps (option_map (λ n. n.now) options.program)) reports),
+      (λ setup. (is_idle options.cells setup.machine.stock ≡ false)
+      × IfSome (bytes (option_map (λ n. n.now) options.program)) (λ text. Reports setup text (request_of figures options) old new outcome))
+      said.0 said.1 (
+        divides,
+        of_file _ source (λ text. Reports (setup_of shop.machine shop.tools) text (request_of figures options) old new outcome)
+            (is ∙ keeps (option_map (λ n. n.now) options.program)) reports,
+      ),
 )

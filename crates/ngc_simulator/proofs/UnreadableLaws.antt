@@ -1,5 +1,5 @@
 -- The result of reporting a program that can't be read, on the files that the command line names.
-use Rattle.std.proofs.Common.{◌≡◌, ℕ, List, ◌++◌, Option, Some, None, true, Result, Ok, Err, IfSome, ap, inl, inr, subst, sym, ◌∙◌}
+use Rattle.std.proofs.Common.{◌≡◌, ℕ, List, ◌++◌, Option, Some, None, true, false, Result, Ok, Err, IfSome, ap, inl, inr, subst, sym, ◌∙◌}
 use Rattle.std.specs.Prelude.{IsSome, option_map}
 use Rattle.std.specs.Io.KnownBytes.{Appends, Keeps}
 use Rattle.ngc_text.specs.Written.{AppendsPrefix}
@@ -10,6 +10,8 @@ use Rattle.ngc_line_reader.specs.ProgramText.{program_of}
 use Rattle.ngc_line_reader.specs.ProgramView.{FaultIs}
 use Rattle.ngc_line_reader.specs.declared.program.fault.ReadFault.{ReadFault}
 use Rattle.ngc_report.specs.declared.form.Form.{Form}
+use Rattle.ngc_machine_files.specs.Machine.{file_of}
+use Rattle.ngc_simulator.specs.Cells.{is_idle}
 use Rattle.ngc_simulator.specs.AllFaults.{ReportsFaults}
 use Rattle.ngc_file_figures.specs.declared.figures.FileFigures.{FileFigures}
 use Rattle.ngc_simulator.specs.Answers.{AreFiguresOf, OwnReportResult, ReportsOn, UnreadableOn, requested_form, request_of}
@@ -65,7 +67,7 @@ told_begun form name known items slice old new fault stopped same read named of_
 
 module _ (bytes after : FileBytes) (options : ReportOptions) (shop : Shop) (source old : Option (List ℕ))
     (said : PlacedResultIs bytes (Some options.machine.now) (Some options.tools.now) options.changes (Ok shop)) (keeps : KeepsFiles bytes after)
-    (is_source : source ≡ after (option_map (λ n. n.now) options.program)) where
+    (is_source : source ≡ after (option_map (λ n. n.now) options.program)) (divides : is_idle options.cells (file_of shop.machine).stock ≡ false) where
   abbrev Known : (List ℕ → Type 0) → Type 0
   Known P = IfSome (bytes (option_map (λ n. n.now) options.program)) P
 
@@ -81,7 +83,8 @@ module _ (bytes after : FileBytes) (options : ReportOptions) (shop : Shop) (sour
     figures,
     are,
     on_placed bytes (Some options.machine.now) (Some options.tools.now) options.changes (setup_of shop.machine shop.tools)
-        (λ setup. Known (λ text. Reports setup text (request_of figures options) old new outcome)) said.0 said.1 reports,
+        (λ setup. (is_idle options.cells setup.machine.stock ≡ false)
+        × Known (λ text. Reports setup text (request_of figures options) old new outcome)) said.0 said.1 (divides, reports),
   )
 
   abbrev Prints : Option (List ℕ) → AnswerFault → List ℕ → Type 0
@@ -90,7 +93,7 @@ module _ (bytes after : FileBytes) (options : ReportOptions) (shop : Shop) (sour
   unreadable_on : (new : Option (List ℕ)) (answer : AnswerFault) → Known (Prints new answer) → UnreadableOn bytes options old new answer
   unreadable_on new answer tells =
       on_placed bytes (Some options.machine.now) (Some options.tools.now) options.changes (setup_of shop.machine shop.tools)
-      (λ setup. Known (Prints new answer)) said.0 said.1 tells
+      (λ setup. (is_idle options.cells setup.machine.stock ≡ false) × Known (Prints new answer)) said.0 said.1 (divides, tells)
 
   -- where nothing is written besides the report
   pub reported_comes : (figures : FileFigures) (new : Option (List ℕ)) (fault : AnswerFault) → AreFiguresOf bytes options figures → OfCertifying fault → IfSome source (Reported figures new (Err fault)) →
@@ -135,6 +138,7 @@ module _ (bytes after : FileBytes) (options : ReportOptions) (shop : Shop) (sour
   faults_comes new fault all tells = inr (inr (inr (
     all,
     on_placed bytes (Some options.machine.now) (Some options.tools.now) options.changes (setup_of shop.machine shop.tools)
-        (λ setup. Known (λ text. ReportsFaults setup (requested_form options.json) text old new fault)) said.0 said.1
-        (known (ToldAll new fault) tells),
+        (λ setup. (is_idle options.cells setup.machine.stock ≡ false)
+        × Known (λ text. ReportsFaults setup (requested_form options.json) text old new fault)) said.0 said.1
+        (divides, known (ToldAll new fault) tells),
   )))

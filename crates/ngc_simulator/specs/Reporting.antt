@@ -36,7 +36,7 @@ pub record IsJobFit (f : FramedData) (lines : ReportedLines) (request : ReportRe
     (text : List ℕ) : Type 0 where
   pub certificate : CertificateData
   pub made : IsMadeOf f.job request.cuts certificate
-  pub tells : IsFitText f certificate request.form request.origins lines text
+  pub tells : IsFitText f certificate request.form request.origins request.cells lines text
 
 -- the report of one of which command k isn't cleared at a setting
 pub record IsJobMisfit (f : FramedData) (lines : ReportedLines) (request : ReportRequest)
@@ -71,9 +71,9 @@ pub record IsFitReport (setup : Setup) (bytes : List ℕ) (request : ReportReque
   pub certificate : CertificateData
   pub made : IsMadeFor setup bytes request.cuts certificate
   pub off_found : Findings
-  pub off_are : AreFindings setup.machine made.off off_found
+  pub off_are : AreFindings request.cells setup.machine made.off off_found
   pub on_found : Findings
-  pub on_are : AreFindings setup.machine made.on on_found
+  pub on_are : AreFindings request.cells setup.machine made.on on_found
   pub tells : text ≡ fits_text request.form request.origins
       (has_deleted made.means.program.lines) setup made.off made.on certificate off_found on_found
       (frames_of setup made.means.program.lines Off) (frames_of setup made.means.program.lines On)

@@ -27,7 +27,8 @@ use ngc_text::{InputFault, Sink, WriteFault, write_all};
 use ngc_tool_mistakes::write_mistake as write_tools_mistake;
 use std::alloc::Global;
 
-fn write_fault_document<W: Sink>(number: u16, output: &mut W) -> Result<(), WriteFault>
+/// Writes a document that has the fault's number alone.
+pub(crate) fn write_fault_document<W: Sink>(number: u16, output: &mut W) -> Result<(), WriteFault>
     ensures ok { OnOk result
         (Appends (W.written output.old) (W.written output.new) (fault_document number)) }
     ensures fault { OnErr result

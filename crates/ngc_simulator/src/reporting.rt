@@ -78,8 +78,7 @@ pub(crate) fn report_job<A: Allocator + Copy, W: Sink>(
 {
     match plans_for(alloc, &framed.job, request.cuts) {
         Ok(plans) => {
-            let (form, origins) = (request.form, &request.origins);
-            report_fit(alloc, text, framed, &plans, form, origins, output)?;
+            report_fit(alloc, text, framed, &plans, &request, output)?;
             Ok(())
         }
         Err(MakeFault::NotCleared { setting, command }) => {

@@ -8,7 +8,7 @@ ghost use Rattle.ngc_inputs.specs.Unread.{FailsByInput, SourceFails};
 use crate::dialect_reports::report_dialect;
 use crate::done::Done;
 use crate::faults_files::report_all_faults;
-use crate::mistaken_files::read_placed_reporting;
+use crate::report_shop::read_report_shop;
 use crate::reporting::report_program;
 use crate::unread_files::report_unreadable;
 use ngc_command_line::ReportOptions;
@@ -16,6 +16,7 @@ use ngc_file_figures::FileFigures;
 use ngc_inputs::{AnswerFault, Files, Shop, open_file};
 use ngc_program_report::ReportRequest;
 use ngc_report::Form;
+use ngc_stock_report::USUAL_CELLS;
 use ngc_text::Sink;
 use std::alloc::Global;
 
@@ -39,13 +40,15 @@ pub(crate) fn request_of<'a>(
         form: requested_form(options.json),
         origins: options.changes.origins,
         figures,
+        cells: options.cells.unwrap_or(USUAL_CELLS),
     }
 }
 
 // Writes the report of a program in our own language. Its faults are those of a certificate that isn't
-// made. If a machine file or a tool table is refused, its mistake is written. If a named program can't
-// be read, the line at fault is written. If all is requested, all faults of a named program that can't
-// be read or is refused are written.
+// made. If a machine file or a tool table is refused, its mistake is written, and a sentence if a number
+// of cells is requested without material. If a named program can't be read, the line at fault is
+// written. If all is requested, all faults of a named program that can't be read or is refused are
+// written.
 fn report_own<F: Files, W: Sink>(
     alloc: Global,
     options: &ReportOptions<'_>,
@@ -59,9 +62,7 @@ fn report_own<F: Files, W: Sink>(
     ensures sink { FailsByOutput result (W.failures output.old) (W.failures output.new) }
 {
     let form = requested_form(options.json);
-    let (machine, tools) = (options.machine, Some(options.tools));
-    let changes = &options.changes;
-    let shop = read_placed_reporting(alloc, form, machine, tools, changes, files, output)?;
+    let shop = read_report_shop(alloc, options, files, output)?;
     report_all_faults(alloc, options, form, &shop, files, output)?;
     let mut source = open_file(options.program, files)?;
     let Shop {

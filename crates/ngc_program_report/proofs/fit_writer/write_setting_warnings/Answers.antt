@@ -6,7 +6,7 @@ use Rattle.ngc_machine_files.specs.declared.tools.Tool.{Tool}
 use Rattle.ngc_limit_warnings.specs.Spelling.{limit_warnings}
 use Rattle.ngc_origin_warnings.specs.Warnings.{origin_warnings}
 use Rattle.ngc_report.specs.Forms.{report_text}
-use Rattle.ngc_report.specs.Warnings.{warning_lines}
+use Rattle.ngc_findings.specs.Warnings.{warning_lines}
 use Rattle.ngc_canonical.specs.Interpreter.{setup_of}
 use Rattle.ngc_program_report.specs.Coordinates.{history_of}
 use Rattle.ngc_program_report.specs.Texts.{language_warnings}

@@ -1,4 +1,4 @@
-use Rattle.std.proofs.Common.{◌∙◌, ℕ, List, Option, Some, ap, inl, subst, sym}
+use Rattle.std.proofs.Common.{◌≡◌, ◌∙◌, false, ℕ, List, Option, Some, ap, inl, subst, sym}
 use Rattle.std.specs.Prelude.{option_map}
 use Rattle.ngc_canonical.specs.Interpreter.{setup_of}
 use Rattle.ngc_file_figures.specs.Files.{stored}
@@ -7,6 +7,7 @@ use Rattle.ngc_inputs.specs.Unread.{SourceFails}
 use Rattle.ngc_inputs.proofs.UnreadLaws.{unread_told}
 use Rattle.ngc_report.proofs.Converted.{turned}
 use Rattle.ngc_simulator.specs.Answers.{DialectReportResult, report_inputs_in, request_of}
+use Rattle.ngc_simulator.specs.Cells.{is_idle}
 use Rattle.ngc_simulator.specs.DialectReports.{ReportsDialect}
 use Rattle.ngc_simulator.proofs.DialectLaws.{all_were_read, on_read}
 use Rattle.ngc_simulator.proofs.DialectReportLaws.{dialect_reported, report_asked, report_read}
@@ -41,9 +42,12 @@ returns-clause-comes g c =
       figures,
       are,
       on_read c.args.control.now machine tools c.args.options.now.changes (option_map (λ n. n.now) c.args.options.now.program) bytes sent
-          (λ d s source. ReportsDialect d s source (request_of figures c.args.options.now) old new outcome) c.in_ok-sent.ensures.sent.0
-          (subst (λ (o : Option (List ℕ)). ReportsDialect sent.dialect (setup_of sent.shop.machine sent.shop.tools) sent.text.items (request_of figures c.args.options.now) o new outcome)
-          c.in_ok-sent.ensures.sent.1 reports),
+          (λ d s source. (is_idle c.args.options.now.cells s.machine.stock ≡ false)
+          × ReportsDialect d s source (request_of figures c.args.options.now) old new outcome) c.in_ok-sent.ensures.sent.0 (
+            c.in_ok-sent.ensures.sent.2,
+            subst (λ (o : Option (List ℕ)). ReportsDialect sent.dialect (setup_of sent.shop.machine sent.shop.tools) sent.text.items (request_of figures c.args.options.now) o new outcome)
+                c.in_ok-sent.ensures.sent.1 reports,
+          ),
     )
 
 pub returns-clause-unread : goal.returns-clause-unread
