@@ -176,6 +176,7 @@ started_by_grbl f start dump =
       ticks = f.ticks;
       ring = f.ring;
       arc_feed = f.arc_feed;
+      far = f.far;
       grbl = true;
       zero = f.zero;
       start = start;

@@ -75,6 +75,8 @@ refusal_text refusals.LowArcs = codes
     "the acceleration on arcs is too small for a machine file: give more, or fewer ticks"
 refusal_text (refusals.Travel axis) = codes "the travel of " ++ axis_text axis
     ++ codes " is not from a step to 1000 mm: give a length between"
+refusal_text (refusals.FarTravel axis) = codes "the travel of " ++ axis_text axis
+    ++ codes " is not from a step to 3999 mm: give a length between"
 refusal_text (refusals.Outside stop axis) = stop_text stop ++ codes " is outside the travel of "
     ++ axis_text axis ++ codes ": give a place within it"
 refusal_text (refusals.Missing number) = codes "the setting $" ++ decimal number

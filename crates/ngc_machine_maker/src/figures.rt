@@ -169,6 +169,9 @@ pub struct Figures {
     pub ring: u32,
     /// Whether arcs run at their feed and their turn at every place.
     pub arc_feed: bool,
+    /// Whether a travel may be up to 3,999 mm long, as in a file of version 3. If not, it may be up to
+    /// 1,000 mm long.
+    pub far: bool,
     /// Whether the machine's controller has Grbl, so that its programs are in the language of Grbl.
     pub grbl: bool,
     pub zero: PerAxis<End>,

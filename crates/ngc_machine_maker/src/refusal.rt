@@ -61,8 +61,10 @@ pub enum FigureRefusal {
     LowAcceleration,
     /// The acceleration on arcs rounds to nothing.
     LowArcs,
-    /// The travel is shorter than a step, or longer than 1,000 mm.
+    /// The travel is shorter than a step, or longer than 1,000 mm, in a file with rates.
     Travel(Axis),
+    /// The travel is shorter than a step, or longer than 3,999 mm.
+    FarTravel(Axis),
     /// The place is outside the travel.
     Outside(Stop, Axis),
     /// The setting with this number is missing.

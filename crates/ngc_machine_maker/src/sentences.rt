@@ -197,6 +197,13 @@ fn say_refusal<W: Sink>(refusal: FigureRefusal, page: &mut Page, output: &mut W)
             page,
             output,
         ),
+        FigureRefusal::FarTravel(axis) => say_named(
+            b"the travel of ",
+            axis_name(axis),
+            b" is not from a step to 3999 mm: give a length between",
+            page,
+            output,
+        ),
         FigureRefusal::Outside(stop, axis) => say_outside(stop, axis, page, output),
         FigureRefusal::Missing(number) => say_missing(number, page, output),
         FigureRefusal::Setting(number, at) => say_value(
