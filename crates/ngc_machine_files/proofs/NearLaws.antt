@@ -19,7 +19,7 @@ use Rattle.ngc_machine_files.proofs.GoodFiles.{limits-from_ranges, three}
 -- ---- what is read
 
 -- a part that is there, and what is read with it
-bound : {A B : Type 0} (o : Option A) (f : A → Option B) (y : B) → (o >>= f) ≡ Some y → (x : A) × ((o ≡ Some x) × (f x ≡ Some y))
+bound : {A B : Type 0} (o : Option A) (f : A → Option B) (y : B) → (o >>= f) ≡ Some y → (x : A) × (o ≡ Some x) × (f x ≡ Some y)
 bound None f y h = cc
 bound (Some x) f y h = (x, refl, h)
 
@@ -29,11 +29,11 @@ some_far q p h = let e : p ≡ q = cc in ap (λ (r : MachinePoints). r.far) e
 points_near : (tree : Data) (p : MachinePoints) → machine_points tree ≡ Some p → p.far ≡ false
 points_near tree p h =
     let low = bound (coordinates_at (codes "low") tree) _ p h in
-    let high = bound (coordinates_at (codes "high") tree) _ p low.1.1 in
-    let start = bound (coordinates_at (codes "start") tree) _ p high.1.1 in
-    let home28 = bound (coordinates_at (codes "home28") tree) _ p start.1.1 in
-    let home30 = bound (coordinates_at (codes "home30") tree) _ p home28.1.1 in
-    some_far _ p home30.1.1
+    let high = bound (coordinates_at (codes "high") tree) _ p low.2 in
+    let start = bound (coordinates_at (codes "start") tree) _ p high.2 in
+    let home28 = bound (coordinates_at (codes "home28") tree) _ p start.2 in
+    let home30 = bound (coordinates_at (codes "home30") tree) _ p home28.2 in
+    some_far _ p home30.2
 
 some_points : (w v : MachineValues) → Some w ≡ Some v → v.points ≡ w.points
 some_points w v h = let e : v ≡ w = cc in ap (λ (r : MachineValues). r.points) e
@@ -42,13 +42,13 @@ values_near : (root : Data) (v : MachineValues) → machine_values root ≡ Some
 values_near root v h =
     let numbers = bound (machine_numbers root) _ v h in
     let version = numbers.0.version in
-    let tree = bound (known (machine_keys version) root) _ v numbers.1.1 in
-    let options = bound (machine_options tree.0) _ v tree.1.1 in
-    let rates = bound (machine_axis_rates version tree.0) _ v options.1.1 in
-    let points = bound (machine_points tree.0) _ v rates.1.1 in
-    let origins = bound (machine_origins tree.0) _ v points.1.1 in
-    let fixtures = bound (machine_fixtures version tree.0) _ v origins.1.1 in
-    ap (λ (p : MachinePoints). p.far) (some_points _ v fixtures.1.1) ∙ points_near tree.0 points.0 points.1.0
+    let tree = bound (known (machine_keys version) root) _ v numbers.2 in
+    let options = bound (machine_options tree.0) _ v tree.2 in
+    let rates = bound (machine_axis_rates version tree.0) _ v options.2 in
+    let points = bound (machine_points tree.0) _ v rates.2 in
+    let origins = bound (machine_origins tree.0) _ v points.2 in
+    let fixtures = bound (machine_fixtures version tree.0) _ v origins.2 in
+    ap (λ (p : MachinePoints). p.far) (some_points _ v fixtures.2) ∙ points_near tree.0 points.0 points.1
 
 -- ---- what is checked
 
@@ -83,4 +83,4 @@ near_checked (Some v) m all h =
 
 pub near_files : NearFiles
 near_files bytes m h =
-    near_checked (values_in bytes) m (λ v is. let tree = bound (tree_of bytes) machine_values v is in values_near tree.0 v tree.1.1) h
+    near_checked (values_in bytes) m (λ v is. let tree = bound (tree_of bytes) machine_values v is in values_near tree.0 v tree.2) h

@@ -89,6 +89,8 @@ refusal_text (refusals.Digits number at) = value_text number at
     (codes " has too many digits: write it as Grbl does, with at most three decimals")
 refusal_text (refusals.Place stored at) = codes "line " ++ decimal at ++ codes ": the place of "
     ++ stored_text stored ++ codes " is not X, Y and Z, each at most 1000 mm from zero: correct it"
+refusal_text (refusals.FarPlace stored at) = codes "line " ++ decimal at ++ codes ": the place of "
+    ++ stored_text stored ++ codes " is not X, Y and Z, each at most 4000 mm from zero: correct it"
 refusal_text (refusals.UnequalSteps motors) = unequal_text motors
 
 -- a sentence on a line of its own

@@ -86,6 +86,11 @@ unfolding refusal_text
 returns-in-Digits g c =
     rw c.in-Digits.is c.say_value-in-Digits.ensures
 
+pub returns-in-FarPlace : goal.returns-in-FarPlace
+unfolding refusal_text
+returns-in-FarPlace g c =
+    rw c.in-FarPlace.is c.say_far_place.ensures
+
 pub returns-in-Place : goal.returns-in-Place
 unfolding refusal_text
 returns-in-Place g c =
