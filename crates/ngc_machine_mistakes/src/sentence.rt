@@ -63,7 +63,8 @@ fn figure_text(refusal: FigureRefusal) -> &'static [u8]
             b"axis: the least acceleration is too low for the ticks: write fewer ticks",
         FigureRefusal::LowArcs =>
             b"turn: the acceleration is too low for the ticks: write fewer ticks",
-        FigureRefusal::FarTravel(_) => b"travel: it is shorter than a step, or longer than 3,999 mm",
+        FigureRefusal::FarTravel(_) =>
+            b"travel: it is shorter than a step, or longer than 3,999 mm",
         _ => b"a figure can't be used",
     }
 }

@@ -32,7 +32,11 @@ fn limited(axis: Axis, quantity: Quantity, at: i64) -> Result<Nm, FrameFault>
 }
 
 /// Returns a programmed coordinate, or `BeyondRange` where it is farther than the reach.
-pub(crate) fn coordinate(reach: CoordinateRange, axis: Axis, nanometres: i64) -> Result<Nm, FrameFault>
+pub(crate) fn coordinate(
+    reach: CoordinateRange,
+    axis: Axis,
+    nanometres: i64,
+) -> Result<Nm, FrameFault>
     ensures value { result ≡ coordinate_in reach axis nanometres }
     ensures range { IfOk result IsCoordinate }
 {

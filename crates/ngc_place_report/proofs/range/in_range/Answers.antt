@@ -39,11 +39,11 @@ returns-clause-value c =
     let l = c.place_limit-limit in
     let limit = pos (place_limit c.args.far) in
     let below =
-        c.whole_steps-below.ensures.value
-        ∙ ap (whole_steps c.args.step) (sum_kept l.result z.result limit c.args.origin l.ensures.value z.ensures.value l.ensures.bound z.ensures.bound) in
+    c.whole_steps-below.ensures.value
+    ∙ ap (whole_steps c.args.step) (sum_kept l.result z.result limit c.args.origin l.ensures.value z.ensures.value l.ensures.bound z.ensures.bound) in
     let above =
-        c.whole_steps-above.ensures.value
-        ∙ ap (whole_steps c.args.step) (difference_kept l.result z.result limit c.args.origin l.ensures.value z.ensures.value l.ensures.bound z.ensures.bound) in
+    c.whole_steps-above.ensures.value
+    ∙ ap (whole_steps c.args.step) (difference_kept l.result z.result limit c.args.origin l.ensures.value z.ensures.value l.ensures.bound z.ensures.bound) in
     let negated = negated_kept c.whole_steps-below.result c.whole_steps-below.ensures.bound in
     let from = end_kept c.from.result c.args.interval.from c.from.ensures c.requires.limit.from in
     let to = end_kept c.from-2.result c.args.interval.to c.from-2.ensures c.requires.limit.to in
