@@ -66,7 +66,7 @@ pub record AreChoices (options : MachineOptions) (c : Choices) : Type 0 where
 
 -- the figures of a source, before anything is chosen
 abbrev pub IsGiven : MachineOptions → Option (List ℕ) → Result Figures FigureRefusal → Type 0
-IsGiven options (Some dump) given = given ≡ figures_in dump
+IsGiven options (Some dump) given = given ≡ figures_in (not options.rates) dump
 IsGiven options None given = (o : Options) × AreFigures options o × (given ≡ figures_of o)
 
 abbrev pub with_choices : Choices → Result Figures FigureRefusal → Result Figures FigureRefusal

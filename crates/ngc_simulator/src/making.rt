@@ -104,7 +104,7 @@ fn requested_figures(
 {
     let choices = choices_of(options);
     let given = match dump {
-        Some(dump) => read_grbl(dump),
+        Some(dump) => read_grbl(!options.rates, dump),
         None => Figures::from_options(&figure_options(options)),
     };
     match given {

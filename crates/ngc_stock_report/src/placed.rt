@@ -39,7 +39,7 @@ pub(crate) fn origin_at<A: Allocator>(machine: &Machine<A>, system: u32) -> Poin
 }
 
 fn sum(origin: Nm, low: Nm) -> i64
-    requires origin { unsigned_abs origin ≤ 1000000000 }
+    requires origin { unsigned_abs origin ≤ 4000000000 }
     requires low { unsigned_abs low ≤ 1000000000 }
     ensures { result ≡ origin +ℤ low }
 {
