@@ -1,4 +1,4 @@
-use Rattle.std.proofs.Common.{◌≡◌, ◌∙◌, List, Option, Some, Err, ap, inl, inr, subst, sym, true, ℕ}
+use Rattle.std.proofs.Common.{◌≡◌, ◌∙◌, List, Option, Some, Err, inl, inr, subst, sym, true, ℕ}
 use Rattle.ngc_canonical.specs.Interpreter.{setup_of}
 use Rattle.ngc_inputs.specs.Unread.{SourceFails, shop_inputs}
 use Rattle.ngc_inputs.proofs.SetupLaws.{on_placed}
