@@ -12,8 +12,9 @@ use Rattle.ngc_simulator.specs.Mistaken.{fault_document}
 
 -- a number is requested, and there is no block
 abbrev pub is_idle : Option ℕ → Option StockBox → Bool
+is_idle None stock = false
 is_idle (Some cells) None = true
-is_idle _ _ = false
+is_idle (Some cells) (Some stock) = false
 
 unfoldable pub no_material_words : List ℕ
 no_material_words =

@@ -31,8 +31,8 @@ fn is_idle(cells: Option<u32>, machine: &Machine<Global>) -> bool
     ensures { result ≡ is_idle cells (file_of machine.now).stock }
 {
     match (cells, &machine.stock) {
+        (None, _) | (Some(_), Some(_)) => false,
         (Some(_), None) => true,
-        _ => false,
     }
 }
 
