@@ -72,7 +72,8 @@ pub(crate) fn setup() -> &'static [Row]
         },
         Row {
             number: 266,
-            rule: "A home position or an origin is too far out: write at most 1,000,000,000 nm either way.",
+            rule: "A home position or an origin is too far out: write at most 1,000,000,000 nm either way, and in\n\
+             version 3 at most 4,000 mm.",
             example: "machine file `home28 = [1000000001, 0, 0]`",
             answer: "`ngc: fault 266 machine`",
             place: None,
