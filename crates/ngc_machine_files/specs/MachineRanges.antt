@@ -1,12 +1,11 @@
 -- The ranges that hold for every machine that is read, and which machines are far. Our own.
 use Rattle.std.specs.Prelude.{Bool, ◌&&◌, ◌||◌, not}
 use Rattle.ngc_fixed_length.specs.Length.{IsStep}
-use Rattle.ngc_fixed_length.specs.Signed.{is_within}
 use Rattle.ngc_fixed_length.specs.declared.points.Point3.{Point3}
 use Rattle.ngc_motors.specs.Counts.{AreMotors}
 use Rattle.ngc_machine_files.specs.Machine.{MachineFile, motors_of}
 use Rattle.ngc_machine_files.specs.Ranges.{IsRate, IsJump, IsRing, AreRates, IsArcBound, IsTravel, AreFixtures, AreMargins}
-use Rattle.ngc_machine_files.specs.Ranges.{NEAR_LIMIT}
+use Rattle.ngc_machine_files.specs.Ranges.{is_near}
 
 pub record IsMachine (m : MachineFile) : Type 0 where
   pub step : IsStep m.step
@@ -22,10 +21,6 @@ pub record IsMachine (m : MachineFile) : Type 0 where
   pub travel : IsTravel m.step m.low m.high m.start
   pub fixtures : AreFixtures m.fixtures
   pub margins : AreMargins m.margins
-
--- a place at most a metre from zero along each axis
-abbrev pub is_near : Point3 → Bool
-is_near p = is_within NEAR_LIMIT p.x && is_within NEAR_LIMIT p.y && is_within NEAR_LIMIT p.z
 
 unfoldable pub ends_far : Point3 → Point3 → Bool
 ends_far low high = not (is_near low && is_near high)

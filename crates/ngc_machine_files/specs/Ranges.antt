@@ -1,7 +1,8 @@
 -- The ranges of the numbers of a machine and of its tools. Our own.
 use Rattle.std.specs.Prelude.{ℕ, ◌≤◌, ℤ, pos, negsuc, ◌≤ℤ◌, ◌<ℤ◌, unsigned_abs, int_rem, ◌≡◌, List}
-use Rattle.std.specs.Prelude.{length, map, Bool, if◌then◌else◌}
+use Rattle.std.specs.Prelude.{length, map, Bool, ◌&&◌, if◌then◌else◌}
 use Rattle.std.specs.List.{All}
+use Rattle.ngc_fixed_length.specs.Signed.{is_within}
 use Rattle.ngc_fixed_length.specs.declared.points.Point3.{Point3}
 use Rattle.ngc_machine_files.specs.declared.machine.AxisRates.{AxisRates}
 use Rattle.ngc_machine_files.specs.declared.machine.Fixture.{Fixture}
@@ -23,6 +24,10 @@ TRAVEL_LIMIT = 3999000000
 -- the same for all of them in a file of version 1 or 2
 abbrev pub NEAR_LIMIT : ℕ
 NEAR_LIMIT = 1000000000
+
+-- a place at most a metre from zero along each axis
+abbrev pub is_near : Point3 → Bool
+is_near p = is_within NEAR_LIMIT p.x && is_within NEAR_LIMIT p.y && is_within NEAR_LIMIT p.z
 
 abbrev pub place_limit : Bool → ℕ
 place_limit far = if far then PLACE_LIMIT else NEAR_LIMIT

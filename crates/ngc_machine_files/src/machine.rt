@@ -4,8 +4,7 @@ ghost use Rattle.std.specs.List.{All};
 ghost use Rattle.ngc_fixed_length.specs.Length.{IsStep};
 ghost use Rattle.ngc_motors.specs.Counts.{AreMotors};
 ghost use Rattle.ngc_machine_files.specs.Ranges.{PLACE_LIMIT, IsRate, IsJump, AreRates, IsArcBound, IsTravel};
-ghost use Rattle.ngc_machine_files.specs.Ranges.{IsSized, IsRing, AreFixtures, AreMargins, IsStock};
-ghost use Rattle.ngc_machine_files.specs.MachineRanges.{is_near};
+ghost use Rattle.ngc_machine_files.specs.Ranges.{IsSized, IsRing, AreFixtures, AreMargins, IsStock, is_near};
 
 use crate::name::Name;
 use ngc_dialect_names::Dialect;
