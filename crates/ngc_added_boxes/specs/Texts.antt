@@ -8,7 +8,7 @@ use Rattle.std.specs.List.{prefix_len}
 use Rattle.std.specs.Path.{rsplit_once}
 use Rattle.ngc_fixed_length.specs.declared.points.Point3.{Point3}
 use Rattle.ngc_machine_files.specs.Names.{name_of}
-use Rattle.ngc_machine_files.specs.Ranges.{CORNER_LIMIT, PLACE_LIMIT}
+use Rattle.ngc_machine_files.specs.Ranges.{BLOCK_LIMIT, CORNER_LIMIT}
 use Rattle.ngc_machine_maker.specs.Decimals.{number_in, three_texts}
 use Rattle.ngc_origins.specs.Texts.{begins_minus, negative, place_of, positive, system_in}
 use Rattle.ngc_added_boxes.specs.Boxes.{AddedBoxes, MOST_ADDED, no_boxes}
@@ -144,7 +144,7 @@ stock_of b (Err mistake) = Err mistake
 
 -- with the block of material that a text writes
 abbrev pub with_stock : AddedBoxes → List ℕ → Result AddedBoxes BoxMistake
-with_stock b text = stock_of b (box_in PLACE_LIMIT text)
+with_stock b text = stock_of b (box_in BLOCK_LIMIT text)
 
 abbrev pub and_stock : Result AddedBoxes BoxMistake → Option (List ℕ) → Result AddedBoxes BoxMistake
 and_stock (Ok b) None = Ok b

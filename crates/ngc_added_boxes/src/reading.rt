@@ -1,7 +1,7 @@
 ghost use Rattle.std.specs.Prelude.{◌≡◌, ◌≤◌, IfOk, MatchResult, Ok, Err, map, option_map};
 ghost use Rattle.std.specs.Int.{int_min, int_max};
 ghost use Rattle.std.specs.Path.{rsplit_once};
-ghost use Rattle.ngc_machine_files.specs.Ranges.{CORNER_LIMIT, PLACE_LIMIT, IsSized};
+ghost use Rattle.ngc_machine_files.specs.Ranges.{CORNER_LIMIT, IsSized};
 ghost use Rattle.ngc_added_boxes.specs.Boxes.{IsAdded, IsBox};
 ghost use Rattle.ngc_added_boxes.specs.Texts as spec;
 

@@ -7,7 +7,10 @@ use Rattle.std.proofs.lemmas.Int.{ints}
 use Rattle.ngc_fixed_length.specs.Limits.{IsLength}
 use Rattle.ngc_fixed_length.specs.declared.modes.Distance.{Distance}
 use Rattle.ngc_fixed_length.specs.declared.modes.Distance.TheVariants.{Absolute, Incremental}
-use Rattle.ngc_offsets.specs.Ranges.{IsCoordinate, IsPresentOrNamed}
+use Rattle.std.specs.Prelude.{unsigned_abs}
+use Rattle.ngc_offsets.specs.Ranges.{IsCoordinate, IsPresentOrNamed, coordinate_limit}
+use Rattle.ngc_offsets.specs.declared.fault.CoordinateRange.{CoordinateRange}
+use Rattle.ngc_offsets.specs.declared.fault.CoordinateRange.TheVariants.{Near, Far}
 use Rattle.ngc_canned_cycles.specs.declared.cycle.Cycle.{Cycle}
 use Rattle.ngc_canned_cycles.specs.declared.cycle.Start.{Start}
 use Rattle.ngc_canned_cycles.specs.Heights.{repeat_on_axis, repeat_place, place_before, retract_of, bottom_of, repeats_of, AreLengths}
@@ -21,6 +24,11 @@ and_right : (a b : Bool) → (a && b) ≡ true → b ≡ true
 and_right true b h = h
 and_right false b h = absurd (cc)
 
+-- a coordinate within a reach is one of at most four metres
+within_reach : (reach : CoordinateRange) (z : ℤ) → unsigned_abs z ≤ coordinate_limit reach → IsCoordinate z
+within_reach Near z h = omega (arith, h)
+within_reach Far z h = h
+
 -- a word added j times lies between the word added once and the word added n times
 between : (b l : ℤ) (j n : ℕ) → 1 ≤ j → j ≤ n → IsCoordinate (b +ℤ (pos 1 *ℤ l)) → IsCoordinate (b +ℤ (pos n *ℤ l)) → IsCoordinate (b +ℤ (pos j *ℤ l))
 between b (pos a) j n least most first last =
@@ -32,13 +40,15 @@ between b (negsuc a) j n least most first last =
     let q : j * suc a ≤ n * suc a = mul-le-mul_right (suc a) most in
     omega (arith, ints)
 
-along : (distance : Distance) (before : ℤ) (given : Option ℤ) (j n : ℕ) → 1 ≤ j → j ≤ n →
-    is_in_range_if_given given (repeat_on_axis distance 1 before given) ≡ true → is_in_range_if_given given (repeat_on_axis distance n before given) ≡ true →
+along : (reach : CoordinateRange) (distance : Distance) (before : ℤ) (given : Option ℤ) (j n : ℕ) → 1 ≤ j → j ≤ n →
+    is_in_range_if_given reach given (repeat_on_axis distance 1 before given) ≡ true →
+    is_in_range_if_given reach given (repeat_on_axis distance n before given) ≡ true →
     IsPresentOrNamed before (repeat_on_axis distance j before given)
-along Absolute before None j n least most first last = inl refl
-along Incremental before None j n least most first last = inl refl
-along Absolute before (Some l) j n least most first last = inr (leb-true _ _ first)
-along Incremental before (Some l) j n least most first last = inr (between before l j n least most (leb-true _ _ first) (leb-true _ _ last))
+along reach Absolute before None j n least most first last = inl refl
+along reach Incremental before None j n least most first last = inl refl
+along reach Absolute before (Some l) j n least most first last = inr (within_reach reach _ (leb-true _ _ first))
+along reach Incremental before (Some l) j n least most first last =
+    inr (between before l j n least most (within_reach reach _ (leb-true _ _ first)) (within_reach reach _ (leb-true _ _ last)))
 
 -- the coordinates that the words of a cycle in range give
 pub record AreCoordinates (c : Cycle) (s : Start) : Type 0 where
@@ -54,10 +64,10 @@ coordinates c s h =
     let least : is_repeat_in_range c s 1 ≡ true = and_right _ _ some in
     let heights = and_left _ _ some in
     record {
-      retract = leb-true _ _ (and_left _ _ heights);
-      bottom = leb-true _ _ (and_right _ _ heights);
-      u = λ j p q. along c.distance (place_before c s).u c.u j (repeats_of c.repeats) p q (and_left _ _ least) (and_left _ _ most);
-      v = λ j p q. along c.distance (place_before c s).v c.v j (repeats_of c.repeats) p q (and_right _ _ least) (and_right _ _ most);
+      retract = within_reach s.reach _ (leb-true _ _ (and_left _ _ heights));
+      bottom = within_reach s.reach _ (leb-true _ _ (and_right _ _ heights));
+      u = λ j p q. along s.reach c.distance (place_before c s).u c.u j (repeats_of c.repeats) p q (and_left _ _ least) (and_left _ _ most);
+      v = λ j p q. along s.reach c.distance (place_before c s).v c.v j (repeats_of c.repeats) p q (and_right _ _ least) (and_right _ _ most);
     }
 
 is_length : (before c : ℤ) → IsLength before → IsPresentOrNamed before c → IsLength c

@@ -6,7 +6,8 @@ use Rattle.ngc_fixed_length.specs.Limits.{MILLION}
 use Rattle.ngc_fixed_length.specs.Signed.{is_negative, is_within}
 use Rattle.ngc_fixed_length.specs.declared.modes.FeedMode.{FeedMode}
 use Rattle.ngc_fixed_length.specs.declared.modes.FeedMode.TheVariants as feeds
-use Rattle.ngc_offsets.specs.Ranges.{COORDINATE_LIMIT}
+use Rattle.ngc_offsets.specs.Ranges.{coordinate_limit}
+use Rattle.ngc_offsets.specs.declared.fault.CoordinateRange.{CoordinateRange}
 use Rattle.ngc_canned_cycles.specs.declared.cycle.Cycle.{Cycle}
 use Rattle.ngc_canned_cycles.specs.declared.cycle.Hole.{Hole}
 use Rattle.ngc_canned_cycles.specs.declared.cycle.Hole.TheVariants.{Drill, DrillWithDwell, Peck}
@@ -70,20 +71,21 @@ check c s =
     refuse_if (is_inverse c.feed_mode) InverseTime
 
 -- a programmed coordinate is in range; without a word any coordinate is
-abbrev pub is_in_range_if_given : Option ℤ → ℤ → Bool
-is_in_range_if_given None c = true
-is_in_range_if_given (Some l) c = is_within COORDINATE_LIMIT c
+abbrev pub is_in_range_if_given : CoordinateRange → Option ℤ → ℤ → Bool
+is_in_range_if_given reach None c = true
+is_in_range_if_given reach (Some l) c = is_within (coordinate_limit reach) c
 
 abbrev pub is_repeat_in_range : Cycle → Start → ℕ → Bool
 is_repeat_in_range c s j =
-    is_in_range_if_given c.u (repeat_place c s j).u
-    && is_in_range_if_given c.v (repeat_place c s j).v
+    is_in_range_if_given s.reach c.u (repeat_place c s j).u
+    && is_in_range_if_given s.reach c.v (repeat_place c s j).v
 
 -- the programmed coordinates are in range: R, the bottom, and the places of the first and the last
 -- repeat
 abbrev pub is_in_range : Cycle → Start → Bool
 is_in_range c s =
-    is_within COORDINATE_LIMIT (retract_of c s) && is_within COORDINATE_LIMIT (bottom_of c s) &&
+    is_within (coordinate_limit s.reach) (retract_of c s)
+    && is_within (coordinate_limit s.reach) (bottom_of c s) &&
     is_repeat_in_range c s 1 && is_repeat_in_range c s (repeats_of c.repeats)
 
 pub record AreRepeats (n : ℕ) : Type 0 where

@@ -1,4 +1,5 @@
 use ngc_fixed_length::{Distance, FeedMode, Nm, Plane, Point2, Point3, RetractMode, Value};
+use ngc_offsets::CoordinateRange;
 
 /// The kind of a hole: how it is drilled or bored, with the dwell in seconds or the depth of a
 /// peck.
@@ -37,12 +38,13 @@ pub struct Cycle {
 }
 
 /// The state in which a cycle begins: the programmed place before the line, the programmed height
-/// before the series of cycles, and whether the spindle turns.
+/// before the series of cycles, whether the spindle turns, and how far from zero coordinates may be.
 #[derive(Clone, Copy)]
 pub struct Start {
     pub place: Point3,
     pub series: Nm,
     pub turning: bool,
+    pub reach: CoordinateRange,
 }
 
 /// The site of a hole, in programmed coordinates: its place in the plane, the heights of R and of

@@ -2,7 +2,7 @@ ghost use Rattle.std.specs.Prelude.{◌≡◌, ◌≢◌, ◌≤◌, ◌-ℤ◌,
 ghost use Rattle.std.specs.Prelude.{OnOk};
 ghost use Rattle.ngc_fixed_length.specs.Signed.{is_negative as is_below_zero, is_within};
 ghost use Rattle.ngc_fixed_length.specs.Limits.{IsLength};
-ghost use Rattle.ngc_offsets.specs.Ranges.{COORDINATE_LIMIT};
+ghost use Rattle.ngc_offsets.specs.Ranges.{coordinate_limit};
 ghost use Rattle.ngc_canned_cycles.specs.Heights.{place_before, retract_of, bottom_of, repeats_of};
 ghost use Rattle.ngc_canned_cycles.specs.Heights.{AreLengths};
 ghost use Rattle.ngc_canned_cycles.specs.Holes.{peck_count as pecks_over};
@@ -13,7 +13,7 @@ ghost use Rattle.ngc_canned_cycles.specs.Refusals.{is_repeat_in_range, is_in_ran
 use crate::cycle::{Cycle, Hole, Start};
 use crate::fault::CycleFault;
 use ngc_fixed_length::{FeedMode, MILLIONTHS, Nm, Value};
-use ngc_offsets::COORDINATE;
+use ngc_offsets::CoordinateRange;
 
 /// Returns the least number of pecks, at least 1, that cover the whole distance.
 pub(crate) fn peck_count(way: i128, peck: u64) -> u64
@@ -65,19 +65,19 @@ impl Hole {
     }
 }
 
-fn is_coordinate_if_given(given: Option<Nm>, coordinate: i128) -> bool
-    ensures { result ≡ is_in_range_if_given given coordinate }
+fn is_coordinate_if_given(reach: CoordinateRange, given: Option<Nm>, coordinate: i128) -> bool
+    ensures { result ≡ is_in_range_if_given reach given coordinate }
 {
     match given {
         None => true,
-        Some(_) => is_coordinate(coordinate),
+        Some(_) => is_coordinate(reach, coordinate),
     }
 }
 
-fn is_coordinate(nanometres: i128) -> bool
-    ensures { result ≡ is_within COORDINATE_LIMIT nanometres }
+fn is_coordinate(reach: CoordinateRange, nanometres: i128) -> bool
+    ensures { result ≡ is_within (coordinate_limit reach) nanometres }
 {
-    nanometres.unsigned_abs() <= u128::from(COORDINATE)
+    nanometres.unsigned_abs() <= u128::from(reach.limit())
 }
 
 impl Cycle {
@@ -152,7 +152,8 @@ impl Cycle {
         ensures length_v { IsLength (place_before self.now start.now).v }
     {
         let (u, v) = self.repeat_coordinates(start, repeat);
-        is_coordinate_if_given(self.u, u) && is_coordinate_if_given(self.v, v)
+        is_coordinate_if_given(start.reach, self.u, u)
+            && is_coordinate_if_given(start.reach, self.v, v)
     }
 
     fn has_coordinates(&self, start: &Start) -> bool
@@ -162,13 +163,13 @@ impl Cycle {
     {
         let first = self.is_repeat_in_range(start, 1);
         let last = self.is_repeat_in_range(start, self.repeat_count());
-        is_coordinate(self.retract_height(start))
-            && is_coordinate(self.bottom_height(start))
+        is_coordinate(start.reach, self.retract_height(start))
+            && is_coordinate(start.reach, self.bottom_height(start))
             && first
             && last
     }
 
-    /// Returns whether the programmed coordinates are at most 10^9 nm in size: R, the bottom, and
+    /// Returns whether the programmed coordinates are within the reach: R, the bottom, and
     /// the places of the first and the last repeat. Then `fill` makes the moves of each repeat
     /// between them, too.
     pub fn is_in_range(&self, start: &Start) -> bool

@@ -100,6 +100,7 @@ start_of s = record {
   place = to_program s.frames s.place;
   series = height s.modes.plane (to_program s.frames (series_place s));
   turning = is_some s.spindle;
+  reach = s.frames.reach;
 }
 
 -- ---- moves
@@ -133,7 +134,7 @@ abbrev pub refusal : Cycle → Start → ℕ → Result (Unit {0}) Fault
 refusal c start feed = do
   checked ← faulted faults.Cycle (check c start)
   fed ← refuse_if (feed == 0) faults.FeedZero
-  refuse_if (not (is_in_range c start)) faults.CycleBeyondRange
+  refuse_if (not (is_in_range c start)) (faults.CycleBeyondRange start.reach)
 
 abbrev pub cycle : CycleCode → AxisWords → CycleWords → State → Result State Fault
 cycle hole axes words s = do

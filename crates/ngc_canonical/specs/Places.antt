@@ -38,7 +38,7 @@ axis_lengths units words = do
 
 -- the machine point of lengths; with G53 they are machine coordinates
 abbrev pub end_at : Bool → State → AxisLengths → Result Point3 FrameFault
-end_at true s given = machine_target s.place given
+end_at true s given = machine_target s.frames.reach s.place given
 end_at false s given = target s.modes.distance s.frames s.place given
 
 -- the machine point of axis words: first their lengths, then their range

@@ -4,6 +4,7 @@ use Rattle.std.specs.Prelude.{Ok, Err, Bool, true, false, if◌then◌else◌}
 use Rattle.ngc_fixed_length.specs.declared.modes.Turn.{Turn}
 use Rattle.ngc_fixed_length.specs.declared.points.Point3.{Point3}
 use Rattle.ngc_machine_files.specs.Machine.{MachineFile}
+use Rattle.ngc_machine_files.specs.MachineRanges.{is_far}
 use Rattle.ngc_machine_files.specs.declared.tools.Tool.{Tool}
 use Rattle.ngc_modal_state.specs.declared.code.PathControl.{PathControl}
 use Rattle.ngc_modal_state.specs.declared.code.PathControl.TheVariants.{ExactStop}
@@ -11,6 +12,8 @@ use Rattle.ngc_modal_state.specs.declared.modes.Modes.{Modes}
 use Rattle.ngc_modal_state.specs.Start.{start_modes}
 use Rattle.ngc_offsets.specs.Offsets.{Offsets}
 use Rattle.ngc_offsets.specs.Frames.{start_frames}
+use Rattle.ngc_offsets.specs.declared.fault.CoordinateRange.{CoordinateRange}
+use Rattle.ngc_offsets.specs.declared.fault.CoordinateRange.TheVariants.{Near, Far}
 use Rattle.ngc_parameters.specs.Meaning.{Parameters}
 use Rattle.ngc_commands.specs.declared.command.Action.{Action}
 use Rattle.ngc_commands.specs.declared.command.Action.TheVariants.{Move}
@@ -58,13 +61,17 @@ pub record State : Type 0 where
   pub commands : List Command
   pub ended : Bool
 
+-- how far from zero the coordinates of a program may be: farther if the machine's travel is
+abbrev pub reach_of : MachineFile → CoordinateRange
+reach_of machine = if is_far machine then Far else Near
+
 -- At the start all parameters are 0, feed and speed are 0, spindle and coolant are off, no tool is
 -- selected, and the axes are at the machine's start point.
 abbrev pub start_state : MachineFile → State
 start_state machine = record {
   line = 0;
   modes = start_modes;
-  frames = start_frames machine.origins;
+  frames = start_frames (reach_of machine) machine.origins;
   parameters = λ k. pos 0;
   place = machine.start;
   feed = 0;

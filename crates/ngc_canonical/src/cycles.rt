@@ -90,7 +90,7 @@ fn refusal(cycle: &Cycle, start: &Start, feed: u64) -> Result<(), Fault>
     if cycle.is_in_range(start) {
         Ok(())
     } else {
-        Err(Fault::CycleBeyondRange)
+        Err(Fault::CycleBeyondRange(start.reach))
     }
 }
 
@@ -161,6 +161,7 @@ impl<A: Allocator + Copy> Interpreter<A> {
             place: frames.to_program(self.place),
             series: frames.to_program(series_place).height(plane),
             turning: self.spindle.is_some(),
+            reach: frames.reach,
         }
     }
 

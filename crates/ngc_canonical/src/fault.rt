@@ -4,7 +4,7 @@ use ngc_arc_geometry::ArcFault;
 use ngc_canned_cycles::CycleFault;
 use ngc_fixed_length::NumberFault;
 use ngc_modal_state::ModalFault;
-use ngc_offsets::FrameFault;
+use ngc_offsets::{CoordinateRange, FrameFault};
 use ngc_parameters::EvalFault;
 use thiserror::Error;
 
@@ -23,9 +23,9 @@ pub enum Fault {
     /// 221: a coordinate, an origin or an offset that is out of range.
     #[error(transparent)]
     Frame(FrameFault),
-    /// 221: a canned cycle with a height or a hole over 10^9 nm from zero.
+    /// 221: a canned cycle with a height or a hole that is farther from zero than this range.
     #[error("a coordinate of the canned cycle is beyond its range")]
-    CycleBeyondRange,
+    CycleBeyondRange(CoordinateRange),
     /// 222: the tool table has no tool of this number.
     #[error("the tool table has no tool {0}")]
     NoSuchTool(u32),
@@ -58,7 +58,7 @@ impl Fault {
             Fault::Modal(fault) => fault.number(),
             Fault::Length(fault) => fault.number(),
             Fault::Frame(fault) => fault.number(),
-            Fault::CycleBeyondRange => 221,
+            Fault::CycleBeyondRange(_) => 221,
             Fault::NoSuchTool(_) => 222,
             Fault::Cycle(fault) => fault.number(),
             Fault::Arc(fault) => fault.number(),

@@ -2,7 +2,7 @@
 ghost use Rattle.std.specs.Prelude.{◌≡◌, IfOk, OnOk};
 ghost use Rattle.ngc_machine_files.specs.Machine.{file_of};
 ghost use Rattle.ngc_offsets.specs.Ranges.{IsMachinePlace};
-ghost use Rattle.ngc_canonical.specs.State.{emit as emitted, go as gone, start_state};
+ghost use Rattle.ngc_canonical.specs.State.{emit as emitted, go as gone, start_state, reach_of};
 ghost use Rattle.ngc_canonical.specs.State.{traverse_to as traversed_to};
 ghost use Rattle.ngc_canonical.specs.Interpreter.{state_of, Becomes};
 ghost use Rattle.ngc_commands.specs.Movement.{end_of};
@@ -13,11 +13,21 @@ use ngc_commands::{Action, Command, CoolantState, Motion, Pace, Way};
 use ngc_fixed_length::{Nm, Point3, Units, Value};
 use ngc_machine_files::Machine;
 use ngc_modal_state::{Modes, PathControl};
-use ngc_offsets::Frames;
+use ngc_offsets::{CoordinateRange, Frames};
 use ngc_parameters::Store;
 use std::alloc::{AllocError, Allocator};
 
 const COMMANDS: usize = 1_000_000;
+
+fn reach_of<A: Allocator>(machine: &Machine<A>) -> CoordinateRange
+    ensures { result ≡ reach_of (file_of machine.now) }
+{
+    if machine.is_far() {
+        CoordinateRange::Far
+    } else {
+        CoordinateRange::Near
+    }
+}
 
 impl<A: Allocator> Interpreter<A> {
     /// Returns the state before the first line. The axes are at the machine's start point, G54 is
@@ -33,7 +43,7 @@ impl<A: Allocator> Interpreter<A> {
         Ok(Interpreter {
             line: 0,
             modes: Modes::start(),
-            frames: Frames::new(&machine.origins),
+            frames: Frames::new(&machine.origins, reach_of(machine)),
             store,
             place: machine.start,
             feed: 0,

@@ -82,7 +82,7 @@ impl<A: Allocator> Interpreter<A> {
     {
         let given = axis_lengths(self.modes.units, words)?;
         let end = if is_machine_place {
-            machine_target(self.place, &given)
+            machine_target(self.frames.reach, self.place, &given)
         } else {
             self.frames.target(self.modes.distance, self.place, &given)
         };

@@ -63,7 +63,7 @@ lines_of (negsuc g) b e c range some most = absurd (omega (arith, ints, range.le
 -- ---- arcs
 
 -- a position whose grid point is within the travel isn't far from zero
-near_zero : (step low high z : ℤ) → IsStep step → unsigned_abs low ≤ 1000000000 → unsigned_abs high ≤ 1000000000 →
+near_zero : (step low high z : ℤ) → IsStep step → unsigned_abs low ≤ 3999000000 → unsigned_abs high ≤ 3999000000 →
     low ≤ℤ (nearest z step *ℤ step) → (nearest z step *ℤ step) ≤ℤ high → unsigned_abs z ≤ 4000000000
 near_zero (pos s) low high z range l h above below =
     let i = nearest_near z s (omega (arith, ints, range.least)) in

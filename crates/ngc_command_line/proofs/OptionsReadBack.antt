@@ -21,7 +21,7 @@ use Rattle.clap.proofs.ValueTestLemmas.{Accepts-accepts}
 use Rattle.ngc_command_line.specs.CommandLine.{MachineSource, FromGrbl, FromFigures, adapt_words, machine_words}
 use Rattle.ngc_command_line.specs.CommandLine.{certify_words, check_words, draw_words, format_text, help_words, list_words, live_words, ngc_app, place_words, report_words, run_name}
 use Rattle.ngc_command_line.specs.CommandLine.{run_words, show_words}
-use Rattle.ngc_command_line.specs.Meant.{AreCommands, AreCuts, AreCutsInRange, AreOptions, IsCertifyRequest, IsCheckRequest, IsDrawRequest, IsHelpRequest, IsListRequest}
+use Rattle.ngc_command_line.specs.Meant.{AreCells, AreCommands, AreCuts, AreCutsInRange, AreOptions, IsCertifyRequest, IsCheckRequest, IsDrawRequest, IsHelpRequest, IsListRequest}
 use Rattle.ngc_command_line.specs.Meant.{IsAdaptRequest, IsLiveRequest, IsMachineRequest, acceleration_in, feed_in, grbl_in, steps_in, travel_in}
 use Rattle.ngc_command_line.specs.Meant.{ChangeTexts, HaveChanges, change_texts, changes_in, changes_written, no_texts}
 use Rattle.ngc_command_line.specs.Meant.{IsPlaceRequest, IsReportRequest, IsRunRequest, IsShowRequest, IsFormat, IsMask, IsTaken, is_set}
@@ -832,27 +832,27 @@ FindsReport machine tools program cuts all json None = ⊥
 FindsReport machine tools program cuts all json (Some found) = (found.0 ≡ codes "report") × (first_of (codes "machine") found.1 ≡ Some machine)
     × (first_of (codes "tools") found.1 ≡ Some tools) × (first_of (codes "program") found.1 ≡ program) × (first_of (codes "cuts") found.1 ≡ cuts)
     × (is_set (codes "all") found.1 ≡ all) × (is_set (codes "json") found.1 ≡ json)
-    × (change_texts found.1 ≡ no_texts) × (first_of (codes "dialect") found.1 ≡ None)
+    × (change_texts found.1 ≡ no_texts) × (first_of (codes "dialect") found.1 ≡ None) × (first_of (codes "cells") found.1 ≡ None)
 
 report_finds : (machine tools : Text) (program : Option Text) (cuts : Option ℕ) (all json : Bool)
     → FindsReport machine tools program (text_of cuts) all json (subcommand_of ngc_app (report_words machine tools program cuts all json))
 unfolding clap_on_literals
-report_finds machine tools None None false false = (refl, refl, refl, refl, refl, refl, refl, refl, refl)
-report_finds machine tools None None false true = (refl, refl, refl, refl, refl, refl, refl, refl, refl)
-report_finds machine tools None None true false = (refl, refl, refl, refl, refl, refl, refl, refl, refl)
-report_finds machine tools None None true true = (refl, refl, refl, refl, refl, refl, refl, refl, refl)
-report_finds machine tools None (Some cuts) false false = (refl, refl, refl, refl, refl, refl, refl, refl, refl)
-report_finds machine tools None (Some cuts) false true = (refl, refl, refl, refl, refl, refl, refl, refl, refl)
-report_finds machine tools None (Some cuts) true false = (refl, refl, refl, refl, refl, refl, refl, refl, refl)
-report_finds machine tools None (Some cuts) true true = (refl, refl, refl, refl, refl, refl, refl, refl, refl)
-report_finds machine tools (Some program) None false false = (refl, refl, refl, refl, refl, refl, refl, refl, refl)
-report_finds machine tools (Some program) None false true = (refl, refl, refl, refl, refl, refl, refl, refl, refl)
-report_finds machine tools (Some program) None true false = (refl, refl, refl, refl, refl, refl, refl, refl, refl)
-report_finds machine tools (Some program) None true true = (refl, refl, refl, refl, refl, refl, refl, refl, refl)
-report_finds machine tools (Some program) (Some cuts) false false = (refl, refl, refl, refl, refl, refl, refl, refl, refl)
-report_finds machine tools (Some program) (Some cuts) false true = (refl, refl, refl, refl, refl, refl, refl, refl, refl)
-report_finds machine tools (Some program) (Some cuts) true false = (refl, refl, refl, refl, refl, refl, refl, refl, refl)
-report_finds machine tools (Some program) (Some cuts) true true = (refl, refl, refl, refl, refl, refl, refl, refl, refl)
+report_finds machine tools None None false false = (refl, refl, refl, refl, refl, refl, refl, refl, refl, refl)
+report_finds machine tools None None false true = (refl, refl, refl, refl, refl, refl, refl, refl, refl, refl)
+report_finds machine tools None None true false = (refl, refl, refl, refl, refl, refl, refl, refl, refl, refl)
+report_finds machine tools None None true true = (refl, refl, refl, refl, refl, refl, refl, refl, refl, refl)
+report_finds machine tools None (Some cuts) false false = (refl, refl, refl, refl, refl, refl, refl, refl, refl, refl)
+report_finds machine tools None (Some cuts) false true = (refl, refl, refl, refl, refl, refl, refl, refl, refl, refl)
+report_finds machine tools None (Some cuts) true false = (refl, refl, refl, refl, refl, refl, refl, refl, refl, refl)
+report_finds machine tools None (Some cuts) true true = (refl, refl, refl, refl, refl, refl, refl, refl, refl, refl)
+report_finds machine tools (Some program) None false false = (refl, refl, refl, refl, refl, refl, refl, refl, refl, refl)
+report_finds machine tools (Some program) None false true = (refl, refl, refl, refl, refl, refl, refl, refl, refl, refl)
+report_finds machine tools (Some program) None true false = (refl, refl, refl, refl, refl, refl, refl, refl, refl, refl)
+report_finds machine tools (Some program) None true true = (refl, refl, refl, refl, refl, refl, refl, refl, refl, refl)
+report_finds machine tools (Some program) (Some cuts) false false = (refl, refl, refl, refl, refl, refl, refl, refl, refl, refl)
+report_finds machine tools (Some program) (Some cuts) false true = (refl, refl, refl, refl, refl, refl, refl, refl, refl, refl)
+report_finds machine tools (Some program) (Some cuts) true false = (refl, refl, refl, refl, refl, refl, refl, refl, refl, refl)
+report_finds machine tools (Some program) (Some cuts) true true = (refl, refl, refl, refl, refl, refl, refl, refl, refl, refl)
 
 report_cuts_taken : (machine tools : Text) (program : Option Text) (cuts : ℕ) (all json : Bool) → value_kinds false (Unsigned 1 65535) (decimal cuts) ≡ []
     → IsTaken (report_words machine tools program (Some cuts) all json)
@@ -895,6 +895,7 @@ requested_report machine tools program cuts all json (Some found) (ToReport repo
       are.1.json ∙ finds.6,
       none_replaced found.1 report.changes are.1.changes finds.7,
       are.1.dialect ∙ finds.8,
+      subst (λ (text : Option Text). AreCells text report.cells) finds.9 are.1.cells,
     )
 requested_report machine tools program cuts all json (Some found) (ToPlace place) range finds are =
     other_name (codes "report") (codes "place") (sym finds.0 ∙ are.0) (λ lengths. omega (arith, lengths))

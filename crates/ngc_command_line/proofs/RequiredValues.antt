@@ -18,6 +18,7 @@ use Rattle.ngc_command_line.specs.Meant.{IsTaken, IsWhole}
 use Rattle.ngc_command_line.specs.declared.options.Recording.{Recording}
 use Rattle.ngc_command_line.specs.declared.options.Recording.TheVariants.{Log, Pulses}
 use Rattle.ngc_command_line.proofs.FoundValues.{AreSound}
+use Rattle.ngc_command_line.proofs.Rules.{FitsCells, cells_fit}
 use Rattle.ngc_command_line.proofs.Rules.{Fits, FitsCuts, FitsFormat, FitsMask, FitsNumber, append_is_sound, below_passes, cuts_fit, flag_is_sound, format_fits, found_fits}
 use Rattle.ngc_command_line.proofs.Rules.{given_has_value, help_is_sound, is_true, level_is_filled, mask_fits, neither_true, number_fits, set_is_sound}
 
@@ -301,11 +302,33 @@ report_sound =
     let origin = append_is_sound FitsCuts _ refl refl refl (λ v. no_cuts (codes "origin") v refl) in
     let fixture = append_is_sound FitsCuts _ refl refl refl (λ v. no_cuts (codes "fixture") v refl) in
     let stock = set_is_sound FitsCuts _ refl refl refl (λ v none. no_cuts (codes "stock") v refl) in
+    let cells = set_is_sound FitsCuts _ refl refl refl (λ v none. no_cuts (codes "cells") v refl) in
     let margin = set_is_sound FitsCuts _ refl refl refl (λ v none. no_cuts (codes "margin") v refl) in
     let from_travel = set_is_sound FitsCuts _ refl refl refl (λ v none. no_cuts (codes "travel-margin") v refl) in
     let rapids = set_is_sound FitsCuts _ refl refl refl (λ v none. no_cuts (codes "rapids") v refl) in
     let dialect = set_is_sound FitsCuts _ refl refl refl (λ v none. no_cuts (codes "dialect") v refl) in
-    (machine, (tools, (program, (cuts, (all, (json, (origin, (fixture, (stock, (margin, (from_travel, (rapids, (dialect, (help_is_sound FitsCuts _ refl refl, tt))))))))))))))
+    (machine, (tools, (program, (cuts, (all, (json, (origin, (fixture, (stock, (cells, (margin, (from_travel, (rapids, (dialect, (help_is_sound FitsCuts _ refl refl, tt)))))))))))))))
+
+no_cells : (id text : Text) → bytes_eq id (codes "cells") ≡ false → FitsCells id text
+no_cells = other_fits (codes "cells") (IsUnsignedIn 1 4000000)
+
+report_cells_sound : AreSound FitsCells report_shape.rules
+report_cells_sound =
+    let machine = set_is_sound FitsCells _ refl refl refl (λ v none. no_cells (codes "machine") v refl) in
+    let tools = set_is_sound FitsCells _ refl refl refl (λ v none. no_cells (codes "tools") v refl) in
+    let program = set_is_sound FitsCells _ refl refl refl (λ v none. no_cells (codes "program") v refl) in
+    let cuts = set_is_sound FitsCells _ refl refl refl (λ v none. no_cells (codes "cuts") v refl) in
+    let all = flag_is_sound FitsCells _ (codes "true") (codes "false") refl refl refl (λ v. no_cells (codes "all") v refl) in
+    let json = flag_is_sound FitsCells _ (codes "true") (codes "false") refl refl refl (λ v. no_cells (codes "json") v refl) in
+    let origin = append_is_sound FitsCells _ refl refl refl (λ v. no_cells (codes "origin") v refl) in
+    let fixture = append_is_sound FitsCells _ refl refl refl (λ v. no_cells (codes "fixture") v refl) in
+    let stock = set_is_sound FitsCells _ refl refl refl (λ v none. no_cells (codes "stock") v refl) in
+    let cells = set_is_sound FitsCells _ refl refl refl (λ v none same. cells_fit v none) in
+    let margin = set_is_sound FitsCells _ refl refl refl (λ v none. no_cells (codes "margin") v refl) in
+    let from_travel = set_is_sound FitsCells _ refl refl refl (λ v none. no_cells (codes "travel-margin") v refl) in
+    let rapids = set_is_sound FitsCells _ refl refl refl (λ v none. no_cells (codes "rapids") v refl) in
+    let dialect = set_is_sound FitsCells _ refl refl refl (λ v none. no_cells (codes "dialect") v refl) in
+    (machine, (tools, (program, (cuts, (all, (json, (origin, (fixture, (stock, (cells, (margin, (from_travel, (rapids, (dialect, (help_is_sound FitsCells _ refl refl, tt)))))))))))))))
 
 report_values : (words : List Text) → level_fault report_shape [] nothing_held words false [] ≡ [] → HasReportValues (rows_after report_shape.rules [] words)
 report_values words none =
@@ -316,6 +339,7 @@ report_values words none =
       given_has_value FitsCuts (codes "machine") rows filled (is_true _ machine),
       given_has_value FitsCuts (codes "tools") rows filled (is_true _ tools),
       found_fits (codes "cuts") (IsUnsignedIn 1 65535) rows filled,
+      found_fits (codes "cells") (IsUnsignedIn 1 4000000) rows (level_is_filled FitsCells report_shape report_cells_sound words none).0,
     )
 
 place_sound : AreSound FitsCuts place_shape.rules

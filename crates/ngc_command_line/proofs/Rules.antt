@@ -108,6 +108,10 @@ Fits name P id text = bytes_eq id name ≡ true → P text
 abbrev pub FitsCuts : Text → Text → Type 0
 FitsCuts = Fits (codes "cuts") (IsUnsignedIn 1 65535)
 
+-- and one of `--cells`
+abbrev pub FitsCells : Text → Text → Type 0
+FitsCells = Fits (codes "cells") (IsUnsignedIn 1 4000000)
+
 -- and one of `--format` is 1 or 2
 abbrev pub FitsFormat : Text → Text → Type 0
 FitsFormat = Fits (codes "format") (IsUnsignedIn 1 2)
@@ -131,6 +135,9 @@ number_fits text none = accepts-Accepts false (Unsigned 1 999) text (accepted _ 
 
 pub cuts_fit : (text : Text) → value_kinds false (Unsigned 1 65535) text ≡ [] → IsUnsignedIn 1 65535 text
 cuts_fit text none = accepts-Accepts false (Unsigned 1 65535) text (accepted _ _ none)
+
+pub cells_fit : (text : Text) → value_kinds false (Unsigned 1 4000000) text ≡ [] → IsUnsignedIn 1 4000000 text
+cells_fit text none = accepts-Accepts false (Unsigned 1 4000000) text (accepted _ _ none)
 
 checked : (help subcommand argument : Bool) → check_kinds help subcommand argument ≡ [] → argument ≡ false
 checked true subcommand argument none = cc

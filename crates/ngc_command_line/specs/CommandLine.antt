@@ -41,6 +41,10 @@ fixture_option = record (file_option (codes "fixture")) { action = Some Append }
 abbrev pub stock_option : Rule
 stock_option = file_option (codes "stock")
 
+-- `--cells N`, with a number from 1 to 4,000,000
+abbrev pub cells_option : Rule
+cells_option = record (file_option (codes "cells")) { parser = Some (Unsigned 1 4000000) }
+
 -- `--margin MM`, `--travel-margin MM` and `--rapids WAY`
 abbrev pub margin_option : Rule
 margin_option = file_option (codes "margin")
@@ -67,7 +71,7 @@ list_app = fold with_rule (new_app (codes "list"))
     ∷ flag (codes "delete") ∷ origin_option ∷ dialect_option ∷ [])
 
 -- In the commands below, the last two points stand for `[--fixture BOX].. [--stock BOX]` and
--- `[--margin MM] [--travel-margin MM] [--rapids WAY]`.
+-- `[--margin MM] [--travel-margin MM] [--rapids WAY]`. `report` has `[--cells N]` between the two.
 
 -- `certify --machine FILE --tools FILE [--program FILE] [--cuts N] [--format VERSION]
 -- [--origin SYSTEM=X,Y,Z].. .. [--dialect NAME]`
@@ -140,7 +144,7 @@ report_app = fold with_rule (new_app (codes "report"))
     (required_file (codes "machine") ∷ required_file (codes "tools")
     ∷ file_option (codes "program") ∷ cuts_option ∷ flag (codes "all") ∷ flag (codes "json")
     ∷ origin_option ∷ fixture_option
-    ∷ stock_option ∷ margin_option ∷ travel_margin_option ∷ rapids_option ∷ dialect_option ∷ [])
+    ∷ stock_option ∷ cells_option ∷ margin_option ∷ travel_margin_option ∷ rapids_option ∷ dialect_option ∷ [])
 
 -- `place --machine FILE --tools FILE [--program FILE] [--system SYSTEM] [--cuts N] [--json]
 -- [--origin SYSTEM=X,Y,Z].. .. [--dialect NAME]`

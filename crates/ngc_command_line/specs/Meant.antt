@@ -137,6 +137,14 @@ AreCuts None cuts = cuts ≡ 8
 AreCuts (Some text) cuts = IsNumeral 10 (without_leading_plus text)
     × (cuts ≡ digits_value 10 (without_leading_plus text)) × (1 ≤ cuts) × (cuts ≤ 65535)
 
+-- the number of cells: none without a text, otherwise the number from 1 to 4,000,000 whose decimal the
+-- text is; a plus sign may precede it
+abbrev pub AreCells : Option Text → Option ℕ → Type 0
+AreCells None cells = cells ≡ None
+AreCells (Some text) None = ⊥
+AreCells (Some text) (Some cells) = IsNumeral 10 (without_leading_plus text)
+    × (cells ≡ digits_value 10 (without_leading_plus text)) × (1 ≤ cells) × (cells ≤ 4000000)
+
 abbrev pub format_number : Format → ℕ
 format_number One = 1
 format_number Two = 2
@@ -255,6 +263,7 @@ pub record AreReportOptions (rows : List Row) (options : ReportOptions) : Type 0
   pub cuts : AreCuts (first_of (codes "cuts") rows) options.cuts
   pub all : options.all ≡ is_set (codes "all") rows
   pub json : options.json ≡ is_set (codes "json") rows
+  pub cells : AreCells (first_of (codes "cells") rows) options.cells
   pub dialect : option_map (λ name. name.now) options.dialect ≡ first_of (codes "dialect") rows
   pub changes : changes_in rows ≡ Some options.changes
 
@@ -335,6 +344,7 @@ HasShowValues rows = HasValue (codes "machine") rows
 abbrev pub HasReportValues : List Row → Type 0
 HasReportValues rows = HasValue (codes "machine") rows × HasValue (codes "tools") rows
     × IfSome (first_of (codes "cuts") rows) (IsUnsignedIn 1 65535)
+    × IfSome (first_of (codes "cells") rows) (IsUnsignedIn 1 4000000)
 
 -- the values that are found for `place` if the words are accepted
 abbrev pub HasPlaceValues : List Row → Type 0
@@ -471,13 +481,15 @@ IsShowRequest machine tools warnings (ToShow show) =
     × (show.warnings ≡ warnings)
 IsShowRequest machine tools warnings other = ⊥
 
--- `report` is requested, with these options, by default 8 cuts, and no key is replaced
+-- `report` is requested, with these options, by default 8 cuts, no key is replaced, and no number of
+-- cells is requested
 abbrev pub IsReportRequest : Text → Text → Option Text → Option ℕ → Bool → Bool → Options → Type 0
 IsReportRequest machine tools program cuts all json (ToReport report) =
     (report.machine.now ≡ machine) × (report.tools.now ≡ tools)
     × (option_map (λ name. name.now) report.program ≡ program)
     × (report.cuts ≡ unwrap_or cuts 8) × (report.all ≡ all) × (report.json ≡ json)
     × (report.changes ≡ no_changes) × (option_map (λ name. name.now) report.dialect ≡ None)
+    × (report.cells ≡ None)
 IsReportRequest machine tools program cuts all json other = ⊥
 
 -- `place` is requested, with these options, by default 8 cuts, and no key is replaced

@@ -252,6 +252,9 @@ pub struct ReportOptions<'a> {
     pub json: bool,
     /// What replaces keys of the machine file.
     pub changes: Changes,
+    /// The most cells that the block of material is divided into, from 1 to 4,000,000. The default is
+    /// 250,000.
+    pub cells: Option<u32>,
     /// The control in whose language the program is written. Without one it is our own language.
     pub dialect: Option<&'a str>,
     ghost some_cuts: { 1 ≤ cuts },

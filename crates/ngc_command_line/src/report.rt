@@ -1,8 +1,9 @@
 //! `ngc report`.
 
-ghost use Rattle.std.specs.Prelude.{◌≡◌, Some};
-ghost use Rattle.clap.specs.Words.{found_of, rows_of};
-ghost use Rattle.ngc_command_line.specs.Meant.{AreReportOptions, HasReportValues, changes_in};
+ghost use Rattle.std.specs.Prelude.{◌≡◌, IfSome, Some, codes};
+ghost use Rattle.clap.specs.Words.{IsUnsignedIn, first_of, found_of, rows_of};
+ghost use Rattle.ngc_command_line.specs.Meant.{AreCells, AreReportOptions, HasReportValues};
+ghost use Rattle.ngc_command_line.specs.Meant.{changes_in};
 
 use crate::arguments::{
     CUTS, DIALECT, FIXTURE, MARGIN, ORIGIN, PROGRAM, RAPIDS, REQUIRED_MACHINE, REQUIRED_TOOLS,
@@ -30,6 +31,14 @@ pub(crate) const JSON: Argument<'static> = Argument {
     help: "Print the same facts as a JSON document",
 };
 
+const CELLS: Argument<'static> = Argument {
+    name: "cells",
+    is_named: true,
+    is_required: false,
+    takes: Takes::Number("N", 1, 4_000_000),
+    help: "Most cells that the material is divided into, 1 to\n4000000: with more the margin is smaller\n[default: 250000]",
+};
+
 pub(crate) static REPORT: SubcommandRow<'static> = SubcommandRow {
     name: "report",
     about: "Tell whether a part program fits, and how long it takes",
@@ -47,12 +56,34 @@ pub(crate) static REPORT: SubcommandRow<'static> = SubcommandRow {
         ORIGIN,
         FIXTURE,
         STOCK,
+        CELLS,
         MARGIN,
         TRAVEL_MARGIN,
         RAPIDS,
         DIALECT,
     ],
 };
+
+fn cells_in(text: &str) -> u32
+    requires { IsUnsignedIn 1 4000000 text.now }
+    ensures { AreCells (Some text.now) (Some result) }
+{
+    match text.parse::<u32>() {
+        Ok(cells) => cells,
+        Err(_) => unreachable!(),
+    }
+}
+
+fn cells_of(found: &ArgMatches<'_>) -> Option<u32>
+    requires { IfSome (first_of (codes "cells") (rows_of (found_of found.now)))
+        (IsUnsignedIn 1 4000000) }
+    ensures { AreCells (first_of (codes "cells") (rows_of (found_of found.now))) result }
+{
+    match found.get_str("cells") {
+        Some(text) => Some(cells_in(text)),
+        None => None,
+    }
+}
 
 pub(crate) fn report_options<'a>(found: &ArgMatches<'a>, changes: Changes) -> ReportOptions<'a>
     requires values { HasReportValues (rows_of (found_of found.now)) }
@@ -67,6 +98,7 @@ pub(crate) fn report_options<'a>(found: &ArgMatches<'a>, changes: Changes) -> Re
         all: flag_is_set(found, "all"),
         json: flag_is_set(found, "json"),
         changes,
+        cells: cells_of(found),
         dialect: found.get_str("dialect"),
     }
 }

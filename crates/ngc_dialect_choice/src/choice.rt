@@ -63,6 +63,7 @@ fn report_in<'a>(options: &ReportOptions<'a>, dialect: Option<&'a str>) -> Repor
         all: options.all,
         json: options.json,
         changes: options.changes,
+        cells: options.cells,
         dialect,
     }
 }

@@ -52,7 +52,7 @@ use Rattle.ngc_dialect_execution.specs.Executed.{PlainLine, Run, execute_plain, 
 use Rattle.ngc_dialect_execution.specs.Faults.{◌>>=◌ as ◌>>=c◌, caused, stored_cause}
 use Rattle.ngc_dialect_execution.specs.Flow.{FlowProgress, depths, effect_done, effect_taken, ends, flow_line_taken, flow_statements_taken, flow_taken, level_begun, level_ended, level_taken, line_or_end, number_at, other_words, others_taken, passed_over, said_if, stepped, then_on, turned, values_from, with_line, with_values}
 use Rattle.ngc_dialect_execution.specs.Mounting.{before_lines, first_number, mounted, mounting, with_between, with_mounted}
-use Rattle.ngc_dialect_execution.specs.Program.{changes_of, commands_in, from_begun, go_from, go_on, lines_taken, marked_taken, traced_in}
+use Rattle.ngc_dialect_execution.specs.Program.{leaves_out, changes_of, commands_in, from_begun, go_from, go_on, lines_taken, marked_taken, traced_in}
 use Rattle.ngc_dialect_repeats.specs.declared.polar.PolarLine.{PolarLine}
 use Rattle.ngc_dialect_repeats.specs.declared.turns.Turning.{Turning}
 use Rattle.ngc_dialect_repeats.specs.Kept.{line_words}
@@ -562,7 +562,7 @@ pub nothing_changes : (w : Wanted) (d : Dialect) (setup : Setup) (block_delete :
     traced_in nothing_wanted d setup block_delete text ≡ bare_outcome (traced_in w d setup block_delete text)
 nothing_changes w d setup block_delete text =
     begun_same _ (before_lines w d setup) _ (before w d setup)
-    (λ p. lines_same setup block_delete (program_of d text) no_lines (split_lines text) p [])
+    (λ p. lines_same setup (leaves_out block_delete text) (program_of d text) no_lines (split_lines text) p [])
 
 bare_commands : (o : Outcome) → commands_in (bare_outcome o) ≡ commands_in o
 bare_commands (Ok f) = refl

@@ -22,3 +22,5 @@ pub mod FlowSteps
 pub mod Erasure
 -- Modes are restored by the words that restore them.
 pub mod SavedSteps
+-- Block delete does nothing in a text of which no line begins with `/`.
+pub mod DeletedLines

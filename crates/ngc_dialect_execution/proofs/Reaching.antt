@@ -54,7 +54,7 @@ use Rattle.ngc_dialect_execution.specs.Faults.{◌>>=◌ as ◌>>=c◌, caused, 
 use Rattle.ngc_dialect_execution.specs.Flow.{FlowProgress, depths, effect_done, effect_taken, ends, flow_line_taken, flow_statements_taken, flow_taken, level_begun, level_ended, level_taken, line_or_end, number_at, other_words, others_taken, passed_over, said_if, stepped, then_on, turned, values_from, with_line, with_values}
 use Rattle.ngc_dialect_execution.specs.Laws.{AreLawful, AreExecuted, LeadTo}
 use Rattle.ngc_dialect_execution.specs.Mounting.{before_lines, first_number, mounted, mounting, with_between}
-use Rattle.ngc_dialect_execution.specs.Program.{commands_in, meaning_in, from_begun, go_from, go_on, lines_taken, marked_taken, traced_in}
+use Rattle.ngc_dialect_execution.specs.Program.{leaves_out, commands_in, meaning_in, from_begun, go_from, go_on, lines_taken, marked_taken, traced_in}
 use Rattle.ngc_dialect_execution.specs.declared.run.Wanted.{Wanted}
 use Rattle.ngc_dialect_notes.specs.declared.kind.Kind.TheVariants as kinds
 use Rattle.ngc_dialect_notes.specs.Noted.{statements_noted}
@@ -748,7 +748,7 @@ pub program_traced : (w : Wanted) (d : Dialect) (setup : Setup) (block_delete : 
     Executes setup w.lines (traced_in w d setup block_delete text)
 program_traced w d setup block_delete text =
     from_begun_executed setup w.lines (before_lines w d setup) _ (before_reached w d setup)
-    (λ p there. lines_executed setup w.lines block_delete (program_of d text) no_lines (split_lines text) p [] there)
+    (λ p there. lines_executed setup w.lines (leaves_out block_delete text) (program_of d text) no_lines (split_lines text) p [] there)
 
 -- ---- what a call returns
 

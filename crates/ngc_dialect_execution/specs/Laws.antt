@@ -1,12 +1,15 @@
 -- Properties of the commands of plain lines, whatever they are. Our own.
-use Rattle.std.specs.Prelude.{◌≡◌, ◌≤◌, List, ◌++◌, length, Ok, true}
+use Rattle.std.specs.Prelude.{◌≡◌, ◌≤◌, ℕ, List, ◌++◌, length, Ok, true, false}
 use Rattle.ngc_commands.specs.declared.command.Command.{Command}
 use Rattle.ngc_fixed_length.specs.declared.points.Point3.{Point3}
 use Rattle.ngc_commands.specs.Movement.{actions_of, ways_of, AreJoined}
 use Rattle.ngc_commands.specs.Sequence.{COMMAND_LIMIT, HaveEvenRadii, EndIsLast, HasEnd}
 use Rattle.ngc_canonical.specs.State.{Setup, State, start_state}
 use Rattle.ngc_canonical.specs.Steps.{◌>>=◌}
+use Rattle.ngc_dialect_names.specs.declared.dialect.Dialect.{Dialect}
 use Rattle.ngc_dialect_execution.specs.Executed.{PlainLine, executed}
+use Rattle.ngc_dialect_execution.specs.Program.{meaning_in}
+use Rattle.ngc_dialect_execution.specs.Text.{has_deleted}
 
 -- The first motion begins at the start point, and each further one where the one before it ends;
 -- each arc has even radii; there are at most a million commands; nothing follows an end; after an
@@ -27,6 +30,11 @@ PlainLinesAreLawful = (setup : Setup) (lines : List PlainLine) (s : State) →
 abbrev pub ListsAreInOrder : Type 0
 ListsAreInOrder = (setup : Setup) (first rest : List PlainLine) (s : State) →
     executed setup (first ++ rest) s ≡ (executed setup first s >>= λ t. executed setup rest t)
+
+-- if no line begins with `/`, a text means the same at both settings of block delete
+abbrev pub SameAtBoth : Type 0
+SameAtBoth = (d : Dialect) (setup : Setup) (text : List ℕ) → has_deleted text ≡ false →
+    meaning_in d setup true text ≡ meaning_in d setup false text
 
 -- plain lines lead from the machine's start to a state
 pub record IsReached (setup : Setup) (s : State) : Type 0 where

@@ -1,10 +1,10 @@
 pub mod Faults
 pub mod Executed
 pub mod Taken
-pub mod Laws
 pub mod Text
 pub mod Ending
 pub mod Views
 pub mod Flow
 pub mod Mounting
 pub mod Program
+pub mod Laws

@@ -1,5 +1,5 @@
 -- A program of another control: the lines of its text, in order, until its flow begins. Our own.
-use Rattle.std.specs.Prelude.{ℕ, List, [], ◌∷◌, ◌++◌, Bool, Option, None, Result, Ok, Err, if◌then◌else◌}
+use Rattle.std.specs.Prelude.{ℕ, List, [], ◌∷◌, ◌++◌, Bool, ◌&&◌, Option, None, Result, Ok, Err, if◌then◌else◌}
 use Rattle.ngc_commands.specs.declared.command.Command.{Command}
 use Rattle.ngc_line_reader.specs.Program.{split_lines}
 use Rattle.ngc_canonical.specs.State.{Setup}
@@ -19,7 +19,7 @@ use Rattle.ngc_dialect_execution.specs.Ending.{Outcome, at, changed_by, finished
 use Rattle.ngc_dialect_execution.specs.Flow.{flow_from}
 use Rattle.ngc_dialect_execution.specs.Mounting.{before_lines}
 use Rattle.ngc_dialect_execution.specs.Taken.{Progress, line_taken, nothing_wanted}
-use Rattle.ngc_dialect_execution.specs.Text.{ProgramLines, first_byte, is_end, lines_after, mark_of, no_lines}
+use Rattle.ngc_dialect_execution.specs.Text.{ProgramLines, first_byte, has_deleted, is_end, lines_after, mark_of, no_lines}
 use Rattle.ngc_dialect_execution.specs.Text.{number_of, program_of}
 
 -- a line by its mark; a percent sign does nothing
@@ -65,10 +65,18 @@ abbrev pub from_begun : Result Progress DialectFault → (Progress → Outcome) 
 from_begun (Ok p) rest = rest p
 from_begun (Err e) rest = Err e
 
+-- what a program's text does if lines that begin with `/` are left out, or if they aren't
+abbrev pub traced_by : Wanted → Dialect → Setup → Bool → List ℕ → Outcome
+traced_by w d setup leaves_out text = from_begun (before_lines w d setup)
+    (λ p. lines_taken setup leaves_out (program_of d text) no_lines (split_lines text) p [])
+
+-- block delete does nothing in a text of which no line begins with `/`
+abbrev pub leaves_out : Bool → List ℕ → Bool
+leaves_out block_delete text = block_delete && has_deleted text
+
 -- what a program's text does, or its first fault, with what is collected besides
 abbrev pub traced_in : Wanted → Dialect → Setup → Bool → List ℕ → Outcome
-traced_in w d setup block_delete text = from_begun (before_lines w d setup)
-    (λ p. lines_taken setup block_delete (program_of d text) no_lines (split_lines text) p [])
+traced_in w d setup block_delete text = traced_by w d setup (leaves_out block_delete text) text
 
 abbrev pub executed_in : Dialect → Setup → Bool → List ℕ → Outcome
 executed_in d setup block_delete text = traced_in nothing_wanted d setup block_delete text

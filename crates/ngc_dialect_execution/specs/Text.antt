@@ -2,6 +2,7 @@
 -- program"; the other controls' likewise).
 use Rattle.std.specs.Prelude.{ℕ, ◌+◌, ◌==◌, min, not, ◌&&◌, ◌||◌, List, [], ◌∷◌, find, Bool, true, false}
 use Rattle.std.specs.Prelude.{Option, Some, None, if◌then◌else◌}
+use Rattle.std.specs.List.{list_any}
 use Rattle.ngc_line_reader.specs.Program.{split_lines}
 use Rattle.ngc_dialect_names.specs.declared.dialect.Dialect.{Dialect}
 use Rattle.ngc_dialect_names.specs.declared.dialect.Dialect.TheVariants as dialects
@@ -15,6 +16,22 @@ is_blank byte = (byte == 32) || (byte == 9) || (byte == 13)
 
 abbrev pub first_byte : List ℕ → Option ℕ
 first_byte bytes = find (λ b. not (is_blank b)) bytes
+
+-- ---- block delete
+
+abbrev pub is_slash : Option ℕ → Bool
+is_slash None = false
+is_slash (Some byte) = byte == 47
+
+-- the first byte of a line that isn't white space is `/`
+abbrev pub begins_with_slash : List ℕ → Bool
+begins_with_slash line = is_slash (first_byte line)
+
+-- a line of a text begins with `/`
+abbrev pub has_deleted : List ℕ → Bool
+has_deleted text = list_any begins_with_slash (split_lines text)
+
+-- ---- percent signs
 
 abbrev pub no_lines : LinesBefore
 no_lines = record { count = 0; begun = false; marked = false }

@@ -21,4 +21,5 @@ pub use fault::{Cause, DialectFault, Refusal};
 pub use lines::{DialectInterpreter, Taken};
 pub use program::{Traced, interpret_dialect, interpret_dialect_with_frames, trace_dialect};
 pub use run::{KeptLine, Wanted};
+pub use text::has_deleted_lines;
 pub use words::WordInterpreter;

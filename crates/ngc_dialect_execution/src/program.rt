@@ -9,7 +9,7 @@ ghost use Rattle.ngc_commands.specs.Sequence.{HaveEvenRadii, EndIsLast, HasEnd};
 ghost use Rattle.ngc_dialect_execution.specs.Faults.{ProgramSays, Says};
 ghost use Rattle.ngc_dialect_execution.specs.Laws.{AreExecuted, LeadTo};
 ghost use Rattle.ngc_dialect_execution.specs.Ending.{finished};
-ghost use Rattle.ngc_dialect_execution.specs.Program.{changes_in, lines_taken, marked_taken, notes_in, plain_in, traced_in};
+ghost use Rattle.ngc_dialect_execution.specs.Program.{changes_in, leaves_out, lines_taken, marked_taken, notes_in, plain_in, traced_in};
 ghost use Rattle.ngc_dialect_execution.specs.Mounting.{first_number};
 ghost use Rattle.ngc_dialect_execution.specs.Program.{meaning_in};
 ghost use Rattle.ngc_frames.specs.Changes.{start_frame};
@@ -21,7 +21,7 @@ use crate::flow::take_flow;
 use crate::framing::{Executed, add_change, framed, framed_by};
 use crate::lines::{DialectInterpreter, Taken};
 use crate::run::{KeptLine, Wanted};
-use crate::text::{LinesBefore, Mark, first_line, number_of};
+use crate::text::{LinesBefore, Mark, first_line, has_deleted_lines, number_of};
 use ngc_canonical::Fault::NoEnd;
 use ngc_canonical::{Command, Machine, Tools};
 use ngc_dialect_names::Dialect;
@@ -163,6 +163,13 @@ pub struct Traced<A: Allocator> {
     pub lines: Option<Vec<KeptLine<A>, A>>,
 }
 
+// Returns whether lines are left out that begin with `/`, if there are any.
+fn leaves_out(block_delete: bool, text: &[u8]) -> bool
+    ensures { result ≡ leaves_out block_delete text.now }
+{
+    block_delete && has_deleted_lines(text)
+}
+
 // Executes the program of a text.
 fn execute_text<A: Allocator + Copy>(
     alloc: A,
@@ -193,7 +200,7 @@ fn execute_text<A: Allocator + Copy>(
         text,
         machine,
         tools,
-        block_delete,
+        leaves_out(block_delete, text),
     ) {
         Ok(executed) => {
             let Executed {

@@ -49,6 +49,30 @@ fn is_blank(byte: u8) -> bool
     byte == b' ' || byte == b'\t' || byte == b'\r'
 }
 
+fn begins_with_slash(bytes: &[u8]) -> bool
+    ensures { result ≡ spec.begins_with_slash bytes.now }
+{
+    match first_byte(bytes) {
+        None => false,
+        Some(byte) => byte == b'/',
+    }
+}
+
+/// Returns whether a line of a text begins with `/`, so that block delete leaves it out.
+pub fn has_deleted_lines(text: &[u8]) -> bool
+    ensures { result ≡ spec.has_deleted text.now }
+{
+    let mut rest = text;
+    while !rest.is_empty() {
+        let (bytes, after) = first_line(rest);
+        if begins_with_slash(bytes) {
+            return true;
+        }
+        rest = after;
+    }
+    false
+}
+
 impl Mark {
     /// Returns whether the line ends the program.
     pub(crate) fn is_end(self) -> bool

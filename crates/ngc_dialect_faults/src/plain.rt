@@ -93,7 +93,7 @@ pub(crate) fn plain_words(fault: PlainFault) -> &'static [u8]
         PlainFault::Modal(fault) => modal_words(fault),
         PlainFault::Length(fault) => number_words(fault),
         PlainFault::Frame(fault) => frame_words(fault),
-        PlainFault::CycleBeyondRange => b"a coordinate of the canned cycle is beyond its range",
+        PlainFault::CycleBeyondRange(_) => b"a coordinate of the canned cycle is beyond its range",
         PlainFault::NoSuchTool(_) => b"the tool table has no tool ",
         PlainFault::Cycle(fault) => cycle_words(fault),
         PlainFault::Arc(fault) => plain_arc_words(fault),

@@ -3,7 +3,7 @@ ghost use Rattle.ngc_canonical.specs.Interpreter.{setup_of};
 ghost use Rattle.ngc_dialect_job.specs.Job.{DialectJobIs};
 
 use ngc_certificate_text::Setting;
-use ngc_dialect_execution::{DialectFault, interpret_dialect};
+use ngc_dialect_execution::{DialectFault, has_deleted_lines, interpret_dialect};
 use ngc_dialect_names::Dialect;
 use ngc_job::Job;
 use ngc_machine_files::{Machine, Tools};
@@ -19,9 +19,8 @@ pub struct DialectJobFault {
 }
 
 /// Executes the program of a text for another control on a machine with its tools: with block delete
-/// off, and then with block delete on. Both are executed, since only the control's reader knows which
-/// lines begin with `/`. It returns the first fault: a refusal of the program, or lack of memory
-/// (900). It then drops machine and tools.
+/// off, and then, if a line begins with `/`, with block delete on. It returns the first fault: a
+/// refusal of the program, or lack of memory (900). It then drops machine and tools.
 pub fn dialect_job<A: Allocator + Copy>(
     alloc: A,
     dialect: Dialect,
@@ -40,6 +39,10 @@ pub fn dialect_job<A: Allocator + Copy>(
             });
         }
     };
+    if !has_deleted_lines(text) {
+        let job = Job::from_commands(machine, tools, off, None);
+        return Ok(job);
+    }
     let on = match interpret_dialect(alloc, dialect, text, &machine, &tools, true) {
         Ok(commands) => commands,
         Err(fault) => {

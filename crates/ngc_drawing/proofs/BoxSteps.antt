@@ -7,13 +7,13 @@ use Rattle.ngc_commands.specs.declared.command.Command.{Command}
 use Rattle.ngc_drawing.specs.Holes.{drilled, ended, holes_from}
 use Rattle.ngc_drawing.specs.Labels.{fixture_characters, lines_at, settled, with_fixtures}
 use Rattle.ngc_drawing.specs.Pictures.{fixture, fixtures_from, tool_row, tool_rows}
-use Rattle.ngc_drawing.specs.Strokes.{strokes_of, strokes_from, after}
-use Rattle.ngc_drawing.specs.Views.{spot}
+use Rattle.ngc_picture_shapes.specs.Strokes.{strokes_of, strokes_from, after}
+use Rattle.ngc_picture_shapes.specs.Views.{spot}
 use Rattle.ngc_drawing.specs.declared.holes.Drilling.{Drilling}
 use Rattle.ngc_drawing.specs.declared.label.Kind.TheVariants as kinds
 use Rattle.ngc_drawing.specs.declared.label.Placed.{Placed}
-use Rattle.ngc_drawing.specs.declared.pen.Pen.{Pen}
-use Rattle.ngc_drawing.specs.declared.view.View.{View}
+use Rattle.ngc_picture_shapes.specs.declared.pen.Pen.{Pen}
+use Rattle.ngc_picture_shapes.specs.declared.view.View.{View}
 
 pub next_fixture : (view : View) (m : ℤ) (ls : List Placed) (fs : List Fixture) (i : ℕ) (f : Fixture) → i < length fs → f ≡ get_or fs i f
     → fixtures_from view m ls i (drop i fs) ≡ fixture view m (lines_at ls i) i f ++ fixtures_from view m ls (i + 1) (drop (i + 1) fs)

@@ -16,10 +16,10 @@ use Rattle.ngc_drawing.specs.Bodies as drawn
 use Rattle.ngc_drawing.specs.Pictures.{tool_box}
 use Rattle.ngc_drawing.specs.Bodies.{filled, tool_at, sweep_of, finished, held_with, joined, swept, swept_from}
 use Rattle.ngc_drawing.specs.Sweeping.{sweeps_ahead}
-use Rattle.ngc_drawing.specs.declared.shape.Shape.{Shape}
+use Rattle.ngc_picture_shapes.specs.declared.shape.Shape.{Shape}
 use Rattle.ngc_drawing.specs.declared.sweep.Sweep.{Sweep}
 use Rattle.ngc_drawing.specs.declared.sweep.Sweeping.{Sweeping}
-use Rattle.ngc_drawing.specs.declared.view.View.{View}
+use Rattle.ngc_picture_shapes.specs.declared.view.View.{View}
 
 -- one piece more
 pub next_piece : (view : View) (most rank : ℕ) (held : Option Sweep) (old new : List Sweep) (ps : List Piece) (i : ℕ) (p : Piece) (rest : List Sweep)

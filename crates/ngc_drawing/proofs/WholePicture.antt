@@ -6,16 +6,16 @@ use Rattle.ngc_commands.specs.declared.command.Command.{Command}
 use Rattle.ngc_certificate_text.specs.Certificate.{Entry}
 use Rattle.ngc_drawing.specs.Labels.{labels}
 use Rattle.ngc_drawing.specs.Pictures.{picture_of, picture_text, shown_sweeps, text_in, text_of}
-use Rattle.ngc_drawing.specs.Sheets.{frame, unit_of}
-use Rattle.ngc_drawing.specs.Spelling.{shapes_text}
-use Rattle.ngc_drawing.specs.Tools.{used}
+use Rattle.ngc_picture_shapes.specs.Sheets.{frame, unit_of}
+use Rattle.ngc_picture_shapes.specs.Spelling.{shapes_text}
+use Rattle.ngc_picture_shapes.specs.Tools.{used}
 use Rattle.ngc_drawing.specs.declared.label.Placed.{Placed}
 use Rattle.ngc_drawing.specs.declared.origin.WorkOrigin.{WorkOrigin}
 use Rattle.ngc_drawing.specs.declared.refusal.RefusedMotion.{RefusedMotion}
-use Rattle.ngc_drawing.specs.declared.shape.Shape.{Shape}
-use Rattle.ngc_drawing.specs.declared.spot.Rectangle.{Rectangle}
+use Rattle.ngc_picture_shapes.specs.declared.shape.Shape.{Shape}
+use Rattle.ngc_picture_shapes.specs.declared.spot.Rectangle.{Rectangle}
 use Rattle.ngc_drawing.specs.declared.sweep.Sweep.{Sweep}
-use Rattle.ngc_drawing.specs.declared.look.Look.{Look}
+use Rattle.ngc_picture_shapes.specs.declared.look.Look.{Look}
 
 pub from_start : (area : Rectangle) (picture : List Shape) (chunk : List ℕ)
     → chunk ≡ [] → chunk ++ shapes_text (unit_of area) picture ≡ shapes_text (unit_of area) picture

@@ -14,13 +14,13 @@ use Rattle.ngc_commands.specs.declared.command.Command.{Command}
 use Rattle.ngc_certificate_text.specs.Certificate.{Entry}
 use Rattle.ngc_certificate_text.specs.declared.piece.Piece.{Piece}
 use Rattle.ngc_collision.specs.Body.{bodies, span}
-use Rattle.ngc_drawing.specs.Tools.{rank_of, number_of}
-use Rattle.ngc_drawing.specs.Views.{rectangle, block}
-use Rattle.ngc_drawing.specs.declared.shape.Shape.{Shape}
-use Rattle.ngc_drawing.specs.declared.shape.Shape.TheVariants as shapes
+use Rattle.ngc_picture_shapes.specs.Tools.{rank_of, number_of}
+use Rattle.ngc_picture_shapes.specs.Views.{rectangle, block}
+use Rattle.ngc_picture_shapes.specs.declared.shape.Shape.{Shape}
+use Rattle.ngc_picture_shapes.specs.declared.shape.Shape.TheVariants as shapes
 use Rattle.ngc_drawing.specs.declared.sweep.Sweep.{Sweep}
-use Rattle.ngc_drawing.specs.declared.view.View.{View}
-use Rattle.ngc_drawing.specs.declared.view.View.TheVariants.{Top, Front, Side, Iso}
+use Rattle.ngc_picture_shapes.specs.declared.view.View.{View}
+use Rattle.ngc_picture_shapes.specs.declared.view.View.TheVariants.{Top, Front, Side, Iso}
 
 -- ---- boxes, and which of them are drawn as one
 

@@ -11,15 +11,15 @@ use Rattle.ngc_commands.specs.declared.movement.Pace.{Pace}
 use Rattle.ngc_commands.specs.declared.movement.Pace.TheVariants as paces
 use Rattle.ngc_commands.specs.declared.movement.Way.{Way}
 use Rattle.ngc_commands.specs.declared.movement.Way.TheVariants.{Line, Arc}
-use Rattle.ngc_drawing.specs.Tools.{eye_of}
-use Rattle.ngc_drawing.specs.Views.{tip_spot}
-use Rattle.ngc_drawing.specs.declared.eye.Eye.{Eye}
+use Rattle.ngc_picture_shapes.specs.Tools.{eye_of}
+use Rattle.ngc_picture_shapes.specs.Views.{tip_spot}
+use Rattle.ngc_picture_shapes.specs.declared.eye.Eye.{Eye}
 use Rattle.ngc_drawing.specs.declared.holes.Drilling.{Drilling}
 use Rattle.ngc_drawing.specs.declared.holes.Plunge.{Plunge}
-use Rattle.ngc_drawing.specs.declared.shape.Mark.TheVariants as marks
-use Rattle.ngc_drawing.specs.declared.shape.Shape.{Shape}
-use Rattle.ngc_drawing.specs.declared.shape.Shape.TheVariants as shapes
-use Rattle.ngc_drawing.specs.declared.view.View.{View}
+use Rattle.ngc_picture_shapes.specs.declared.shape.Mark.TheVariants as marks
+use Rattle.ngc_picture_shapes.specs.declared.shape.Shape.{Shape}
+use Rattle.ngc_picture_shapes.specs.declared.shape.Shape.TheVariants as shapes
+use Rattle.ngc_picture_shapes.specs.declared.view.View.{View}
 
 -- straight up or down
 abbrev pub is_upright : Way → Bool

@@ -7,17 +7,17 @@ use Rattle.std.specs.Ordering.{int_eq}
 use Rattle.ngc_fixed_length.specs.declared.points.Point3.{Point3}
 use Rattle.ngc_machine_files.specs.Machine.{MachineFile}
 use Rattle.ngc_machine_files.specs.declared.machine.Fixture.{Fixture}
-use Rattle.ngc_drawing.specs.Sheets.{is_in}
-use Rattle.ngc_drawing.specs.Views.{spot}
+use Rattle.ngc_picture_shapes.specs.Sheets.{is_in}
+use Rattle.ngc_picture_shapes.specs.Views.{spot}
 use Rattle.ngc_drawing.specs.declared.label.Anchor.{Anchor}
 use Rattle.ngc_drawing.specs.declared.label.Kind.{Kind}
 use Rattle.ngc_drawing.specs.declared.label.Kind.TheVariants as kinds
 use Rattle.ngc_drawing.specs.declared.label.Placed.{Placed}
 use Rattle.ngc_drawing.specs.declared.label.Room.{Room}
 use Rattle.ngc_drawing.specs.declared.origin.WorkOrigin.{WorkOrigin}
-use Rattle.ngc_drawing.specs.declared.spot.Rectangle.{Rectangle}
-use Rattle.ngc_drawing.specs.declared.spot.Spot.{Spot}
-use Rattle.ngc_drawing.specs.declared.view.View.{View}
+use Rattle.ngc_picture_shapes.specs.declared.spot.Rectangle.{Rectangle}
+use Rattle.ngc_picture_shapes.specs.declared.spot.Spot.{Spot}
+use Rattle.ngc_picture_shapes.specs.declared.view.View.{View}
 
 -- ---- the work origin
 

@@ -1,16 +1,6 @@
-pub mod Views
-pub mod Tools
-pub mod Arcs
-pub mod Units
-pub mod Helices
-pub mod Ways
-pub mod Strokes
 pub mod Holes
 pub mod Bodies
 pub mod Sweeping
-pub mod Spelling
-pub mod Draws
-pub mod Sheets
 pub mod Labels
 pub mod Pictures
 pub mod Faults

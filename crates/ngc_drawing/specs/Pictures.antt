@@ -21,28 +21,28 @@ use Rattle.ngc_collision.specs.Body.{bodies, span}
 use Rattle.ngc_drawing.specs.Bodies.{sweeps, swept_from}
 use Rattle.ngc_drawing.specs.Holes.{holes}
 use Rattle.ngc_drawing.specs.Labels.{is_moved, is_zero, labels, lines_at, work_place}
-use Rattle.ngc_drawing.specs.Sheets.{frame, is_in, is_within, unit_of, sheet, pane}
-use Rattle.ngc_drawing.specs.Spelling.{shapes_text}
-use Rattle.ngc_drawing.specs.Strokes.{stroke, strokes}
-use Rattle.ngc_drawing.specs.Tools.{used, number_of, name_of, eye_of}
-use Rattle.ngc_drawing.specs.Views.{spot, tip_spot, rectangle, block, micrometres}
-use Rattle.ngc_drawing.specs.declared.eye.Eye.{Eye}
+use Rattle.ngc_picture_shapes.specs.Sheets.{frame, is_in, is_within, unit_of, sheet, pane}
+use Rattle.ngc_picture_shapes.specs.Spelling.{shapes_text}
+use Rattle.ngc_picture_shapes.specs.Strokes.{stroke, strokes}
+use Rattle.ngc_picture_shapes.specs.Tools.{used, number_of, name_of, eye_of}
+use Rattle.ngc_picture_shapes.specs.Views.{spot, tip_spot, rectangle, block, micrometres}
+use Rattle.ngc_picture_shapes.specs.declared.eye.Eye.{Eye}
 use Rattle.ngc_drawing.specs.declared.label.Placed.{Placed}
-use Rattle.ngc_drawing.specs.declared.look.Look.{Look}
+use Rattle.ngc_picture_shapes.specs.declared.look.Look.{Look}
 use Rattle.ngc_drawing.specs.declared.origin.WorkOrigin.{WorkOrigin}
 use Rattle.ngc_drawing.specs.declared.refusal.RefusedMotion.{RefusedMotion}
-use Rattle.ngc_drawing.specs.declared.shape.BoxKind.{BoxKind}
-use Rattle.ngc_drawing.specs.declared.shape.BoxKind.TheVariants as kinds
-use Rattle.ngc_drawing.specs.declared.shape.Ink.TheVariants as inks
-use Rattle.ngc_drawing.specs.declared.shape.Mark.{Mark}
-use Rattle.ngc_drawing.specs.declared.shape.Mark.TheVariants as marks
-use Rattle.ngc_drawing.specs.declared.shape.Shape.{Shape}
-use Rattle.ngc_drawing.specs.declared.shape.Shape.TheVariants as shapes
-use Rattle.ngc_drawing.specs.declared.spot.Rectangle.{Rectangle}
-use Rattle.ngc_drawing.specs.declared.spot.Spot.{Spot}
+use Rattle.ngc_picture_shapes.specs.declared.shape.BoxKind.{BoxKind}
+use Rattle.ngc_picture_shapes.specs.declared.shape.BoxKind.TheVariants as kinds
+use Rattle.ngc_picture_shapes.specs.declared.shape.Ink.TheVariants as inks
+use Rattle.ngc_picture_shapes.specs.declared.shape.Mark.{Mark}
+use Rattle.ngc_picture_shapes.specs.declared.shape.Mark.TheVariants as marks
+use Rattle.ngc_picture_shapes.specs.declared.shape.Shape.{Shape}
+use Rattle.ngc_picture_shapes.specs.declared.shape.Shape.TheVariants as shapes
+use Rattle.ngc_picture_shapes.specs.declared.spot.Rectangle.{Rectangle}
+use Rattle.ngc_picture_shapes.specs.declared.spot.Spot.{Spot}
 use Rattle.ngc_drawing.specs.declared.sweep.Sweep.{Sweep}
-use Rattle.ngc_drawing.specs.declared.view.View.{View}
-use Rattle.ngc_drawing.specs.declared.view.View.TheVariants.{Iso}
+use Rattle.ngc_picture_shapes.specs.declared.view.View.{View}
+use Rattle.ngc_picture_shapes.specs.declared.view.View.TheVariants.{Iso}
 
 -- a box: its rectangle, and in the isometric view its outline and its edges at the nearest corner
 abbrev pub boxed : View → BoxKind → Point3 → Point3 → List Shape

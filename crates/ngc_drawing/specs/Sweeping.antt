@@ -6,7 +6,7 @@ use Rattle.ngc_certificate_text.specs.Certificate.{Entry}
 use Rattle.ngc_drawing.specs.Bodies.{boxes_from, joined}
 use Rattle.ngc_drawing.specs.declared.sweep.Sweep.{Sweep}
 use Rattle.ngc_drawing.specs.declared.sweep.Sweeping.{Sweeping}
-use Rattle.ngc_drawing.specs.declared.view.View.{View}
+use Rattle.ngc_picture_shapes.specs.declared.view.View.{View}
 
 -- the boxes that are still to be drawn
 abbrev pub sweeps_ahead : View → ℕ → List (Option Tool) → Sweeping → List Action →

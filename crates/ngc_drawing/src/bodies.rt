@@ -5,16 +5,13 @@ ghost use Rattle.ngc_machine_files.specs.Machine.{file_of};
 ghost use Rattle.ngc_collision.specs.Inside.{place_of};
 ghost use Rattle.ngc_drawing.specs.Bodies.{tool_at, body, filled, bodies_lead, bodies_end, swept};
 ghost use Rattle.ngc_drawing.specs.Bodies.{swept_from};
-ghost use Rattle.ngc_drawing.specs.Draws.{Draws};
+ghost use Rattle.ngc_picture_shapes.specs.Draws.{Draws};
 
-use crate::drawer::draw_all;
-use crate::shape::Shape;
-use crate::sheet::Unit;
 use crate::sweep::Sweep;
-use crate::view::{View, block};
 use arrayvec::ArrayVec;
 use ngc_collision::{Place, Solid};
 use ngc_machine_files::{Machine, Tool};
+use ngc_picture_shapes::{Shape, Unit, View, block, draw_all};
 use ngc_text::{Chunk, Sink, WriteFault};
 use std::alloc::Allocator;
 

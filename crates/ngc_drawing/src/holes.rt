@@ -2,19 +2,14 @@
 ghost use Rattle.std.specs.Prelude.{◌≡◌};
 ghost use Rattle.ngc_text.specs.Failures.{CountsFailure};
 ghost use Rattle.ngc_commands.specs.Movement.{start_of};
-ghost use Rattle.ngc_drawing.specs.Draws.{Draws};
+ghost use Rattle.ngc_picture_shapes.specs.Draws.{Draws};
 ghost use Rattle.ngc_drawing.specs.Holes.{is_upright, is_feed, goes_down, begun, deepened, plunged};
 ghost use Rattle.ngc_drawing.specs.Holes.{drilled, hole, ended, holes_from, holes};
 
-use crate::drawer::draw_all;
-use crate::eye::Eye;
-use crate::shape::{Mark, Shape};
-use crate::sheet::Unit;
-use crate::strokes::start_of;
-use crate::view::View;
 use arrayvec::ArrayVec;
 use ngc_commands::{Action, Command, Motion, Pace, Way};
 use ngc_fixed_length::Point3;
+use ngc_picture_shapes::{Eye, Mark, Shape, Unit, View, draw_all, start_of};
 use ngc_text::{Chunk, Sink, WriteFault};
 
 /// The lowest point of the spindle nose that feeds have gone straight down to since the axes last

@@ -8,14 +8,12 @@ ghost use Rattle.ngc_drawing.specs.Labels.{meets_placed, height, lowered, settle
 ghost use Rattle.ngc_drawing.specs.Labels.{HIDDEN, settled_in, with_mark, origin_label, digits};
 ghost use Rattle.ngc_drawing.specs.Labels.{fixture_characters, with_fixtures, mark_labels, labels};
 ghost use Rattle.ngc_drawing.specs.Labels.{lines_at, lines_of};
-ghost use Rattle.ngc_drawing.specs.Views.{spot};
+ghost use Rattle.ngc_picture_shapes.specs.Views.{spot};
 ghost use Rattle.ngc_drawing.specs.declared.label.Kind.TheVariants as kinds;
 
 use crate::origin::WorkOrigin;
-use crate::sheet::Unit;
-use crate::spot::{Rectangle, Spot};
-use crate::view::View;
 use ngc_machine_files::{Fixture, Machine, Name};
+use ngc_picture_shapes::{Rectangle, Spot, Unit, View};
 use std::alloc::{AllocError, Allocator};
 
 /// What a label names.

@@ -5,13 +5,12 @@ ghost use Rattle.ngc_drawing.specs.Pictures.{tool_before, tool_box, standing};
 ghost use Rattle.ngc_drawing.specs.Pictures.{outline, first_outline};
 ghost use Rattle.ngc_collision.specs.Inside.{place_of};
 
-use crate::shape::{BoxKind, Shape};
-use crate::view::{View, block};
 use arrayvec::ArrayVec;
 use ngc_collision::{Place, Solid};
 use ngc_commands::{Action, Command, Reached};
 use ngc_fixed_length::{GridBox, Point3};
 use ngc_machine_files::{Machine, Tool};
+use ngc_picture_shapes::{BoxKind, Shape, View, block};
 use std::alloc::Allocator;
 
 /// Returns the tool that is mounted at a command.

@@ -6,49 +6,44 @@ ghost use Rattle.std.specs.List.{All};
 ghost use Rattle.ngc_text.specs.Failures.{CountsFailure};
 ghost use Rattle.ngc_text.specs.Written.{AppendsPrefix};
 ghost use Rattle.ngc_machine_files.specs.Machine.{file_of};
-ghost use Rattle.ngc_drawing.specs.declared.shape.Shape.TheVariants as drawn;
-ghost use Rattle.ngc_drawing.specs.Draws.{Draws};
+ghost use Rattle.ngc_picture_shapes.specs.declared.shape.Shape.TheVariants as drawn;
+ghost use Rattle.ngc_picture_shapes.specs.Draws.{Draws};
 ghost use Rattle.ngc_drawing.specs.Faults.{CountsUnlessMemory};
-ghost use Rattle.ngc_drawing.specs.Sheets.{unit_of};
+ghost use Rattle.ngc_picture_shapes.specs.Sheets.{unit_of};
 ghost use Rattle.ngc_drawing.specs.Holes.{holes};
-ghost use Rattle.ngc_drawing.specs.Tools.{used, eye_of};
+ghost use Rattle.ngc_picture_shapes.specs.Tools.{used, eye_of};
 ghost use Rattle.ngc_drawing.specs.Pictures.{fixture, fixtures_from, marked_in, marked, SCALES};
 ghost use Rattle.ngc_drawing.specs.Pictures.{margin_shapes, raised, lowered};
 ghost use Rattle.ngc_machine_files.specs.Ranges.{CORNER_LIMIT, MARGIN_LIMIT, IsFrom, IsSized};
 ghost use Rattle.ngc_machine_files.specs.Ranges.{IsFixture};
 ghost use Rattle.ngc_drawing.specs.Pictures.{scale_in, boxed, travel_in, shown_sweeps, places};
 ghost use Rattle.ngc_drawing.specs.Pictures.{origin, picture_text};
-ghost use Rattle.ngc_drawing.specs.Spelling.{shapes_text};
+ghost use Rattle.ngc_picture_shapes.specs.Spelling.{shapes_text};
 ghost use Rattle.ngc_drawing.specs.Pictures.{part, parts, tool_row, tool_rows, first_red};
 ghost use Rattle.ngc_drawing.specs.Pictures.{refused_fixture, refused_way, refused_action};
 ghost use Rattle.ngc_drawing.specs.Pictures.{first_refused, refused, refusal_row, rows, opening};
 ghost use Rattle.ngc_drawing.specs.Pictures.{refused_by, path, scaled, ground, picture_of};
-ghost use Rattle.ngc_drawing.specs.Strokes.{strokes_from, strokes, last_end};
+ghost use Rattle.ngc_picture_shapes.specs.Strokes.{strokes_from, strokes, last_end};
 
 use crate::bodies::draw_swept;
-use crate::drawer::draw_all;
-use crate::eye::Eye;
 use crate::fault::DrawFault;
 use crate::holes::draw_holes;
 use crate::label::{Placed, labels, lines_at};
-use crate::look::Look;
 use crate::origin::WorkOrigin;
 use crate::outline::{add_outline_at, tool_before};
-use crate::pen::{Pen, Run};
 use crate::refusal::RefusedMotion;
-use crate::shape::{BoxKind, Ink, Mark, Shape};
-use crate::sheet::{Unit, frame, pane, sheet, unit_of};
-use crate::spot::{Rectangle, Spot};
-use crate::strokes::{draw_action, draw_stroke};
 use crate::sweep::{Sweep, sweeps};
-use crate::tools::{name_of, number_of, rank_of, used};
-use crate::view::{View, block, to_micrometres};
 use arrayvec::ArrayVec;
 use ngc_certificate_text::Motions;
 use ngc_collision::Place;
 use ngc_commands::{Action, Command, Way};
 use ngc_fixed_length::{Nm, Point3};
 use ngc_machine_files::{Fixture, Machine, Part, Tool};
+use ngc_picture_shapes::{
+    BoxKind, Eye, Ink, Look, Mark, Pen, Rectangle, Run, Shape, Spot, Unit, View, block,
+    draw_action, draw_all, draw_stroke, frame, name_of, number_of, pane, rank_of, sheet_of,
+    to_micrometres, unit_of, used,
+};
 use ngc_text::{Chunk, Sink, WriteFault};
 use std::alloc::{AllocError, Allocator};
 
@@ -511,7 +506,7 @@ fn opening<A: Allocator>(
     ensures { result.items ≡ opening view (file_of machine.now) area.now tools.now }
 {
     let mut shapes = ArrayVec::new();
-    shapes.push(Shape::Begin(sheet(area, rows(tools))));
+    shapes.push(Shape::Begin(sheet_of(area, rows(tools))));
     shapes.push(Shape::Lines);
     add_travel(&mut shapes, view, area, &machine.low, &machine.high);
     shapes

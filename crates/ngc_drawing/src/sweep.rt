@@ -12,12 +12,11 @@ ghost use Rattle.ngc_drawing.specs.Bodies.{sweeps};
 ghost use Rattle.ngc_drawing.specs.Sweeping.{sweeps_ahead};
 ghost use Rattle.ngc_drawing.specs.declared.sweep.Sweep.{Sweep};
 
-use crate::tools::{number_of, rank_of};
-use crate::view::View;
 use ngc_certificate_text::{Motions, Piece};
 use ngc_commands::{Action, Command};
 use ngc_fixed_length::GridBox;
 use ngc_machine_files::Tool;
+use ngc_picture_shapes::{View, number_of, rank_of};
 use std::alloc::{AllocError, Allocator};
 
 /// Boxes that are drawn as one: the rank of their tool, the number of boxes, and the smallest box

@@ -54,7 +54,7 @@ log_numbers = 701 ∷ 702 ∷ 703 ∷ []
 
 -- input, output and the command line
 abbrev pub shell_numbers : List ℕ
-shell_numbers = 720 ∷ 721 ∷ 722 ∷ 723 ∷ 724 ∷ 726 ∷ 727 ∷ 728 ∷ 900 ∷ 901
+shell_numbers = 720 ∷ 721 ∷ 722 ∷ 723 ∷ 724 ∷ 726 ∷ 727 ∷ 728 ∷ 729 ∷ 900 ∷ 901
     ∷ 902 ∷ []
 
 -- all of them

@@ -184,8 +184,9 @@ pub(crate) fn places() -> &'static [Row]
         Row {
             number: 221,
             rule: "This coordinate is too far out: write a smaller number.\n\
-             The limit is 1,000 mm either way, also for `R`, bottom and holes of a cycle, and 4,000 mm for\n\
-             origins and axis offsets (our own).",
+             The limit is 1,000 mm either way, also for `R`, bottom and holes of a cycle, and 4,000 mm on a\n\
+             machine whose travel ends over 1,000 mm from zero. For origins and axis offsets it is 4,000 mm\n\
+             (our own).",
             example: "`G0 X1000.000001`",
             answer: "`ngc: fault 221 line 1`",
             place: None,

@@ -146,6 +146,16 @@ pub(crate) fn shell() -> &'static [Row]
             mend: "Without `--system` it is `54`, for G54.",
         },
         Row {
+            number: 729,
+            rule: "`ngc report --cells` needs a block of material: name one with `--stock`, or leave `--cells` out\n\
+             (our own).",
+            example: "command `ngc report --cells 1000000` with a machine file without `stock` and a tool table",
+            answer: "`ngc: fault 729`, after a sentence on standard output",
+            place: Some("3"),
+            mend: "The block may stand in the machine file or in the job file too. More cells make the margin smaller\n\
+             for which its traverses are tested.",
+        },
+        Row {
             number: 900,
             rule: "There isn't enough memory for the files and the commands: give `ngc` more (our own).",
             example: "command `ngc list` in a shell after `ulimit -v 8000`, with a program of 100,000 lines",

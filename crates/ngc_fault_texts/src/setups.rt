@@ -68,11 +68,12 @@ pub(crate) fn setup() -> &'static [Row]
             place: None,
             mend: "Write `start` as a multiple of `step`: with `step = 10000` it can be 0 or 10000, and not 5. With\n\
              a travel margin `start` is at least that far from `low` and `high`. In version 3 the ends of\n\
-             the travel are in `travel`.",
+             the travel are in `travel`, and at most 3,999 mm from zero.",
         },
         Row {
             number: 266,
-            rule: "A home position or an origin is too far out: write at most 1,000,000,000 nm either way.",
+            rule: "A home position or an origin is too far out: write at most 1,000,000,000 nm either way, and in\n\
+             version 3 at most 4,000 mm.",
             example: "machine file `home28 = [1000000001, 0, 0]`",
             answer: "`ngc: fault 266 machine`",
             place: None,

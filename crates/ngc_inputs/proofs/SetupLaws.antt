@@ -7,7 +7,7 @@ use Rattle.ngc_machine_files.specs.declared.fault.FileFault.{FileFault}
 use Rattle.ngc_machine_files.specs.declared.tools.Tool.{Tool}
 use Rattle.ngc_written_machines.specs.Reading.{any_machine}
 use Rattle.ngc_written_tools.specs.Reading.{any_tools}
-use Rattle.ngc_inputs.specs.Setups.{FileBytes, IfParsed, KeepsFiles, IfMachine, IfTools, OnSetup, AreSetup, Refuses}
+use Rattle.ngc_inputs.specs.Setups.{FileBytes, IfParsed, KeepsFiles, IfMachine, IfTools, OnSetup, AreSetup, Refuses, IfSaid}
 use Rattle.ngc_inputs.specs.Setups.{OnPlaced, changed_in}
 use Rattle.ngc_inputs.specs.Shops.{PlacedResultIs, ShopResultIs, IsPlaced, RefusesMachine, RefusesPlaced, RefusesShop, RefusesTools}
 use Rattle.ngc_inputs.specs.declared.setup.Shop.{Shop}
@@ -23,6 +23,13 @@ pub carried : (known : Option (List ℕ)) (items slice : List ℕ) (P : List ℕ
     IfSome known P
 carried None items slice P same read p = tt
 carried (Some bytes) items slice P same read p = subst P (same ∙ read) p
+
+-- what kept files say is the same
+pub kept_said : {T : Type 0} (read : List ℕ → T) (nothing : T) (old new : FileBytes) (name : Option (List ℕ)) (P : T → Type 0)
+    → KeepsFiles old new → IfSaid read nothing new name P → IfSaid read nothing old name P
+kept_said read nothing old new None P keeps p = p
+kept_said read nothing old new (Some name) P keeps p =
+    subst (λ (known : Option (List ℕ)). IfSome known (λ text. P (read text))) (keeps (Some name)) p
 
 -- what holds of it holds where more holds
 pub said_weaker : {T : Type 0} (read : List ℕ → Result T FileFault) (builtin : T) (bytes : FileBytes) (name : Option (List ℕ))

@@ -59,6 +59,7 @@ answer_number answers.UnknownCommand = 722
 answer_number answers.UnknownView = 723
 answer_number answers.UnknownForm = 727
 answer_number answers.UnknownSystem = 728
+answer_number answers.NoMaterial = 729
 answer_number answers.UnknownControl = 724
 answer_number answers.NoFigures = 726
 
@@ -202,6 +203,7 @@ answer_status answers.UnknownCommand = 3
 answer_status answers.UnknownView = 3
 answer_status answers.UnknownForm = 3
 answer_status answers.UnknownSystem = 3
+answer_status answers.NoMaterial = 3
 answer_status answers.UnknownControl = 3
 answer_status answers.NoFigures = 3
 

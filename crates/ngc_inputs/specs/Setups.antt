@@ -1,6 +1,7 @@
 -- The contents of the machine file and the tool table that a command line names.
 use Rattle.std.specs.Prelude.{◌≡◌, ◌≢◌, ℕ, List, [], Option, Some, None, Result, Ok, Err, IfSome}
 use Rattle.ngc_canonical.specs.State.{Setup}
+use Rattle.ngc_file_figures.specs.Files.{FigureValues}
 use Rattle.ngc_machine_files.specs.Machine.{MachineFile, built_in_machine}
 use Rattle.ngc_machine_files.specs.declared.fault.FileFault.{FileFault}
 use Rattle.ngc_machine_files.specs.declared.fault.FileFault.TheVariants.{Memory}
@@ -8,7 +9,8 @@ use Rattle.ngc_machine_files.specs.declared.tools.Tool.{Tool}
 use Rattle.ngc_margins.specs.Changes.{changed}
 use Rattle.ngc_margins.specs.declared.changes.Changes.{Changes}
 use Rattle.ngc_written_machines.specs.Reading.{any_machine}
-use Rattle.ngc_written_tools.specs.Reading.{any_tools}
+use Rattle.ngc_written_machines.specs.Written.{any_figures}
+use Rattle.ngc_written_tools.specs.Reading.{any_limits, any_tools}
 
 -- the bytes of a file by its name, or of standard input, where they are known
 abbrev pub FileBytes : Type 0
@@ -19,6 +21,16 @@ abbrev pub IfParsed : {T : Type 0} → (List ℕ → Result T FileFault) → T �
     (Result T FileFault → Type 0) → Type 0
 IfParsed read builtin bytes None P = P (Ok builtin)
 IfParsed read builtin bytes (Some name) P = IfSome (bytes (Some name)) (λ text. P (read text))
+
+-- P of what a named file says, where its bytes are known, or of nothing if none is named
+abbrev pub IfSaid : {T : Type 0} → (List ℕ → T) → T → FileBytes → Option (List ℕ) → (T → Type 0) → Type 0
+IfSaid read nothing bytes None P = P nothing
+IfSaid read nothing bytes (Some name) P = IfSome (bytes (Some name)) (λ text. P (read text))
+
+-- the figures that a machine file and a tool table say besides the machine and its tools
+pub record AreFiguresIn (bytes : FileBytes) (machine tools : Option (List ℕ)) (figures : FigureValues) : Type 0 where
+  pub machine : IfSaid any_figures None bytes machine (λ f. figures.machine ≡ f)
+  pub tools : IfSaid any_limits [] bytes tools (λ l. figures.tools ≡ l)
 
 -- the bytes of every file are as they were, and of every file with a name
 abbrev pub KeepsFiles : FileBytes → FileBytes → Type 0

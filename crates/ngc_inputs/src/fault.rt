@@ -82,6 +82,9 @@ pub enum AnswerFault {
     /// No coordinate system has the name: 728.
     #[error("no coordinate system has this name")]
     UnknownSystem,
+    /// A number of cells is requested, and there is no block of material: 729.
+    #[error("no material for the cells")]
+    NoMaterial,
 }
 
 impl AnswerFault {
@@ -108,12 +111,13 @@ impl AnswerFault {
             AnswerFault::NoFigures => 726,
             AnswerFault::UnknownForm => 727,
             AnswerFault::UnknownSystem => 728,
+            AnswerFault::NoMaterial => 729,
         }
     }
 
     /// Returns the exit status: 1 for input, output and memory, 3 for a file or a program that is
-    /// refused and a name or number that isn't known, 4 for a certificate that is refused or isn't
-    /// made.
+    /// refused, a name or number that isn't known and cells without material, 4 for a certificate that
+    /// is refused or isn't made.
     pub fn status(&self) -> u8
         ensures { result ≡ answer_status self.now }
     {
@@ -131,7 +135,8 @@ impl AnswerFault {
             AnswerFault::UnknownControl
             | AnswerFault::NoFigures
             | AnswerFault::UnknownForm
-            | AnswerFault::UnknownSystem => 3,
+            | AnswerFault::UnknownSystem
+            | AnswerFault::NoMaterial => 3,
         }
     }
 }

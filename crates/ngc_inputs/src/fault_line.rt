@@ -201,7 +201,8 @@ fn add_place(chunk: &mut Chunk, fault: &AnswerFault)
         | AnswerFault::UnknownControl
         | AnswerFault::NoFigures
         | AnswerFault::UnknownForm
-        | AnswerFault::UnknownSystem => {}
+        | AnswerFault::UnknownSystem
+        | AnswerFault::NoMaterial => {}
     }
 }
 

@@ -1,10 +1,13 @@
 //! The machine and its tools, from the files that the command line names.
-ghost use Rattle.std.specs.Prelude.{◌≡◌, IfErr, IfOk, Err, IfSome, MatchResult, Ok, OnOk, Some};
+ghost use Rattle.std.specs.Prelude.{◌≡◌, IfErr, IfOk, Err, IfSome, MatchResult, None, Ok, OnOk, Some, []};
 ghost use Rattle.std.specs.Prelude.{option_map};
 ghost use Rattle.ngc_machine_files.specs.Machine.{file_of};
 ghost use Rattle.ngc_machine_files.specs.Refusals.{FileResultIs};
 ghost use Rattle.ngc_machine_files.specs.Tools.{tools_of};
-ghost use Rattle.ngc_inputs.specs.Setups.{IfMachine, IfTools, KeepsFiles};
+ghost use Rattle.ngc_file_figures.specs.Files.{stored};
+ghost use Rattle.ngc_inputs.specs.Setups.{AreFiguresIn, IfMachine, IfSaid, IfTools, KeepsFiles};
+ghost use Rattle.ngc_written_machines.specs.Written.{any_figures};
+ghost use Rattle.ngc_written_tools.specs.Reading.{any_limits};
 ghost use Rattle.ngc_inputs.specs.Shops.{PlacedResultIs, ShopResultIs, RefusesMachine, RefusesTools};
 ghost use Rattle.ngc_margins.specs.Changes.{changed};
 ghost use Rattle.ngc_inputs.specs.Unread.{FailsByInput, OfMachine, OfTools, SourceFails};
@@ -13,11 +16,12 @@ ghost use Rattle.ngc_inputs.specs.Unread.{ReportsUnread, setup_input, shop_input
 use crate::fault::AnswerFault;
 use crate::files::Files;
 use crate::opening::open_file;
+use ngc_file_figures::StoredFigures;
 use ngc_machine_files::{FileFault, Machine, Tools, built_in_machine};
 use ngc_margins::Changes;
 use ngc_text::{InputFault, read_whole};
-use ngc_written_machines::read_machine as machine_in;
-use ngc_written_tools::read_tools as tools_in;
+use ngc_written_machines::{WrittenMachine, read_file as machine_in};
+use ngc_written_tools::{ToolTable, read_tools as tools_in};
 use std::alloc::Global;
 
 /// The machine and its tools.
@@ -25,6 +29,8 @@ use std::alloc::Global;
 pub struct Shop {
     pub machine: Machine<Global>,
     pub tools: Tools<Global>,
+    /// What the two files say besides the machine and its tools.
+    pub figures: StoredFigures,
 }
 
 impl Shop {
@@ -35,11 +41,13 @@ impl Shop {
         ensures machine { FileResultIs (λ shop. file_of shop.machine) result
             (changed changes.now (file_of self.machine)) }
         ensures tools { IfOk result (λ shop. tools_of shop.tools ≡ tools_of self.tools) }
+        ensures figures { IfOk result (λ shop. shop.figures ≡ self.figures) }
     {
         match changes.apply(self.machine) {
             Ok(machine) => Ok(Shop {
                 machine,
                 tools: self.tools,
+                figures: self.figures,
             }),
             Err(fault) => Err(fault),
         }
@@ -68,10 +76,14 @@ fn named_machine<F: Files>(
     alloc: Global,
     name: &str,
     files: &mut F,
-) -> Result<Machine<Global>, AnswerFault>
+) -> Result<WrittenMachine, AnswerFault>
     ensures said { MatchResult result
-        (λ m. IfMachine (F.bytes files.old) (Some name.now) (λ says. says ≡ Ok (file_of m)))
+        (λ m. IfMachine (F.bytes files.old) (Some name.now)
+        (λ says. says ≡ Ok (file_of m.machine)))
         (RefusesMachine (F.bytes files.old) (Some name.now)) }
+    ensures figures { IfOk result
+        (λ m. IfSaid any_figures None (F.bytes files.old) (Some name.now)
+        (λ f. m.figures ≡ f)) }
     ensures keeps { KeepsFiles (F.bytes files.old) (F.bytes files.new) }
     ensures unread { FailsByInput (SourceFails F.R.remaining F.R.failures) (F.bytes files.old)
         (setup_input OfMachine (Some name.now)) (F.failures files.old)
@@ -84,14 +96,13 @@ fn named_machine<F: Files>(
     }
 }
 
-fn named_tools<F: Files>(
-    alloc: Global,
-    name: &str,
-    files: &mut F,
-) -> Result<Tools<Global>, AnswerFault>
+fn named_tools<F: Files>(alloc: Global, name: &str, files: &mut F) -> Result<ToolTable, AnswerFault>
     ensures said { MatchResult result
-        (λ t. IfTools (F.bytes files.old) (Some name.now) (λ says. says ≡ Ok (tools_of t)))
+        (λ t. IfTools (F.bytes files.old) (Some name.now) (λ says. says ≡ Ok (tools_of t.tools)))
         (RefusesTools (F.bytes files.old) (Some name.now)) }
+    ensures limits { IfOk result
+        (λ t. IfSaid any_limits [] (F.bytes files.old) (Some name.now)
+        (λ l. t.limits.items ≡ l)) }
     ensures keeps { KeepsFiles (F.bytes files.old) (F.bytes files.new) }
     ensures unread { FailsByInput (SourceFails F.R.remaining F.R.failures) (F.bytes files.old)
         (setup_input OfTools (Some name.now)) (F.failures files.old) (F.failures files.new) result }
@@ -108,18 +119,24 @@ fn read_machine<F: Files>(
     alloc: Global,
     name: Option<&str>,
     files: &mut F,
-) -> Result<Machine<Global>, AnswerFault>
+) -> Result<WrittenMachine, AnswerFault>
     ensures said { MatchResult result
         (λ m. IfMachine (F.bytes files.old) (option_map (λ n. n.now) name.entry)
-        (λ says. says ≡ Ok (file_of m)))
+        (λ says. says ≡ Ok (file_of m.machine)))
         (RefusesMachine (F.bytes files.old) (option_map (λ n. n.now) name.entry)) }
+    ensures figures { IfOk result
+        (λ m. IfSaid any_figures None (F.bytes files.old) (option_map (λ n. n.now) name.entry)
+        (λ f. m.figures ≡ f)) }
     ensures keeps { KeepsFiles (F.bytes files.old) (F.bytes files.new) }
     ensures unread { FailsByInput (SourceFails F.R.remaining F.R.failures) (F.bytes files.old)
         (setup_input OfMachine (option_map (λ n. n.now) name.entry)) (F.failures files.old)
         (F.failures files.new) result }
 {
     match name {
-        None => Ok(built_in_machine(alloc)),
+        None => Ok(WrittenMachine {
+            machine: built_in_machine(alloc),
+            figures: None,
+        }),
         Some(name) => named_machine(alloc, name, files),
     }
 }
@@ -129,18 +146,24 @@ fn read_tools<F: Files>(
     alloc: Global,
     name: Option<&str>,
     files: &mut F,
-) -> Result<Tools<Global>, AnswerFault>
+) -> Result<ToolTable, AnswerFault>
     ensures said { MatchResult result
         (λ t. IfTools (F.bytes files.old) (option_map (λ n. n.now) name.entry)
-        (λ says. says ≡ Ok (tools_of t)))
+        (λ says. says ≡ Ok (tools_of t.tools)))
         (RefusesTools (F.bytes files.old) (option_map (λ n. n.now) name.entry)) }
+    ensures limits { IfOk result
+        (λ t. IfSaid any_limits [] (F.bytes files.old) (option_map (λ n. n.now) name.entry)
+        (λ l. t.limits.items ≡ l)) }
     ensures keeps { KeepsFiles (F.bytes files.old) (F.bytes files.new) }
     ensures unread { FailsByInput (SourceFails F.R.remaining F.R.failures) (F.bytes files.old)
         (setup_input OfTools (option_map (λ n. n.now) name.entry)) (F.failures files.old)
         (F.failures files.new) result }
 {
     match name {
-        None => Ok(Tools::empty(alloc)),
+        None => Ok(ToolTable {
+            tools: Tools::empty(alloc),
+            limits: Vec::new(alloc),
+        }),
         Some(name) => named_tools(alloc, name, files),
     }
 }
@@ -154,15 +177,26 @@ pub fn read_shop<F: Files>(
 ) -> Result<Shop, AnswerFault>
     ensures said { ShopResultIs (F.bytes files.old) (option_map (λ n. n.now) machine.entry)
         (option_map (λ n. n.now) tools.entry) result }
+    ensures figures { IfOk result
+        (λ shop. AreFiguresIn (F.bytes files.old) (option_map (λ n. n.now) machine.entry)
+        (option_map (λ n. n.now) tools.entry) (stored shop.figures)) }
     ensures keeps { KeepsFiles (F.bytes files.old) (F.bytes files.new) }
     // The first file that isn't read can't be opened, its source fails, or it is too long.
     ensures unread { FailsByInput (SourceFails F.R.remaining F.R.failures) (F.bytes files.old)
         (shop_inputs (option_map (λ n. n.now) machine.entry) (option_map (λ n. n.now) tools.entry))
         (F.failures files.old) (F.failures files.new) result }
 {
-    let machine = read_machine(alloc, machine, files)?;
-    let tools = read_tools(alloc, tools, files)?;
-    Ok(Shop { machine, tools })
+    let written = read_machine(alloc, machine, files)?;
+    let table = read_tools(alloc, tools, files)?;
+    let figures = StoredFigures {
+        machine: written.figures,
+        tools: table.limits,
+    };
+    Ok(Shop {
+        machine: written.machine,
+        tools: table.tools,
+        figures,
+    })
 }
 
 /// Returns the machine, with these changes, and its tools.
@@ -175,6 +209,9 @@ pub fn read_placed<F: Files>(
 ) -> Result<Shop, AnswerFault>
     ensures said { PlacedResultIs (F.bytes files.old) (option_map (λ n. n.now) machine.entry)
         (option_map (λ n. n.now) tools.entry) changes.now result }
+    ensures figures { IfOk result
+        (λ shop. AreFiguresIn (F.bytes files.old) (option_map (λ n. n.now) machine.entry)
+        (option_map (λ n. n.now) tools.entry) (stored shop.figures)) }
     ensures keeps { KeepsFiles (F.bytes files.old) (F.bytes files.new) }
     // The first file that isn't read can't be opened, its source fails, or it is too long.
     ensures unread { FailsByInput (SourceFails F.R.remaining F.R.failures) (F.bytes files.old)

@@ -8,6 +8,7 @@ use ngc_events::{EventsFault, read_events};
 use ngc_fixed_length::{Distance, FeedMode, Nm, Plane, Point3, RetractMode};
 use ngc_line_reader::{Program, ReadFault};
 use ngc_machine_files::{Tools, built_in_machine};
+use ngc_offsets::CoordinateRange;
 use ngc_test_devices::EndlessSource;
 use ngc_text::{Device, InputFault, PULL_SIZE, read_whole};
 use std::alloc::{AllocError, Global};
@@ -154,6 +155,7 @@ fn moves_in(heap: &LocalHeap, hole: Hole) -> Result<Result<usize, CycleFault>, F
         },
         series: Nm::zero(),
         turning: false,
+        reach: CoordinateRange::Near,
     };
     cycle.check(&start)?;
     if cycle.repeats() < 1 || !cycle.is_in_range(&start) {

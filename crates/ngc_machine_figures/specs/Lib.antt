@@ -5,6 +5,7 @@ pub mod Near
 pub mod Found
 pub mod Reading
 pub mod Kinds
+pub mod Limits
 pub mod Sheets
 pub mod Boxes
 pub mod Fixtures

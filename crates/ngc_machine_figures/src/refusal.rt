@@ -20,6 +20,10 @@ pub enum Form {
     Range,
     /// Three lengths, as `60, 40, -140 mm`.
     Place,
+    /// Limits of feeds, as `100 to 1500 mm/min`.
+    Feeds,
+    /// Limits of spindle speeds, as `8000 to 24000 rpm`.
+    Turning,
 }
 
 /// What is wrong with a key.

@@ -17,6 +17,10 @@ pub enum ToolKey {
     Flute(u16),
     Shank(u16),
     Offset(u16),
+    Cutter(u16),
+    Speed(u16),
+    Feed(u16),
+    Plunge(u16),
     /// All parts of a tool's holder.
     Holder(u16),
     /// The table of a part of the holder.
@@ -40,6 +44,10 @@ impl ToolKey {
             ToolKey::Flute(_) => "flute",
             ToolKey::Shank(_) => "shank",
             ToolKey::Offset(_) => "offset",
+            ToolKey::Cutter(_) => "cutter",
+            ToolKey::Speed(_) => "speed",
+            ToolKey::Feed(_) => "feed",
+            ToolKey::Plunge(_) => "plunge",
             ToolKey::Holder(_) | ToolKey::Part { .. } => "holder",
         }
     }
@@ -80,4 +88,6 @@ pub enum ToolWrong {
     LongFlute,
     /// Cutter, shank and holder are over four parts. The refusal's key is the holder.
     ManyParts,
+    /// The value isn't the name of a cutter.
+    NoCutter,
 }

@@ -1,6 +1,6 @@
 -- Files whose values are all in range.
 use Rattle.std.proofs.Common.{◌≡◌, ◌≤ℤ◌, ◌<ℤ◌, ℕ, ℤ, pos, negsuc, List, Bool, true, false, ◌&&◌, Result, Ok, int_le, int_lt, refl, ap, suc, arith}
-use Rattle.std.specs.Prelude.{is_some, Option, Some, None, IfSome}
+use Rattle.std.specs.Prelude.{is_some, Option, Some, None, IfSome, ◌≤◌, unsigned_abs}
 use Rattle.std.specs.List.{All, list_all}
 use Rattle.std.specs.Int.Signed.{le_z_yes, lt_z_yes}
 use Rattle.std.proofs.lemmas.Int.{ints}
@@ -11,7 +11,7 @@ use Rattle.std.proofs.lemmas.List.Elements.{All-weaker}
 use Rattle.ngc_fixed_length.specs.Signed.{is_within, is_zero}
 use Rattle.ngc_fixed_length.specs.Length.{IsStep}
 use Rattle.ngc_motors.specs.Counts.{AreMotors, is_motor}
-use Rattle.ngc_machine_files.specs.Ranges.{PLACE_LIMIT, CORNER_LIMIT, IsFrom, IsSized, IsAtMost, IsBelow, IsOnGrid, IsTravel, IsFixture}
+use Rattle.ngc_machine_files.specs.Ranges.{PLACE_LIMIT, TRAVEL_LIMIT, BLOCK_LIMIT, place_limit, travel_limit, CORNER_LIMIT, IsFrom, IsSized, IsAtMost, IsBelow, IsOnGrid, IsTravel, IsFixture}
 use Rattle.ngc_machine_files.specs.Numbers.{from_to}
 use Rattle.ngc_machine_files.specs.Refusals.{◌>>◌, refuse_unless}
 use Rattle.ngc_machine_files.specs.MachineText.{MachineValues, is_sized, is_at_most, is_below, is_multiple, is_on_grid, is_rate, good_axis_rates, good_jump, good_ring, good_arc_feed, good_changer, good_margin, good_limits, good_motors, good_axis_ends, good_rates, good_travel, good_version}
@@ -49,7 +49,7 @@ a_rate : (z : ℤ) → is_rate z ≡ true → IsFrom (pos 1) (pos 1000000) z
 unfolding is_rate
 a_rate z h = from _ _ z h
 
-three : (a b c : Bool) → (a && b && c) ≡ true → (a ≡ true) × (b ≡ true) × (c ≡ true)
+pub three : (a b c : Bool) → (a && b && c) ≡ true → (a ≡ true) × (b ≡ true) × (c ≡ true)
 three true true true h = (refl, refl, refl)
 three true true false h = cc
 three true false c h = cc
@@ -79,15 +79,34 @@ on_grid step p h =
     let (x, y, z) = three (is_multiple step p.x) (is_multiple step p.y) (is_multiple step p.z) h in
     record { x = zero_of _ x; y = zero_of _ y; z = zero_of _ z }
 
+-- a place that is sized in any file
+near_or_far : (far : Bool) (z : ℤ) → unsigned_abs z ≤ place_limit far → unsigned_abs z ≤ PLACE_LIMIT
+near_or_far true z h = h
+near_or_far false z h = omega (arith, h)
+
+placed : (far : Bool) (p : Coordinates) → is_sized (place_limit far) p ≡ true → IsSized PLACE_LIMIT (place_of p)
+placed far p h =
+    let s = sized (place_limit far) p h in
+    record { x = near_or_far far p.x s.x; y = near_or_far far p.y s.y; z = near_or_far far p.z s.z }
+
+limit_near_or_far : (far : Bool) (z : ℤ) → unsigned_abs z ≤ travel_limit far → unsigned_abs z ≤ TRAVEL_LIMIT
+limit_near_or_far true z h = h
+limit_near_or_far false z h = omega (arith, h)
+
+limited : (far : Bool) (p : Coordinates) → is_sized (travel_limit far) p ≡ true → IsSized TRAVEL_LIMIT (place_of p)
+limited far p h =
+    let s = sized (travel_limit far) p h in
+    record { x = limit_near_or_far far p.x s.x; y = limit_near_or_far far p.y s.y; z = limit_near_or_far far p.z s.z }
+
 travel : (step : ℤ) (p : MachinePoints) → good_limits step p ≡ true → IsTravel step (place_of p.low) (place_of p.high) (place_of p.start)
 travel step p h =
     let (h5, grid) = and_parts _ (is_on_grid step p.start) h in
     let (h4, below_high) = and_parts _ (is_at_most p.start p.high) h5 in
     let (h3, above_low) = and_parts _ (is_at_most p.low p.start) h4 in
-    let (low, high, order) = three (is_sized PLACE_LIMIT p.low) (is_sized PLACE_LIMIT p.high) (is_at_most p.low p.high) h3 in
+    let (low, high, order) = three (is_sized (travel_limit p.far) p.low) (is_sized (travel_limit p.far) p.high) (is_at_most p.low p.high) h3 in
     record {
-      low_sized = sized _ _ low;
-      high_sized = sized _ _ high;
+      low_sized = limited p.far _ low;
+      high_sized = limited p.far _ high;
       ordered = at_most _ _ order;
       start_above = at_most _ _ above_low;
       start_below = at_most _ _ below_high;
@@ -108,7 +127,7 @@ a_fixture f h =
 a_block : (s : StockNumbers) → good_block s ≡ true → IsBlock s
 a_block s h =
     let (h3, order) = and_parts _ (is_below s.low s.high) h in
-    let (system, low, high) = three (from_to (pos 0) (pos 9) s.system) (is_sized PLACE_LIMIT s.low) (is_sized PLACE_LIMIT s.high) h3 in
+    let (system, low, high) = three (from_to (pos 0) (pos 9) s.system) (is_sized BLOCK_LIMIT s.low) (is_sized BLOCK_LIMIT s.high) h3 in
     let at = from _ _ _ system in
     record {
       system = at;
@@ -156,8 +175,9 @@ IsGood-from_ranges m h =
     let (rates4, axes) = and_parts _ (good_axis_rates m.axis_rates) rates5 in
     let (rates3, turn) = and_parts _ (from_to (pos 1) (pos 1000000000000) m.numbers.turn) rates4 in
     let (max_rate, change, corner) = three (is_rate m.numbers.max_rate) (is_rate m.numbers.change) (is_rate m.numbers.corner) rates3 in
-    let (home28, home30, origins) = three (is_sized PLACE_LIMIT m.points.home28) (is_sized PLACE_LIMIT m.points.home30)
-    (list_all (is_sized PLACE_LIMIT) m.origins) places in
+    let far = m.points.far in
+    let (home28, home30, origins) = three (is_sized (place_limit far) m.points.home28) (is_sized (place_limit far) m.points.home30)
+    (list_all (is_sized (place_limit far)) m.origins) places in
     let (count, each, margin) = three _ (list_all good_fixture m.fixtures) (good_margin m.numbers.optional.margin) fixtures in
     record {
       step = is_step;
@@ -171,9 +191,9 @@ IsGood-from_ranges m h =
       turn = from _ _ _ turn;
       ring = from _ _ _ ring;
       travel = travel m.numbers.step m.points limits;
-      home28 = sized _ _ home28;
-      home30 = sized _ _ home30;
-      origins = each_passes _ _ (sized PLACE_LIMIT) m.origins origins;
+      home28 = placed far _ home28;
+      home30 = placed far _ home30;
+      origins = each_passes _ _ (placed far) m.origins origins;
       fixture_count = leb-true _ _ count;
       fixtures = each_passes _ _ a_fixture m.fixtures each;
       margin = from _ _ _ margin;
@@ -194,6 +214,19 @@ ends-from_ranges m h =
     let (_, _, ends) = three (good_limits m.numbers.step m.points) (good_margin m.numbers.optional.travel_margin)
     (good_axis_ends m.numbers.step m.motor_steps m.points) travels in
     ends
+
+pub limits-from_ranges : (m : MachineValues) → machine_ranges m ≡ Ok tt → good_limits m.numbers.step m.points ≡ true
+unfolding good_travel
+limits-from_ranges m h =
+    let (_, h1) = passes (good_version m.numbers.version) _ _ h in
+    let (_, h2) = passes (from_to (pos 500) (pos 50000) m.numbers.step) _ _ h1 in
+    let (_, h3) = passes (good_motors m.numbers.step m.motor_steps) _ _ h2 in
+    let (_, h4) = passes (is_rate m.numbers.ticks_per_second) _ _ h3 in
+    let (_, h5) = passes (good_rates m) _ _ h4 in
+    let (travels, _) = passes (good_travel m) _ _ h5 in
+    let (limits, _, _) = three (good_limits m.numbers.step m.points) (good_margin m.numbers.optional.travel_margin)
+    (good_axis_ends m.numbers.step m.motor_steps m.points) travels in
+    limits
 
 a_part : (p : PartEntry) → good_part p ≡ true → IsPartEntry p
 a_part p h =

@@ -8,6 +8,8 @@ pub mod Ranges
 pub mod MotorRanges
 -- Files whose values are all in range.
 pub mod GoodFiles
+-- Files of versions 1 and 2 describe no far machine.
+pub mod NearLaws
 -- Files that consist of white space and comments only.
 pub mod BlankFiles
 -- How names are stored.

@@ -10,3 +10,4 @@ pub mod Tree
 pub mod Refusals
 pub mod MachineText
 pub mod ToolText
+pub mod NearFiles

@@ -1,7 +1,7 @@
 -- The meaning of a machine file of version 1 or 2. Our own.
 use Rattle.std.specs.Prelude.{ℕ, ◌==◌, ◌≤◌, nat_le, ℤ, pos, unsigned_abs, int_le, int_lt, int_rem}
 use Rattle.std.specs.Prelude.{List, [], ◌∷◌, length, map, replicate, Option, Some, None, Result, Ok}
-use Rattle.std.specs.Prelude.{Err, Bool, ◌&&◌, ◌||◌, codes, if◌then◌else◌, is_some, option_map, IfSome, true}
+use Rattle.std.specs.Prelude.{Err, Bool, ◌&&◌, ◌||◌, codes, if◌then◌else◌, is_some, option_map, IfSome, true, false}
 use Rattle.std.specs.List.{All, list_all}
 use Rattle.std.specs.Ordering.{int_eq}
 use Rattle.toml.specs.Data.{Data, array, Items, get}
@@ -27,7 +27,8 @@ use Rattle.ngc_machine_files.specs.declared.fault.FileFault.TheVariants.{Version
 use Rattle.ngc_machine_files.specs.declared.fault.FileFault.TheVariants.{Rates, Travel, Places, Fixtures}
 use Rattle.ngc_machine_files.specs.declared.fault.FileFault.TheVariants.{Stock, Document}
 use Rattle.ngc_machine_files.specs.Machine.{MachineFile}
-use Rattle.ngc_machine_files.specs.Ranges.{PLACE_LIMIT, CORNER_LIMIT, IsSized, IsTravel, IsFixture, IsStock}
+use Rattle.ngc_machine_files.specs.Ranges.{PLACE_LIMIT, CORNER_LIMIT, BLOCK_LIMIT, place_limit, travel_limit, IsSized}
+use Rattle.ngc_machine_files.specs.Ranges.{IsTravel, IsFixture, IsStock}
 use Rattle.ngc_machine_files.specs.Ranges.{MARGIN_LIMIT, IsFrom}
 use Rattle.ngc_fixed_length.specs.Length.{IsStep}
 use Rattle.ngc_machine_files.specs.Names.{name_from}
@@ -157,6 +158,7 @@ machine_options tree = do
   stock ← stock_at tree
   Some (record { rapids = rapids; dialect = dialect; stock = stock })
 
+-- places of versions 1 and 2 are near zero
 abbrev pub machine_points : Data → Option MachinePoints
 machine_points tree = do
   low ← coordinates_at (codes "low") tree
@@ -164,7 +166,7 @@ machine_points tree = do
   start ← coordinates_at (codes "start") tree
   home28 ← coordinates_at (codes "home28") tree
   home30 ← coordinates_at (codes "home30") tree
-  Some (record { low = low; high = high; start = start; home28 = home28; home30 = home30 })
+  Some (record { low = low; high = high; start = start; home28 = home28; home30 = home30; far = false })
 
 abbrev pub nine : List Coordinates → Option (List Coordinates)
 nine points = if length points == 9 then Some points else None
@@ -278,7 +280,7 @@ good_margin z = from_to (pos 0) MARGIN_LIMIT z
 
 abbrev pub good_limits : ℤ → MachinePoints → Bool
 good_limits step p =
-    is_sized PLACE_LIMIT p.low && is_sized PLACE_LIMIT p.high && is_at_most p.low p.high &&
+    is_sized (travel_limit p.far) p.low && is_sized (travel_limit p.far) p.high && is_at_most p.low p.high &&
     is_at_most p.low p.start && is_at_most p.start p.high && is_on_grid step p.start
 
 -- Where a motor's step isn't the grid's, the travel of its axis ends at whole steps of the motor. So
@@ -298,8 +300,9 @@ good_travel m =
 
 abbrev pub good_places : MachineValues → Bool
 good_places m =
-    is_sized PLACE_LIMIT m.points.home28 && is_sized PLACE_LIMIT m.points.home30 &&
-    list_all (is_sized PLACE_LIMIT) m.origins
+    is_sized (place_limit m.points.far) m.points.home28
+    && is_sized (place_limit m.points.far) m.points.home30
+    && list_all (is_sized (place_limit m.points.far)) m.origins
 
 abbrev pub good_fixture : Corners → Bool
 good_fixture f =
@@ -313,7 +316,7 @@ good_fixtures m =
 
 abbrev pub good_block : StockNumbers → Bool
 good_block s =
-    from_to (pos 0) (pos 9) s.system && is_sized PLACE_LIMIT s.low && is_sized PLACE_LIMIT s.high
+    from_to (pos 0) (pos 9) s.system && is_sized BLOCK_LIMIT s.low && is_sized BLOCK_LIMIT s.high
     && is_below s.low s.high
 
 abbrev pub good_stock : Option StockNumbers → Bool

@@ -1,7 +1,8 @@
 -- The ranges of the numbers of a machine and of its tools. Our own.
 use Rattle.std.specs.Prelude.{ℕ, ◌≤◌, ℤ, pos, negsuc, ◌≤ℤ◌, ◌<ℤ◌, unsigned_abs, int_rem, ◌≡◌, List}
-use Rattle.std.specs.Prelude.{length, map}
+use Rattle.std.specs.Prelude.{length, map, Bool, ◌&&◌, if◌then◌else◌}
 use Rattle.std.specs.List.{All}
+use Rattle.ngc_fixed_length.specs.Signed.{is_within}
 use Rattle.ngc_fixed_length.specs.declared.points.Point3.{Point3}
 use Rattle.ngc_machine_files.specs.declared.machine.AxisRates.{AxisRates}
 use Rattle.ngc_machine_files.specs.declared.machine.Fixture.{Fixture}
@@ -11,9 +12,32 @@ use Rattle.ngc_machine_files.specs.declared.parts.Part.{Part}
 use Rattle.ngc_machine_files.specs.declared.tools.Tool.{Tool}
 use Rattle.ngc_machine_files.specs.Numbers.{AreDifferent}
 
--- the greatest size of a coordinate of travel limits, home positions and origins, in nanometres
+-- the greatest size of a coordinate of home positions and origins, in nanometres
 abbrev pub PLACE_LIMIT : ℕ
-PLACE_LIMIT = 1000000000
+PLACE_LIMIT = 4000000000
+
+-- The same for travel limits. A position whose grid point is inside the travel may be half a step
+-- outside, and a certificate has numbers of up to four metres.
+abbrev pub TRAVEL_LIMIT : ℕ
+TRAVEL_LIMIT = 3999000000
+
+-- the same for all of them in a file of version 1 or 2
+abbrev pub NEAR_LIMIT : ℕ
+NEAR_LIMIT = 1000000000
+
+-- a place at most a metre from zero along each axis
+abbrev pub is_near : Point3 → Bool
+is_near p = is_within NEAR_LIMIT p.x && is_within NEAR_LIMIT p.y && is_within NEAR_LIMIT p.z
+
+abbrev pub place_limit : Bool → ℕ
+place_limit far = if far then PLACE_LIMIT else NEAR_LIMIT
+
+abbrev pub travel_limit : Bool → ℕ
+travel_limit far = if far then TRAVEL_LIMIT else NEAR_LIMIT
+
+-- the greatest size of a coordinate of the corners of a block of material, in nanometres
+abbrev pub BLOCK_LIMIT : ℕ
+BLOCK_LIMIT = 1000000000
 
 -- the greatest size of a coordinate of a fixture's corner, in nanometres
 abbrev pub CORNER_LIMIT : ℕ
@@ -79,8 +103,8 @@ pub record IsOnGrid (step : ℤ) (p : Point3) : Type 0 where
 
 -- travel limits, and a start point within the travel and on the grid
 pub record IsTravel (step : ℤ) (low high start : Point3) : Type 0 where
-  pub low_sized : IsSized PLACE_LIMIT low
-  pub high_sized : IsSized PLACE_LIMIT high
+  pub low_sized : IsSized TRAVEL_LIMIT low
+  pub high_sized : IsSized TRAVEL_LIMIT high
   pub ordered : IsAtMost low high
   pub start_above : IsAtMost low start
   pub start_below : IsAtMost start high
@@ -102,8 +126,8 @@ pub record AreMargins (m : Margins) : Type 0 where
 -- a block of material, in a coordinate system, 1 to 9, or in the machine, 0
 pub record IsStock (s : StockBox) : Type 0 where
   pub system : s.system ≤ 9
-  pub low_sized : IsSized PLACE_LIMIT s.low
-  pub high_sized : IsSized PLACE_LIMIT s.high
+  pub low_sized : IsSized BLOCK_LIMIT s.low
+  pub high_sized : IsSized BLOCK_LIMIT s.high
   pub ordered : IsBelow s.low s.high
 
 pub record IsPart (p : Part) : Type 0 where

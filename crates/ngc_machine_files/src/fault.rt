@@ -18,11 +18,12 @@ pub enum FileFault {
     /// a ring not 16 to 1,024, a feed of arcs not 0 to 2, or a tool changer not 0 or 1.
     #[error("a rate is out of range")]
     Rates,
-    /// 265: a travel limit is over 10^9 nm in size, a low limit is above its high one, or the start
-    /// point is beyond the limits or off the grid, or the margin isn't 0 to 10^8 nm.
+    /// 265: a travel limit is over 10^9 nm in size, in version 3 over 3,999,000,000 nm, a low limit is
+    /// above its high one, or the start point is beyond the limits or off the grid, or the margin isn't
+    /// 0 to 10^8 nm.
     #[error("the travel limits or the start point are out of range")]
     Travel,
-    /// 266: a home position or an origin is over 10^9 nm in size.
+    /// 266: a home position or an origin is over 10^9 nm in size, in version 3 over 4*10^9 nm.
     #[error("a home position or an origin is out of range")]
     Places,
     /// 267: a corner is over 4*10^9 nm in size, a low corner is not below the high one, a name

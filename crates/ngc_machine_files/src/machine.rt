@@ -4,7 +4,7 @@ ghost use Rattle.std.specs.List.{All};
 ghost use Rattle.ngc_fixed_length.specs.Length.{IsStep};
 ghost use Rattle.ngc_motors.specs.Counts.{AreMotors};
 ghost use Rattle.ngc_machine_files.specs.Ranges.{PLACE_LIMIT, IsRate, IsJump, AreRates, IsArcBound, IsTravel};
-ghost use Rattle.ngc_machine_files.specs.Ranges.{IsSized, IsRing, AreFixtures, AreMargins, IsStock};
+ghost use Rattle.ngc_machine_files.specs.Ranges.{IsSized, IsRing, AreFixtures, AreMargins, IsStock, is_near};
 
 use crate::name::Name;
 use ngc_dialect_names::Dialect;
@@ -97,18 +97,18 @@ pub struct Machine<A: Allocator> {
     /// Whether the machine changes tools by itself. If not, a person changes them, and a program must
     /// stop for that.
     pub changer: bool,
-    /// The least coordinates of the travel, at most 10^9 nm in size.
+    /// The least coordinates of the travel, at most 3,999,000,000 nm in size.
     pub low: Point3,
-    /// The greatest coordinates of the travel, at most 10^9 nm in size.
+    /// The greatest coordinates of the travel, at most 3,999,000,000 nm in size.
     pub high: Point3,
     /// The position of the axes when the machine is started: within the travel, in whole multiples
     /// of the step.
     pub start: Point3,
-    /// The home position of G28, at most 10^9 nm in size.
+    /// The home position of G28, at most 4*10^9 nm in size.
     pub home28: Point3,
-    /// The home position of G30, at most 10^9 nm in size.
+    /// The home position of G30, at most 4*10^9 nm in size.
     pub home30: Point3,
-    /// The origins of the nine coordinate systems, at most 10^9 nm in size.
+    /// The origins of the nine coordinate systems, at most 4*10^9 nm in size.
     pub origins: [Point3; 9],
     /// The fixtures: at most 256, numbered from 0. Coordinates are at most 4*10^9 nm in size, and
     /// low is below high on each axis.
@@ -140,6 +140,16 @@ pub struct Machine<A: Allocator> {
     ghost stock_in_range: { IfSome stock IsStock } by { Prim.hlevel props },
 }
 
+const NEAR: u64 = 1_000_000_000;
+
+fn is_near(point: &Point3) -> bool
+    ensures { result ≡ is_near point.now }
+{
+    point.x.nanometres().unsigned_abs() <= NEAR
+        && point.y.nanometres().unsigned_abs() <= NEAR
+        && point.z.nanometres().unsigned_abs() <= NEAR
+}
+
 fn copied(origins: &[Point3; 9]) -> [Point3; 9]
     ensures { result ≡ origins.now }
 {
@@ -151,7 +161,7 @@ fn copied(origins: &[Point3; 9]) -> [Point3; 9]
 impl<A: Allocator> Machine<A> {
     ghost use Rattle.std.specs.Prelude.{IfOk};
     ghost use Rattle.ngc_machine_files.specs.Machine.{file_of, motors_of};
-    ghost use Rattle.ngc_machine_files.specs.MachineRanges.{IsMachine};
+    ghost use Rattle.ngc_machine_files.specs.MachineRanges.{IsMachine, is_far, takes_far};
 
     /// Returns a copy of the machine, with the fixtures in another allocator's memory. It fails if
     /// memory is refused.
@@ -185,6 +195,24 @@ impl<A: Allocator> Machine<A> {
             dialect: self.dialect,
             stock: self.stock,
         })
+    }
+
+    /// Returns whether an end of the travel is over 10^9 nm from zero. On such a machine programs may
+    /// have coordinates of up to 4*10^9 nm, and on any other of up to 10^9 nm.
+    #[tactic(auto, unfolding(crate::specs::MachineRanges::ends_far))]
+    pub fn is_far(&self) -> bool
+        ensures { result ≡ is_far (file_of self.now) }
+    {
+        !(is_near(&self.low) && is_near(&self.high))
+    }
+
+    /// Returns whether an origin may be moved up to 4*10^9 nm from zero: on a far machine, and where
+    /// the origin is over 10^9 nm from zero already. Any other may be moved up to 10^9 nm from zero.
+    #[tactic(auto, unfolding(crate::specs::MachineRanges::takes_far))]
+    pub fn takes_far(&self, origin: &Point3) -> bool
+        ensures { result ≡ takes_far (file_of self.now) origin.now }
+    {
+        self.is_far() || !is_near(origin)
     }
 
     /// Returns its motors.

@@ -69,6 +69,9 @@ pub struct MachinePoints {
     pub start: Coordinates,
     pub home28: Coordinates,
     pub home30: Coordinates,
+    /// Whether home positions and origins may be up to 4*10^9 nm from zero, and travel limits up to
+    /// 3,999,000,000 nm, as in version 3. If not, all of them may be up to 10^9 nm.
+    pub far: bool,
 }
 
 /// The block of material as read from the file, with numbers of any size.
@@ -230,6 +233,7 @@ fn machine_points(tree: &Value) -> Option<MachinePoints>
         start: coordinates_at(tree, "start")?,
         home28: coordinates_at(tree, "home28")?,
         home30: coordinates_at(tree, "home30")?,
+        far: false,
     })
 }
 

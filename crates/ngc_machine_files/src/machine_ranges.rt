@@ -7,6 +7,7 @@ ghost use Rattle.ngc_machine_files.specs.Machine.{file_of};
 ghost use Rattle.ngc_machine_files.specs.Numbers.{from_to};
 ghost use Rattle.ngc_machine_files.specs.Ranges.{CORNER_LIMIT, IsFrom, IsRate, IsJump, IsRing, AreRates};
 ghost use Rattle.ngc_machine_files.specs.Ranges.{IsArcBound, IsSized, IsFixture, IsStock, PLACE_LIMIT};
+ghost use Rattle.ngc_machine_files.specs.Ranges.{place_limit, travel_limit};
 ghost use Rattle.ngc_machine_files.specs.Ranges.{MARGIN_LIMIT, AreMargins};
 ghost use Rattle.ngc_machine_files.specs.MachineText.{values_of, is_sized, is_at_most, is_below};
 ghost use Rattle.ngc_machine_files.specs.MachineText.{is_multiple, is_on_grid, good_version, is_rate};
@@ -28,8 +29,17 @@ use crate::numbers::{is_from_to, length};
 use ngc_fixed_length::{Nm, Point3};
 use std::alloc::{AllocError, Global};
 
-/// The greatest size of a coordinate of travel limits, home positions and origins, in nanometres.
-const PLACE_LIMIT: u64 = 1_000_000_000;
+/// The greatest size of a coordinate of home positions and origins, in nanometres.
+const PLACE_LIMIT: u64 = 4_000_000_000;
+
+/// The greatest size of a coordinate of travel limits, in nanometres.
+const TRAVEL_LIMIT: u64 = 3_999_000_000;
+
+/// The greatest size of all these in a file of version 1 or 2.
+const NEAR_LIMIT: u64 = 1_000_000_000;
+
+/// The greatest size of a coordinate of the corners of a block of material, in nanometres.
+const BLOCK_LIMIT: u64 = 1_000_000_000;
 
 /// The greatest size of a coordinate of a fixture's corner, in nanometres.
 const CORNER_LIMIT: u64 = 4_000_000_000;
@@ -43,6 +53,18 @@ fn is_sized(limit: u64, point: &Coordinates) -> bool
     point.x.unsigned_abs() <= limit
         && point.y.unsigned_abs() <= limit
         && point.z.unsigned_abs() <= limit
+}
+
+fn place_limit(far: bool) -> u64
+    ensures { result ≡ place_limit far }
+{
+    if far { PLACE_LIMIT } else { NEAR_LIMIT }
+}
+
+fn travel_limit(far: bool) -> u64
+    ensures { result ≡ travel_limit far }
+{
+    if far { TRAVEL_LIMIT } else { NEAR_LIMIT }
 }
 
 fn is_multiple(step: i64, coordinate: i64) -> bool
@@ -151,8 +173,9 @@ fn are_limits_good(step: i64, points: &MachinePoints) -> bool
     requires { pos 0 <ℤ step }
     ensures { result ≡ good_limits step points.now }
 {
-    is_sized(PLACE_LIMIT, &points.low)
-        && is_sized(PLACE_LIMIT, &points.high)
+    let limit = travel_limit(points.far);
+    is_sized(limit, &points.low)
+        && is_sized(limit, &points.high)
         && points.low.is_at_most(&points.high)
         && points.low.is_at_most(&points.start)
         && points.start.is_at_most(&points.high)
@@ -196,18 +219,19 @@ fn is_travel_good(contents: &MachineContents) -> bool
         )
 }
 
-fn are_origins_good(origins: &[Coordinates]) -> bool
-    ensures { result ≡ list_all (is_sized PLACE_LIMIT) origins.now }
+fn are_origins_good(limit: u64, origins: &[Coordinates]) -> bool
+    ensures { result ≡ list_all (is_sized limit) origins.now }
 {
-    origins.iter().all(|origin| is_sized(PLACE_LIMIT, origin))
+    origins.iter().all(|origin| is_sized(limit, origin))
 }
 
 fn are_places_good(contents: &MachineContents) -> bool
     ensures { result ≡ good_places (values_of contents.now) }
 {
-    is_sized(PLACE_LIMIT, &contents.points.home28)
-        && is_sized(PLACE_LIMIT, &contents.points.home30)
-        && are_origins_good(&contents.origins)
+    let limit = place_limit(contents.points.far);
+    is_sized(limit, &contents.points.home28)
+        && is_sized(limit, &contents.points.home30)
+        && are_origins_good(limit, &contents.origins)
 }
 
 fn is_fixture_good(fixture: &Corners) -> bool
@@ -237,8 +261,8 @@ fn is_block_good(block: &StockNumbers) -> bool
     ensures { result ≡ good_block block.now }
 {
     is_from_to(0, 9, block.system)
-        && is_sized(PLACE_LIMIT, &block.low)
-        && is_sized(PLACE_LIMIT, &block.high)
+        && is_sized(BLOCK_LIMIT, &block.low)
+        && is_sized(BLOCK_LIMIT, &block.high)
         && block.low.is_below(&block.high)
 }
 

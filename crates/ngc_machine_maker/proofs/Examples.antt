@@ -79,6 +79,7 @@ small_router = record {
   ticks = None;
   ring = 256;
   arc_feed = true;
+  far = true;
   grbl = false;
   zero = three ends.Low ends.Low ends.High;
   start = three (mm 0) (mm 0) (mm 0);
@@ -122,6 +123,7 @@ bench_mill = record {
   ticks = None;
   ring = 16;
   arc_feed = false;
+  far = false;
   grbl = false;
   zero = three ends.High ends.High ends.High;
   start = three (mm 1) (mm 1) (mm 1);
@@ -164,6 +166,7 @@ large_router = record {
   ticks = Some 40000;
   ring = 64;
   arc_feed = true;
+  far = false;
   grbl = false;
   zero = three ends.Low ends.Low ends.Low;
   start = three (mm 0) (mm 0) (mm 100);
@@ -204,6 +207,13 @@ few_ticks = refl
 
 long_travel : numbers_of (record large_router { travel = three (mm 800) (mm 1001) (mm 100) }) ≡ Err (refusals.Travel axes.Y)
 long_travel = refl
+
+-- in a file of version 3 a travel has at most 3,999 mm
+abbrev far_router : ℕ → Figures
+far_router y = record large_router { travel = three (mm 1300) (mm y) (mm 100); far = true }
+
+far_travel : numbers_of (far_router 4000) ≡ Err (refusals.FarTravel axes.Y)
+far_travel = refl
 
 start_outside : numbers_of (record large_router { start = three (mm 0) (mm 0) (mm 101) }) ≡ Err (refusals.Outside stops.Start axes.Z)
 start_outside = refl

@@ -2,6 +2,8 @@
 pub mod SafeLaws
 -- The travel and the places in it, as nanometres of a file.
 pub mod PlaceLaws
+-- In a file with rates each travel ends within 1,000 mm of zero.
+pub mod NearLaws
 -- Figures of three machines, and figures that are refused, with computed results.
 pub mod Examples
 -- The length of a travel in a machine file.

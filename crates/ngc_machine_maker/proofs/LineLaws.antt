@@ -7,6 +7,7 @@ use Rattle.ngc_grbl_lines.specs.Entries.{setting_value, place_values}
 use Rattle.ngc_grbl_lines.specs.Lines.{lines_of}
 use Rattle.ngc_machine_maker.specs.declared.refusal.Stored.{Stored}
 use Rattle.ngc_machine_maker.specs.Grbl.{setting_in, has_setting, value_in}
+use Rattle.ngc_machine_maker.specs.declared.figures.PlaceForm.{PlaceForm}
 use Rattle.ngc_machine_maker.specs.Stored.{place_from, is_at, stored_by, stored_in}
 
 -- the first line has the setting
@@ -24,16 +25,16 @@ pub setting_end : (number places at : ℕ) (text : List ℕ) → length text ≡
 setting_end number places at text h = rw (no_lines text h) refl
 
 -- the same of a place
-pub place_found : (inches : Bool) (stored : Stored) (at : ℕ) (text line : List ℕ) (rest : List (List ℕ)) → lines_of text ≡ line ∷ rest → is_at stored line ≡ true
-    → place_from inches stored at (lines_of text) ≡ stored_by stored at (stored_in inches (place_values line))
-place_found inches stored at text line rest e h = rw (e, h) refl
+pub place_found : (form : PlaceForm) (stored : Stored) (at : ℕ) (text line : List ℕ) (rest : List (List ℕ)) → lines_of text ≡ line ∷ rest → is_at stored line ≡ true
+    → place_from form stored at (lines_of text) ≡ stored_by form.far stored at (stored_in form (place_values line))
+place_found form stored at text line rest e h = rw (e, h) refl
 
-pub place_later : (inches : Bool) (stored : Stored) (at : ℕ) (text line : List ℕ) (rest : List (List ℕ)) → lines_of text ≡ line ∷ rest → is_at stored line ≡ false
-    → place_from inches stored at (lines_of text) ≡ place_from inches stored (at + 1) rest
-place_later inches stored at text line rest e h = rw (e, h) refl
+pub place_later : (form : PlaceForm) (stored : Stored) (at : ℕ) (text line : List ℕ) (rest : List (List ℕ)) → lines_of text ≡ line ∷ rest → is_at stored line ≡ false
+    → place_from form stored at (lines_of text) ≡ place_from form stored (at + 1) rest
+place_later form stored at text line rest e h = rw (e, h) refl
 
-pub place_end : (inches : Bool) (stored : Stored) (at : ℕ) (text : List ℕ) → length text ≡ 0 → place_from inches stored at (lines_of text) ≡ Ok None
-place_end inches stored at text h = rw (no_lines text h) refl
+pub place_end : (form : PlaceForm) (stored : Stored) (at : ℕ) (text : List ℕ) → length text ≡ 0 → place_from form stored at (lines_of text) ≡ Ok None
+place_end form stored at text h = rw (no_lines text h) refl
 
 pub no_bytes : (n : ℕ) → true ≡ (n == 0) → n ≡ 0
 no_bytes n e = grind (arith, nat_tests)

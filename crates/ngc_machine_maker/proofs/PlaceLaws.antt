@@ -20,7 +20,7 @@ use Rattle.ngc_machine_maker.specs.Ranges.{IsTravel, IsStop, IsScale, AreAllRate
 use Rattle.ngc_machine_maker.specs.Safe.{IsNoFarther, AreNoFarther, AreSafe}
 
 -- the distance from zero is at most the travel
-pub stop_within : (stop travel step : ℕ) → stop ≤ travel → travel * step ≤ 1000000000 → stop * step ≤ 1000000000
+pub stop_within : (stop travel step : ℕ) → stop ≤ travel → travel * step ≤ 3999000000 → stop * step ≤ 3999000000
 stop_within stop travel step h most = let p : stop * step ≤ travel * step = mul-le stop step travel step h (omega arith) in omega arith
 
 travel_file : (steps step length : ℕ) → steps * (1 * step) ≤ length → steps * step ≤ length
@@ -67,11 +67,11 @@ place_to : (scale : Scale) (zero : End) (travel stop : ℕ) → stop * scale.ste
 place_to scale ends.Low travel stop h = omega (arith, ints)
 place_to scale ends.High travel stop h = omega (arith, ints)
 
-low_near : (scale : Scale) (zero : End) (travel : ℕ) → travel * scale.step ≤ 1000000000 → unsigned_abs (low_of scale zero travel) ≤ 1000000000
+low_near : (scale : Scale) (zero : End) (travel : ℕ) → travel * scale.step ≤ 3999000000 → unsigned_abs (low_of scale zero travel) ≤ 3999000000
 low_near scale ends.Low travel h = omega (arith, ints)
 low_near scale ends.High travel h = omega (arith, ints)
 
-high_near : (scale : Scale) (zero : End) (travel : ℕ) → travel * scale.step ≤ 1000000000 → unsigned_abs (high_of scale zero travel) ≤ 1000000000
+high_near : (scale : Scale) (zero : End) (travel : ℕ) → travel * scale.step ≤ 3999000000 → unsigned_abs (high_of scale zero travel) ≤ 3999000000
 high_near scale ends.Low travel h = omega (arith, ints)
 high_near scale ends.High travel h = omega (arith, ints)
 

@@ -2,7 +2,7 @@
 -- with Grbl.
 use Rattle.std.proofs.Common.{◌≡◌, ℕ, ◌++◌, List, Some, None, refl}
 use Rattle.std.specs.Fmt.{digits}
-use Rattle.std.specs.Prelude.{Ok, Err, codes, pos, neg_ℤ, true, false}
+use Rattle.std.specs.Prelude.{Bool, Ok, Err, codes, pos, neg_ℤ, true, false}
 use Rattle.ngc_text.specs.Millimetres.{number_text, length_text}
 use Rattle.ngc_machine_maker.specs.declared.figures.Axis.TheVariants as axes
 use Rattle.ngc_machine_maker.specs.declared.figures.End.TheVariants as ends
@@ -21,6 +21,7 @@ use Rattle.ngc_grbl_lines.specs.Lines.{lines_of}
 use Rattle.ngc_grbl_lines.specs.Entries.{content, after_dollar, after_number, setting_number, setting_value, place_text, place_name, place_values}
 use Rattle.ngc_machine_maker.specs.DumpLines.{supplied_lines, axis_defaults, offset_after}
 use Rattle.ngc_machine_maker.specs.Grbl.{has_setting, value_in, setting, figures_in}
+use Rattle.ngc_machine_maker.specs.declared.figures.PlaceForm.{PlaceForm}
 use Rattle.ngc_machine_maker.specs.Stored.{stored_text, stored_in, place}
 use Rattle.ngc_machine_maker.specs.Options.{lengths_in, motors_in, speeds_in, second_speed_in, frame_in}
 use Rattle.ngc_machine_maker.specs.Sentences.{refusal_text, refusal_line, axis_text, stop_text, value_text as mistake_text, unequal_text}
@@ -167,7 +168,7 @@ start_above_zero = refl
 abbrev settings_of_feed : List ℕ
 settings_of_feed = codes "$110=1000.000\n$111=1000.000\n$112=600.000\n$120=30.000\n$121=30.000\n$122=20.000\n$130=300.000\n$131=180.000\n$132=45.000\nok\n"
 
-figures_of_settings : figures_in (codes "Grbl 1.1f ['$' for help]\n$23=3 (homing dir mask)\r\n$27=1.000\r\n$100=800.000 (x, step/mm)\n$101=800.000\n$102=800.000\n" ++ settings_of_feed)
+figures_of_settings : figures_in true (codes "Grbl 1.1f ['$' for help]\n$23=3 (homing dir mask)\r\n$27=1.000\r\n$100=800.000 (x, step/mm)\n$101=800.000\n$102=800.000\n" ++ settings_of_feed)
     ≡ Ok (record small_router {
       grbl = true;
       zero = three ends.High ends.High ends.High;
@@ -177,7 +178,7 @@ unfolding lines_of content after_dollar after_number setting_number setting_valu
 figures_of_settings = refl
 
 -- belts of 100 steps a millimetre on X and Y and a screw of 400 on Z: the path has the grid of Z
-unequal_settings : figures_in (codes "$23=3\n$27=1.000\n$100=100.000\n$101=100.000\n$102=400.000\n" ++ settings_of_feed)
+unequal_settings : figures_in true (codes "$23=3\n$27=1.000\n$100=100.000\n$101=100.000\n$102=400.000\n" ++ settings_of_feed)
     ≡ Ok (record small_router {
       scale = record { steps = 400000000; per = 1000000000000 };
       motors = three (motor 100000000) (motor 100000000) (motor 400000000);
@@ -188,7 +189,7 @@ unequal_settings : figures_in (codes "$23=3\n$27=1.000\n$100=100.000\n$101=100.0
 unfolding lines_of content after_dollar after_number setting_number setting_value place_text place_name place_values stored_text has_setting value_in setting place number_in
 unequal_settings = refl
 
-missing_setting : figures_in (codes "$23=3\n$27=1.000\n$100=800.000\n$101=800.000\n" ++ settings_of_feed) ≡ Err (refusals.Missing 102)
+missing_setting : figures_in true (codes "$23=3\n$27=1.000\n$100=800.000\n$101=800.000\n" ++ settings_of_feed) ≡ Err (refusals.Missing 102)
 unfolding lines_of content after_dollar after_number setting_number setting_value has_setting value_in setting number_in
 missing_setting = refl
 
@@ -201,19 +202,31 @@ unfolding lines_of content after_dollar after_number setting_number setting_valu
 setting_after_a_time = refl
 
 -- -2.3622 inches are -59.99988 mm
-place_in_millimetres : stored_in false (codes "-60.000,-80.000,25.500") ≡ Some (three (neg_ℤ (pos 60000000)) (neg_ℤ (pos 80000000)) (pos 25500000))
+abbrev pub in_form : Bool → Bool → PlaceForm
+in_form inches far = record { inches = inches; far = far }
+
+place_in_millimetres : stored_in (in_form false false) (codes "-60.000,-80.000,25.500") ≡ Some (three (neg_ℤ (pos 60000000)) (neg_ℤ (pos 80000000)) (pos 25500000))
 unfolding number_in stored_in
 place_in_millimetres = refl
 
-place_in_inches : stored_in true (codes "-2.3622,0.0000,1.0000,0.5000") ≡ Some (three (neg_ℤ (pos 59999880)) (pos 0) (pos 25400000))
+place_in_inches : stored_in (in_form true false) (codes "-2.3622,0.0000,1.0000,0.5000") ≡ Some (three (neg_ℤ (pos 59999880)) (pos 0) (pos 25400000))
 unfolding number_in stored_in
 place_in_inches = refl
 
-place_after_a_time : place (codes "[G54:0.000,0.000,0.000]\n[12:30:01] [G28:1.000,2.000,-3.000]\n") false places.G28 ≡ Ok (Some (three (pos 1000000) (pos 2000000) (neg_ℤ (pos 3000000))))
+place_after_a_time : place (codes "[G54:0.000,0.000,0.000]\n[12:30:01] [G28:1.000,2.000,-3.000]\n") (in_form false false) places.G28 ≡ Ok (Some (three (pos 1000000) (pos 2000000) (neg_ℤ (pos 3000000))))
 unfolding lines_of content place_text place_name place_values stored_text stored_in place number_in
 place_after_a_time = refl
 
-setting_with_a_comma : figures_in (codes "$23=3\n$100=800,000\n") ≡ Err (refusals.Setting 100 2)
+-- a metre and a half is far
+near_place : stored_in (in_form false false) (codes "-1500.000,0.000,0.000") ≡ None
+unfolding number_in stored_in
+near_place = refl
+
+far_place : stored_in (in_form false true) (codes "-1500.000,0.000,0.000") ≡ Some (three (neg_ℤ (pos 1500000000)) (pos 0) (pos 0))
+unfolding number_in stored_in
+far_place = refl
+
+setting_with_a_comma : figures_in true (codes "$23=3\n$100=800,000\n") ≡ Err (refusals.Setting 100 2)
 unfolding lines_of content after_dollar after_number setting_number setting_value place_text place_name place_values stored_text has_setting value_in setting place number_in
 setting_with_a_comma = refl
 

@@ -1,7 +1,7 @@
 -- The optional settings of a machine, besides its figures.
 use Rattle.std.specs.Borrow.{Bor}
 use Rattle.std.specs.Prelude.{ℕ, ◌==◌, List, drop, Option, Some, None, Result, Ok, option_and_then}
-use Rattle.std.specs.Prelude.{◌||◌, if◌then◌else◌}
+use Rattle.std.specs.Prelude.{◌||◌, ◌&&◌, not, if◌then◌else◌}
 use Rattle.ngc_machine_maker.specs.declared.choices.Choices.{Choices}
 use Rattle.ngc_machine_maker.specs.declared.figures.Acceleration.{Acceleration}
 use Rattle.ngc_machine_maker.specs.declared.figures.End.{End}
@@ -124,6 +124,7 @@ chosen f choices =
       ticks = ticks;
       ring = ring;
       arc_feed = f.arc_feed || choices.arc_feed;
+      far = f.far && not choices.rates;
       grbl = f.grbl;
       zero = f.zero;
       start = start;

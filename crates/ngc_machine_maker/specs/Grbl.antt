@@ -176,6 +176,7 @@ started_by_grbl f start dump =
       ticks = f.ticks;
       ring = f.ring;
       arc_feed = f.arc_feed;
+      far = f.far;
       grbl = true;
       zero = f.zero;
       start = start;
@@ -200,8 +201,8 @@ figures_from s places =
     started_by_grbl (plain_figures s) (homed_start s)
     (record { supplied = supplied s places; places = places })
 
-abbrev pub figures_in : List ℕ → Result Figures FigureRefusal
-figures_in text =
+abbrev pub figures_in : Bool → List ℕ → Result Figures FigureRefusal
+figures_in far text =
     and_then (settings_in text) (λ s.
-    and_then (places_in text (is_inches s.unit)) (λ places.
+    and_then (places_in text (record { inches = is_inches s.unit; far = far })) (λ places.
     Ok (figures_from s places)))

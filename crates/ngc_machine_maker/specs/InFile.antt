@@ -5,11 +5,11 @@ use Rattle.ngc_machine_maker.specs.declared.numbers.Steps.{Steps}
 use Rattle.ngc_machine_maker.specs.declared.scale.Scale.{Scale}
 use Rattle.ngc_machine_maker.specs.Ranges.{IsRate, AreRates, IsTurn, AreTravels, AreStops, IsRing}
 
--- the travel of an axis is within 1,000 mm of zero; the start is in it, a whole number of steps
--- from zero, and so are the home positions
+-- the travel of an axis is within 3,999 mm of zero, and within 1,000 mm in a file with rates; the
+-- start is in it, a whole number of steps from zero, and so are the home positions
 pub record IsAxisInFile (step : ℕ) (low high start home28 home30 : ℤ) : Type 0 where
-  pub low_near : unsigned_abs low ≤ 1000000000
-  pub high_near : unsigned_abs high ≤ 1000000000
+  pub low_near : unsigned_abs low ≤ 3999000000
+  pub high_near : unsigned_abs high ≤ 3999000000
   pub start_from : low ≤ℤ start
   pub start_to : start ≤ℤ high
   pub start_whole : unsigned_abs start % step ≡ 0
@@ -42,3 +42,13 @@ pub record AreStepsWithin (scale : Scale) (steps : Steps) : Type 0 where
   pub start : AreStops steps.travel steps.start
   pub home28 : AreStops steps.travel steps.home28
   pub home30 : AreStops steps.travel steps.home30
+
+-- both ends of a travel are within 1,000 mm of zero, as in a file with rates
+pub record IsNear (low high : ℤ) : Type 0 where
+  pub low : unsigned_abs low ≤ 1000000000
+  pub high : unsigned_abs high ≤ 1000000000
+
+pub record AreNear (n : MachineNumbers) : Type 0 where
+  pub x : IsNear n.low.x n.high.x
+  pub y : IsNear n.low.y n.high.y
+  pub z : IsNear n.low.z n.high.z

@@ -5,6 +5,7 @@ pub mod Safe
 pub mod Places
 pub mod Numbers
 pub mod InFile
+pub mod NearNumbers
 pub mod Asked
 pub mod Texts
 pub mod ShopUnits

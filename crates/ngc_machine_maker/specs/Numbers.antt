@@ -15,7 +15,7 @@ use Rattle.ngc_machine_maker.specs.Places.{place_of}
 -- the travel and the stops, in steps
 abbrev pub placed : Scale → Figures → Result Steps FigureRefusal
 placed scale f =
-    and_then (travels_of scale f.travel) (λ travel.
+    and_then (travels_of scale f.far f.travel) (λ travel.
     and_then (stops_of scale travel f.travel stops.Start f.start) (λ start.
     and_then (stops_by scale travel f.travel stops.Home28 start f.home28) (λ home28.
     and_then (stops_by scale travel f.travel stops.Home30 start f.home30) (λ home30.

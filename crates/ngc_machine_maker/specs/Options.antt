@@ -123,6 +123,7 @@ figures_by motors travel feed acceleration zero =
       ticks = None;
       ring = 256;
       arc_feed = true;
+      far = true;
       grbl = false;
       zero = zero;
       start = same_for_all (length_of 0);

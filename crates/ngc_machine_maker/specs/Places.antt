@@ -1,6 +1,6 @@
 -- The travel and the places at which all axes stop. Each is a whole number of steps from the zero
 -- of an axis, which is at one end of its travel.
-use Rattle.std.specs.Prelude.{ℕ, ◌*◌, ◌/◌, ◌==◌, ◌||◌, nat_lt, min, ℤ, pos, neg_ℤ, Option}
+use Rattle.std.specs.Prelude.{ℕ, ◌*◌, ◌/◌, ◌==◌, ◌||◌, nat_lt, min, ℤ, pos, neg_ℤ, Bool, Option}
 use Rattle.std.specs.Prelude.{Some, None, Result, Ok, Err, if◌then◌else◌}
 use Rattle.ngc_machine_maker.specs.declared.figures.Axis.{Axis}
 use Rattle.ngc_machine_maker.specs.declared.figures.Axis.TheVariants as axes
@@ -18,14 +18,21 @@ use Rattle.ngc_machine_maker.specs.Formulas.{and_then, each_axis, steps_in}
 abbrev pub length_in : Scale → Length → ℕ
 length_in scale length = steps_in scale length.nanometres 1
 
--- a travel is from a step to 1,000 mm
-abbrev pub travel_of : Scale → Length → Axis → Result ℕ FigureRefusal
-travel_of scale length axis =
-    if length_in scale length == 0 || nat_lt 1000000000 length.nanometres
-    then Err (refusals.Travel axis) else Ok (length_in scale length)
+-- the longest travel: 3,999 mm, and 1,000 mm in a file with rates
+abbrev pub travel_limit : Bool → ℕ
+travel_limit far = if far then 3999000000 else 1000000000
 
-abbrev pub travels_of : Scale → PerAxis Length → Result (PerAxis ℕ) FigureRefusal
-travels_of scale travel = each_axis (travel_of scale) travel
+abbrev pub travel_refusal : Bool → Axis → FigureRefusal
+travel_refusal far axis = if far then refusals.FarTravel axis else refusals.Travel axis
+
+-- a travel is from a step to the longest
+abbrev pub travel_of : Scale → Bool → Length → Axis → Result ℕ FigureRefusal
+travel_of scale far length axis =
+    if length_in scale length == 0 || nat_lt (travel_limit far) length.nanometres
+    then Err (travel_refusal far axis) else Ok (length_in scale length)
+
+abbrev pub travels_of : Scale → Bool → PerAxis Length → Result (PerAxis ℕ) FigureRefusal
+travels_of scale far travel = each_axis (travel_of scale far) travel
 
 -- the distance of a place from zero, in steps: the place is within the length of the travel, and
 -- within the steps of the travel

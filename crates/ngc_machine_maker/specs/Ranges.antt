@@ -43,10 +43,10 @@ pub record IsRing (ring : ℕ) : Type 0 where
   pub least : 16 ≤ ring
   pub greatest : ring ≤ 1024
 
--- a travel in steps: at least one, and at most 1,000 mm
+-- a travel in steps: at least one, and at most 3,999 mm
 pub record IsTravel (scale : Scale) (steps : ℕ) : Type 0 where
   pub some : 1 ≤ steps
-  pub greatest : steps * scale.step ≤ 1000000000
+  pub greatest : steps * scale.step ≤ 3999000000
 
 pub record AreTravels (scale : Scale) (travel : PerAxis ℕ) : Type 0 where
   pub x : IsTravel scale travel.x

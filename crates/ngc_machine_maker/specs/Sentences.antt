@@ -75,6 +75,8 @@ refusal_text refusals.LowArcs = codes
     "the acceleration on arcs is too small for a machine file: give more, or fewer ticks"
 refusal_text (refusals.Travel axis) = codes "the travel of " ++ axis_text axis
     ++ codes " is not from a step to 1000 mm: give a length between"
+refusal_text (refusals.FarTravel axis) = codes "the travel of " ++ axis_text axis
+    ++ codes " is not from a step to 3999 mm: give a length between"
 refusal_text (refusals.Outside stop axis) = stop_text stop ++ codes " is outside the travel of "
     ++ axis_text axis ++ codes ": give a place within it"
 refusal_text (refusals.Missing number) = codes "the setting $" ++ decimal number
@@ -87,6 +89,8 @@ refusal_text (refusals.Digits number at) = value_text number at
     (codes " has too many digits: write it as Grbl does, with at most three decimals")
 refusal_text (refusals.Place stored at) = codes "line " ++ decimal at ++ codes ": the place of "
     ++ stored_text stored ++ codes " is not X, Y and Z, each at most 1000 mm from zero: correct it"
+refusal_text (refusals.FarPlace stored at) = codes "line " ++ decimal at ++ codes ": the place of "
+    ++ stored_text stored ++ codes " is not X, Y and Z, each at most 4000 mm from zero: correct it"
 refusal_text (refusals.UnequalSteps motors) = unequal_text motors
 
 -- a sentence on a line of its own

@@ -241,6 +241,7 @@ impl Figures {
             ticks,
             ring,
             arc_feed: self.arc_feed || choices.arc_feed,
+            far: self.far && !choices.rates,
             grbl: self.grbl,
             zero: self.zero,
             start,

@@ -86,6 +86,16 @@ pub struct Supplied {
     pub acceleration: PerAxis<bool>,
 }
 
+/// How the places of a dump are written, and how far from zero they may be.
+#[derive(Clone, Copy)]
+pub struct PlaceForm {
+    /// Whether they are in inches. If not, they are in millimetres.
+    pub inches: bool,
+    /// Whether they may be up to 4,000 mm from zero, as in a file of version 3. If not, they may be up
+    /// to 1,000 mm.
+    pub far: bool,
+}
+
 /// The places that a controller with GRBL has stored, in nanometres. `None`: a dump doesn't have it.
 #[derive(Clone, Copy)]
 pub struct StoredPlaces {
@@ -169,6 +179,9 @@ pub struct Figures {
     pub ring: u32,
     /// Whether arcs run at their feed and their turn at every place.
     pub arc_feed: bool,
+    /// Whether a travel may be up to 3,999 mm long, as in a file of version 3. If not, it may be up to
+    /// 1,000 mm long.
+    pub far: bool,
     /// Whether the machine's controller has Grbl, so that its programs are in the language of Grbl.
     pub grbl: bool,
     pub zero: PerAxis<End>,

@@ -5,7 +5,7 @@ ghost use Rattle.ngc_machine_maker.specs.Options as options;
 
 use crate::decimal::{begins, is_number, number_in, without_first};
 use crate::figures::{
-    Dump, End, Figures, Length, PerAxis, StepsPerMillimetre, StoredPlaces, Supplied,
+    Dump, End, Figures, Length, PerAxis, PlaceForm, StepsPerMillimetre, StoredPlaces, Supplied,
 };
 use crate::motors::motors_of;
 use crate::options::{accelerations, all_at, figures_by, length_of, lengths, speeds};
@@ -269,12 +269,13 @@ fn figures_from(settings: &Settings, places: StoredPlaces) -> Figures
 /// the start is where homing ends, and programs are in the language of Grbl. A speed, an
 /// acceleration, `$23`, `$27` or `$13` that is missing is Grbl's default. It refuses the first
 /// setting that can't be read, steps or travel that are missing, and the first place that can't be
-/// read.
-pub fn read_grbl(text: &[u8]) -> Result<Figures, FigureRefusal>
-    ensures { result ≡ spec.figures_in text.now }
+/// read. `far` tells whether places may be up to 4,000 mm from zero; if not, they may be up to
+/// 1,000 mm.
+pub fn read_grbl(far: bool, text: &[u8]) -> Result<Figures, FigureRefusal>
+    ensures { result ≡ spec.figures_in far text.now }
 {
     let settings = settings_in(text)?;
     let inches = or_default(0, settings.unit) != 0;
-    let places = places_in(text, inches)?;
+    let places = places_in(text, PlaceForm { inches, far })?;
     Ok(figures_from(&settings, places))
 }

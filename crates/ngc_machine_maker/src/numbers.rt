@@ -50,7 +50,7 @@ fn steps_of(scale: &Scale, figures: &Figures) -> Result<Steps, FigureRefusal>
     ensures safe { IfOk result (λ steps. AreNoFarther scale.now steps.travel figures.now.travel) }
 {
     let within = &figures.travel;
-    let travel = travels_of(scale, within)?;
+    let travel = travels_of(scale, figures.far, within)?;
     let start = stops_of(scale, &travel, within, &figures.start, Stop::Start)?;
     let home28 = stops_by(
         scale,

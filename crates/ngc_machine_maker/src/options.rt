@@ -199,6 +199,7 @@ pub(crate) fn figures_by(
         ticks: None,
         ring: 256,
         arc_feed: true,
+        far: true,
         grbl: false,
         zero,
         start: PerAxis {

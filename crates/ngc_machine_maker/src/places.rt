@@ -1,6 +1,7 @@
 //! The travel, and the places at which all axes stop.
 ghost use Rattle.std.specs.Prelude.{◌≡◌, ◌*◌, ◌≤◌, ◌≤ℤ◌, pos, IfOk, unsigned_abs};
-ghost use Rattle.ngc_machine_maker.specs.Places.{length_in, travel_of, travels_of};
+ghost use Rattle.ngc_machine_maker.specs.Places.{length_in, travel_limit, travel_of, travel_refusal};
+ghost use Rattle.ngc_machine_maker.specs.Places.{travels_of};
 ghost use Rattle.ngc_machine_maker.specs.Places.{stop_of, stops_of, stops_by, coordinate};
 ghost use Rattle.ngc_machine_maker.specs.Places.{low_of, high_of, place_of, lows_of, highs_of};
 ghost use Rattle.ngc_machine_maker.specs.Ranges.{IsScale, IsTravel, AreTravels, IsStop, AreStops};
@@ -20,15 +21,31 @@ fn steps_within(scale: &Scale, length: Length) -> u32
     scale.steps_in(u128::from(length.nanometres), 1) as u32
 }
 
-fn travel_of(scale: &Scale, length: Length, axis: Axis) -> Result<u32, FigureRefusal>
+fn travel_limit(far: bool) -> u32
+    ensures { result ≡ travel_limit far }
+{
+    if far { 3_999_000_000 } else { 1_000_000_000 }
+}
+
+fn travel_refusal(far: bool, axis: Axis) -> FigureRefusal
+    ensures { result ≡ travel_refusal far axis }
+{
+    if far {
+        FigureRefusal::FarTravel(axis)
+    } else {
+        FigureRefusal::Travel(axis)
+    }
+}
+
+fn travel_of(scale: &Scale, far: bool, length: Length, axis: Axis) -> Result<u32, FigureRefusal>
     requires { IsScale scale.now }
-    ensures value { result ≡ travel_of scale.now length axis }
+    ensures value { result ≡ travel_of scale.now far length axis }
     ensures range { IfOk result (IsTravel scale.now) }
     ensures safe { IfOk result (λ steps. IsNoFarther scale.now steps length) }
 {
     let steps = steps_within(scale, length);
-    if steps == 0 || length.nanometres > 1_000_000_000 {
-        return Err(FigureRefusal::Travel(axis));
+    if steps == 0 || length.nanometres > travel_limit(far) {
+        return Err(travel_refusal(far, axis));
     }
     Ok(steps)
 }
@@ -36,16 +53,17 @@ fn travel_of(scale: &Scale, length: Length, axis: Axis) -> Result<u32, FigureRef
 /// Returns the travel of each axis in steps.
 pub(crate) fn travels_of(
     scale: &Scale,
+    far: bool,
     travel: &PerAxis<Length>,
 ) -> Result<PerAxis<u32>, FigureRefusal>
     requires { IsScale scale.now }
-    ensures value { result ≡ travels_of scale.now travel.now }
+    ensures value { result ≡ travels_of scale.now far travel.now }
     ensures range { IfOk result (AreTravels scale.now) }
     ensures safe { IfOk result (λ steps. AreNoFarther scale.now steps travel.now) }
 {
-    let x = travel_of(scale, travel.x, Axis::X)?;
-    let y = travel_of(scale, travel.y, Axis::Y)?;
-    let z = travel_of(scale, travel.z, Axis::Z)?;
+    let x = travel_of(scale, far, travel.x, Axis::X)?;
+    let y = travel_of(scale, far, travel.y, Axis::Y)?;
+    let z = travel_of(scale, far, travel.z, Axis::Z)?;
     Ok(PerAxis { x, y, z })
 }
 
@@ -125,9 +143,9 @@ pub(crate) fn stops_by(
 // Returns the coordinate of a place `steps` steps from zero, into the travel.
 fn coordinate(scale: &Scale, zero: End, steps: u32) -> i64
     requires scale { IsScale scale.now }
-    requires few { steps * scale.now.step ≤ 1000000000 }
+    requires few { steps * scale.now.step ≤ 3999000000 }
     ensures value { result ≡ coordinate scale.now zero steps }
-    ensures range { unsigned_abs result ≤ 1000000000 }
+    ensures range { unsigned_abs result ≤ 3999000000 }
 {
     let distance = i64::from(steps) * i64::from(scale.step);
     match zero {
@@ -138,7 +156,7 @@ fn coordinate(scale: &Scale, zero: End, steps: u32) -> i64
 
 fn low_of(scale: &Scale, zero: End, travel: u32) -> i64
     requires scale { IsScale scale.now }
-    requires few { travel * scale.now.step ≤ 1000000000 }
+    requires few { travel * scale.now.step ≤ 3999000000 }
     ensures value { result ≡ low_of scale.now zero travel }
 {
     match zero {
@@ -149,7 +167,7 @@ fn low_of(scale: &Scale, zero: End, travel: u32) -> i64
 
 fn high_of(scale: &Scale, zero: End, travel: u32) -> i64
     requires scale { IsScale scale.now }
-    requires few { travel * scale.now.step ≤ 1000000000 }
+    requires few { travel * scale.now.step ≤ 3999000000 }
     ensures value { result ≡ high_of scale.now zero travel }
 {
     match zero {

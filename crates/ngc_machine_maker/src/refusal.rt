@@ -61,8 +61,10 @@ pub enum FigureRefusal {
     LowAcceleration,
     /// The acceleration on arcs rounds to nothing.
     LowArcs,
-    /// The travel is shorter than a step, or longer than 1,000 mm.
+    /// The travel is shorter than a step, or longer than 1,000 mm, in a file with rates.
     Travel(Axis),
+    /// The travel is shorter than a step, or longer than 3,999 mm.
+    FarTravel(Axis),
     /// The place is outside the travel.
     Outside(Stop, Axis),
     /// The setting with this number is missing.
@@ -74,7 +76,10 @@ pub enum FigureRefusal {
     /// The value of the setting with this number, on the line with that number, is a number with too
     /// many digits.
     Digits(u32, usize),
-    /// The place on the line with this number can't be read, or is farther than 1,000 mm from zero.
+    /// The place on the line with this number can't be read, or is farther than 4,000 mm from zero.
+    FarPlace(Stored, usize),
+    /// The place on the line with this number can't be read, or is farther than 1,000 mm from zero, in
+    /// a file with rates.
     Place(Stored, usize),
     /// The motors' steps differ from axis to axis, and rates are in one step for all axes.
     UnequalSteps(PerAxis<StepsPerMillimetre>),

@@ -1,5 +1,5 @@
 //! The texts of refusals.
-ghost use Rattle.std.specs.Prelude.{◌≡◌, ◌++◌, codes, OnOk, OnErr};
+ghost use Rattle.std.specs.Prelude.{◌≡◌, ◌++◌, OnOk, OnErr};
 ghost use Rattle.std.specs.Io.KnownBytes.{Appends};
 ghost use Rattle.ngc_sentences.specs.Saying.{Says};
 ghost use Rattle.ngc_text.specs.Failures.{CountsFailure};
@@ -136,6 +136,15 @@ fn say_place<W: Sink>(stored: Stored, at: usize, page: &mut Page, output: &mut W
     say!(page, output; b"line ", Part::Number(at as u128), b": the place of ", Part::Text(stored_name(stored)), b" is not X, Y and Z, each at most 1000 mm from zero: correct it");
 }
 
+#[tactic(auto, unfolding(crate::specs::Sentences::refusal_text))]
+fn say_far_place<W: Sink>(stored: Stored, at: usize, page: &mut Page, output: &mut W)
+    ensures { Says (W.written output.old) (W.written output.new)
+        (W.failures output.old) (W.failures output.new) page.old page.new
+        (refusal_text (refusals.FarPlace stored at)) }
+{
+    say!(page, output; b"line ", Part::Number(at as u128), b": the place of ", Part::Text(stored_name(stored)), b" is not X, Y and Z, each at most 4000 mm from zero: correct it");
+}
+
 #[tactic(auto, unfolding(crate::specs::Sentences::unequal_text))]
 fn say_unequal<W: Sink>(motors: &PerAxis<StepsPerMillimetre>, page: &mut Page, output: &mut W)
     ensures { Says (W.written output.old) (W.written output.new)
@@ -197,6 +206,13 @@ fn say_refusal<W: Sink>(refusal: FigureRefusal, page: &mut Page, output: &mut W)
             page,
             output,
         ),
+        FigureRefusal::FarTravel(axis) => say_named(
+            b"the travel of ",
+            axis_name(axis),
+            b" is not from a step to 3999 mm: give a length between",
+            page,
+            output,
+        ),
         FigureRefusal::Outside(stop, axis) => say_outside(stop, axis, page, output),
         FigureRefusal::Missing(number) => say_missing(number, page, output),
         FigureRefusal::Setting(number, at) => say_value(
@@ -221,6 +237,7 @@ fn say_refusal<W: Sink>(refusal: FigureRefusal, page: &mut Page, output: &mut W)
             output,
         ),
         FigureRefusal::Place(stored, at) => say_place(stored, at, page, output),
+        FigureRefusal::FarPlace(stored, at) => say_far_place(stored, at, page, output),
         FigureRefusal::UnequalSteps(motors) => say_unequal(&motors, page, output),
     }
 }

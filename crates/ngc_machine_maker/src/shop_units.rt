@@ -128,7 +128,7 @@ pub(crate) fn is_short(numbers: &MachineNumbers, figures: &Figures) -> bool
 
 fn error_over(numbers: &MachineNumbers, figures: &Figures, distance: u64) -> u128
     requires scale { IsScale (scale_in numbers.now figures.now) }
-    requires distance { distance ≤ 2000000000 }
+    requires distance { distance ≤ 7998000000 }
     ensures { result ≡ error_over numbers.now figures.now distance }
 {
     let step = file_step(numbers, figures);

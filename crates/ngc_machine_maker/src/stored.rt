@@ -3,7 +3,7 @@ ghost use Rattle.std.specs.Prelude.{◌≡◌, ◌≤◌, IfSome};
 ghost use Rattle.ngc_machine_maker.specs.Stored as spec;
 
 use crate::decimal::{begins, number_in, split_three, without_first};
-use crate::figures::{PerAxis, StoredPlaces};
+use crate::figures::{PerAxis, PlaceForm, StoredPlaces};
 use crate::refusal::{FigureRefusal, Stored};
 use ngc_grbl_lines::{before, place_name, place_values, split_line};
 
@@ -24,37 +24,44 @@ pub(crate) fn stored_name(stored: Stored) -> &'static [u8]
     }
 }
 
-fn near(nanometres: u64) -> Option<u64>
-    ensures value { result ≡ spec.near nanometres }
-    ensures range { IfSome result (λ n. n ≤ 1000000000) }
+fn place_limit(far: bool) -> u64
+    ensures value { result ≡ spec.place_limit far }
+    ensures range { result ≤ 4000000000 }
 {
-    if nanometres <= 1_000_000_000 {
+    if far { 4_000_000_000 } else { 1_000_000_000 }
+}
+
+fn near(far: bool, nanometres: u64) -> Option<u64>
+    ensures value { result ≡ spec.near far nanometres }
+    ensures range { IfSome result (λ n. n ≤ 4000000000) }
+{
+    if nanometres <= place_limit(far) {
         Some(nanometres)
     } else {
         None
     }
 }
 
-// Returns a size in nanometres, at most 1,000 mm.
-fn size_in(inches: bool, text: &[u8]) -> Option<u64>
-    ensures value { result ≡ spec.size_in inches text.now }
-    ensures range { IfSome result (λ n. n ≤ 1000000000) }
+// Returns a size in nanometres, at most 4,000 mm.
+fn size_in(form: PlaceForm, text: &[u8]) -> Option<u64>
+    ensures value { result ≡ spec.size_in form text.now }
+    ensures range { IfSome result (λ n. n ≤ 4000000000) }
 {
-    if inches {
+    if form.inches {
         match number_in(text, 5) {
             None => None,
-            Some(number) => near(254 * u64::from(number)),
+            Some(number) => near(form.far, 254 * u64::from(number)),
         }
     } else {
         match number_in(text, 6) {
             None => None,
-            Some(number) => near(u64::from(number)),
+            Some(number) => near(form.far, u64::from(number)),
         }
     }
 }
 
 fn signed(minus: bool, size: Option<u64>) -> Option<i64>
-    requires { IfSome size (λ n. n ≤ 1000000000) }
+    requires { IfSome size (λ n. n ≤ 4000000000) }
     ensures { result ≡ spec.signed minus size }
 {
     match size {
@@ -64,26 +71,26 @@ fn signed(minus: bool, size: Option<u64>) -> Option<i64>
     }
 }
 
-fn coordinate_in(inches: bool, text: &[u8]) -> Option<i64>
-    ensures { result ≡ spec.coordinate_in inches text.now }
+fn coordinate_in(form: PlaceForm, text: &[u8]) -> Option<i64>
+    ensures { result ≡ spec.coordinate_in form text.now }
 {
     if begins(b'-', text) {
-        signed(true, size_in(inches, without_first(text)))
+        signed(true, size_in(form, without_first(text)))
     } else {
-        signed(false, size_in(inches, text))
+        signed(false, size_in(form, text))
     }
 }
 
 // Returns the place that the first three coordinates of a text write.
 #[tactic(auto, unfolding(crate::specs::Stored::stored_in))]
-fn stored_in(inches: bool, text: &[u8]) -> Option<PerAxis<i64>>
-    ensures { result ≡ spec.stored_in inches text.now }
+fn stored_in(form: PlaceForm, text: &[u8]) -> Option<PerAxis<i64>>
+    ensures { result ≡ spec.stored_in form text.now }
 {
     let (x, y, z) = split_three(text);
     match (
-        coordinate_in(inches, x),
-        coordinate_in(inches, y),
-        coordinate_in(inches, before(b',', z)),
+        coordinate_in(form, x),
+        coordinate_in(form, y),
+        coordinate_in(form, before(b',', z)),
     ) {
         (Some(x), Some(y), Some(z)) => Some(PerAxis { x, y, z }),
         _ => None,
@@ -96,30 +103,45 @@ fn is_at(stored: Stored, line: &[u8]) -> bool
     place_name(line) == stored_name(stored)
 }
 
+fn place_refusal(far: bool, stored: Stored, at: usize) -> FigureRefusal
+    ensures { result ≡ spec.place_refusal far stored at }
+{
+    if far {
+        FigureRefusal::FarPlace(stored, at)
+    } else {
+        FigureRefusal::Place(stored, at)
+    }
+}
+
 fn stored_by(
+    far: bool,
     stored: Stored,
     at: usize,
     place: Option<PerAxis<i64>>,
 ) -> Result<Option<PerAxis<i64>>, FigureRefusal>
-    ensures { result ≡ spec.stored_by stored at place }
+    ensures { result ≡ spec.stored_by far stored at place }
 {
     match place {
-        None => Err(FigureRefusal::Place(stored, at)),
+        None => Err(place_refusal(far, stored, at)),
         Some(place) => Ok(Some(place)),
     }
 }
 
 // Returns a place of a dump, if the dump has it.
 #[tactic(auto, unfolding(crate::specs::Stored::place))]
-fn place(text: &[u8], inches: bool, stored: Stored) -> Result<Option<PerAxis<i64>>, FigureRefusal>
-    ensures { result ≡ spec.place text.now inches stored }
+fn place(
+    text: &[u8],
+    form: PlaceForm,
+    stored: Stored,
+) -> Result<Option<PerAxis<i64>>, FigureRefusal>
+    ensures { result ≡ spec.place text.now form stored }
 {
     let mut at: usize = 1;
     let mut rest = text;
     while !rest.is_empty() {
         let (line, others) = split_line(rest);
         if is_at(stored, line) {
-            return stored_by(stored, at, stored_in(inches, place_values(line)));
+            return stored_by(form.far, stored, at, stored_in(form, place_values(line)));
         }
         at += 1;
         rest = others;
@@ -128,18 +150,18 @@ fn place(text: &[u8], inches: bool, stored: Stored) -> Result<Option<PerAxis<i64
 }
 
 /// Returns the places of a dump. It refuses the first that can't be read, in the order of the names.
-pub(crate) fn places_in(text: &[u8], inches: bool) -> Result<StoredPlaces, FigureRefusal>
-    ensures { result ≡ spec.places_in text.now inches }
+pub(crate) fn places_in(text: &[u8], form: PlaceForm) -> Result<StoredPlaces, FigureRefusal>
+    ensures { result ≡ spec.places_in text.now form }
 {
-    let g54 = place(text, inches, Stored::G54)?;
-    let g55 = place(text, inches, Stored::G55)?;
-    let g56 = place(text, inches, Stored::G56)?;
-    let g57 = place(text, inches, Stored::G57)?;
-    let g58 = place(text, inches, Stored::G58)?;
-    let g59 = place(text, inches, Stored::G59)?;
-    let g28 = place(text, inches, Stored::G28)?;
-    let g30 = place(text, inches, Stored::G30)?;
-    let g92 = place(text, inches, Stored::G92)?;
+    let g54 = place(text, form, Stored::G54)?;
+    let g55 = place(text, form, Stored::G55)?;
+    let g56 = place(text, form, Stored::G56)?;
+    let g57 = place(text, form, Stored::G57)?;
+    let g58 = place(text, form, Stored::G58)?;
+    let g59 = place(text, form, Stored::G59)?;
+    let g28 = place(text, form, Stored::G28)?;
+    let g30 = place(text, form, Stored::G30)?;
+    let g92 = place(text, form, Stored::G92)?;
     Ok(StoredPlaces {
         g54,
         g55,

@@ -30,9 +30,9 @@ figure_axis (figures.SlowFeed axes.Z) = codes "axis.z."
 figure_axis (figures.FastFeed axes.X) = codes "axis.x."
 figure_axis (figures.FastFeed axes.Y) = codes "axis.y."
 figure_axis (figures.FastFeed axes.Z) = codes "axis.z."
-figure_axis (figures.Travel axes.X) = codes "axis.x."
-figure_axis (figures.Travel axes.Y) = codes "axis.y."
-figure_axis (figures.Travel axes.Z) = codes "axis.z."
+figure_axis (figures.FarTravel axes.X) = codes "axis.x."
+figure_axis (figures.FarTravel axes.Y) = codes "axis.y."
+figure_axis (figures.FarTravel axes.Z) = codes "axis.z."
 figure_axis _ = codes ""
 
 abbrev pub figure_text : FigureRefusal → List ℕ
@@ -41,12 +41,12 @@ figure_text (figures.FastFeed axis) = codes "speed: the axis moves more than a s
 figure_text figures.SlowCorner = codes "corner: the speed is less than a millionth of a step per tick: write fewer ticks"
 figure_text figures.LowAcceleration = codes "axis: the least acceleration is too low for the ticks: write fewer ticks"
 figure_text figures.LowArcs = codes "turn: the acceleration is too low for the ticks: write fewer ticks"
-figure_text (figures.Travel axis) = codes "travel: it is shorter than a step, or longer than 1,000 mm"
+figure_text (figures.FarTravel axis) = codes "travel: it is shorter than a step, or longer than 3,999 mm"
 figure_text _ = codes "a figure can't be used"
 
 abbrev pub range_text : FileFault → List ℕ
-range_text faults.Travel = codes "start: it isn't inside the travel, or an end of the travel is farther than 1,000 mm from zero"
-range_text faults.Places = codes "origin: an origin or a home position is farther than 1,000 mm from zero"
+range_text faults.Travel = codes "start: it isn't inside the travel, or an end of the travel is farther than 3,999 mm from zero"
+range_text faults.Places = codes "origin: an origin or a home position is farther than 4,000 mm from zero"
 range_text faults.Fixtures = codes "fixture: a corner is farther than 4,000 mm from zero, or a side has no length"
 range_text faults.Stock = codes "stock: a corner is farther than 1,000 mm from zero, or a side has no length"
 range_text _ = codes "a number is out of its range"

@@ -38,13 +38,13 @@ fn figure_axis(refusal: FigureRefusal) -> &'static [u8]
     match refusal {
         FigureRefusal::SlowFeed(Axis::X)
         | FigureRefusal::FastFeed(Axis::X)
-        | FigureRefusal::Travel(Axis::X) => b"axis.x.",
+        | FigureRefusal::FarTravel(Axis::X) => b"axis.x.",
         FigureRefusal::SlowFeed(Axis::Y)
         | FigureRefusal::FastFeed(Axis::Y)
-        | FigureRefusal::Travel(Axis::Y) => b"axis.y.",
+        | FigureRefusal::FarTravel(Axis::Y) => b"axis.y.",
         FigureRefusal::SlowFeed(Axis::Z)
         | FigureRefusal::FastFeed(Axis::Z)
-        | FigureRefusal::Travel(Axis::Z) => b"axis.z.",
+        | FigureRefusal::FarTravel(Axis::Z) => b"axis.z.",
         _ => b"",
     }
 }
@@ -63,7 +63,8 @@ fn figure_text(refusal: FigureRefusal) -> &'static [u8]
             b"axis: the least acceleration is too low for the ticks: write fewer ticks",
         FigureRefusal::LowArcs =>
             b"turn: the acceleration is too low for the ticks: write fewer ticks",
-        FigureRefusal::Travel(_) => b"travel: it is shorter than a step, or longer than 1,000 mm",
+        FigureRefusal::FarTravel(_) =>
+            b"travel: it is shorter than a step, or longer than 3,999 mm",
         _ => b"a figure can't be used",
     }
 }
@@ -73,9 +74,9 @@ fn range_text(fault: FileFault) -> &'static [u8]
 {
     match fault {
         FileFault::Travel =>
-            b"start: it isn't inside the travel, or an end of the travel is farther than 1,000 mm from zero",
+            b"start: it isn't inside the travel, or an end of the travel is farther than 3,999 mm from zero",
         FileFault::Places =>
-            b"origin: an origin or a home position is farther than 1,000 mm from zero",
+            b"origin: an origin or a home position is farther than 4,000 mm from zero",
         FileFault::Fixtures =>
             b"fixture: a corner is farther than 4,000 mm from zero, or a side has no length",
         FileFault::Stock =>

@@ -11,7 +11,7 @@ use Rattle.ngc_arc_geometry.specs.Radii.{IsArc}
 use Rattle.ngc_arc_geometry.specs.Shape.{IsNear, END_LIMIT}
 use Rattle.ngc_machine_files.specs.Machine.{MachineFile}
 use Rattle.ngc_machine_files.specs.MachineRanges.{IsMachine}
-use Rattle.ngc_machine_files.specs.Ranges.{PLACE_LIMIT}
+use Rattle.ngc_machine_files.specs.Ranges.{TRAVEL_LIMIT}
 use Rattle.ngc_machine_files.specs.declared.tools.Tool.{Tool}
 use Rattle.ngc_commands.specs.declared.command.Command.{Command}
 use Rattle.ngc_commands.specs.Sequence.{IsEvenIfArc, HaveEvenRadii}
@@ -40,7 +40,7 @@ AreArcs (way ∷ ways) = IsArcIfCurved way × AreArcs ways
 
 -- ---- a position whose grid point is within travel
 
-near_zero : (z step low high : ℤ) → IsStep step → unsigned_abs low ≤ PLACE_LIMIT → unsigned_abs high ≤ PLACE_LIMIT →
+near_zero : (z step low high : ℤ) → IsStep step → unsigned_abs low ≤ TRAVEL_LIMIT → unsigned_abs high ≤ TRAVEL_LIMIT →
     low ≤ℤ (nearest z step *ℤ step) → (nearest z step *ℤ step) ≤ℤ high → unsigned_abs z ≤ END_LIMIT
 near_zero z (pos s) low high step l h above below =
     let near = nearest_near z s (omega (arith, ints, step.least)) in omega (arith, ints, near, step.greatest, l, h, above, below)

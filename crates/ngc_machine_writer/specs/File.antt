@@ -1,5 +1,5 @@
 -- A machine file of version 3, line by line. Our own.
-use Rattle.std.specs.Prelude.{ℕ, ℤ, List, [], ◌++◌, codes, decimal, Bool, if◌then◌else◌, Option, Some, None, unwrap_or}
+use Rattle.std.specs.Prelude.{ℕ, ℤ, List, [], ◌++◌, codes, Bool, if◌then◌else◌, Option, Some, None, unwrap_or}
 use Rattle.ngc_machine_maker.specs.declared.figures.Acceleration.{Acceleration}
 use Rattle.ngc_machine_maker.specs.DumpLines.{are_zero, offset_after, supplied_lines}
 use Rattle.ngc_machine_maker.specs.declared.figures.End.{End}

@@ -6,7 +6,7 @@ use Rattle.std.proofs.lemmas.Int.{ints}
 use Rattle.std.proofs.lemmas.List.Elements.{All-cons, All-head, All-nil, All-tail}
 use Rattle.ngc_collision.specs.Body.{is_below}
 use Rattle.ngc_fixed_length.specs.declared.points.Point3.{Point3}
-use Rattle.ngc_machine_files.specs.Ranges.{AreFixtures, CORNER_LIMIT, IsAtMost, IsFixture, IsSized, IsTravel, PLACE_LIMIT}
+use Rattle.ngc_machine_files.specs.Ranges.{AreFixtures, CORNER_LIMIT, IsAtMost, IsFixture, IsSized, IsTravel, TRAVEL_LIMIT}
 use Rattle.ngc_machine_files.specs.declared.machine.Fixture.{Fixture}
 use Rattle.ngc_margins.specs.Margins.{fits, grown, is_sized, lowered, raised}
 use Rattle.ngc_margins.proofs.Tests.{both, le_of}
@@ -44,9 +44,9 @@ kept step t low high start travel least inside =
     let from = below_facts (raised t low) start tests.0 in
     let to = below_facts start (lowered t high) tests.1 in
     record {
-      low_sized = sized_between PLACE_LIMIT low (raised t low) high (above t low least) (joined (raised t low) start high from travel.start_below)
+      low_sized = sized_between TRAVEL_LIMIT low (raised t low) high (above t low least) (joined (raised t low) start high from travel.start_below)
           travel.low_sized travel.high_sized;
-      high_sized = sized_between PLACE_LIMIT low (lowered t high) high (joined low start (lowered t high) travel.start_above to) (under t high least)
+      high_sized = sized_between TRAVEL_LIMIT low (lowered t high) high (joined low start (lowered t high) travel.start_above to) (under t high least)
           travel.low_sized travel.high_sized;
       ordered = joined (raised t low) start (lowered t high) from to;
       start_above = from;

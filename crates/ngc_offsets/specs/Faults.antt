@@ -6,6 +6,7 @@ use Rattle.ngc_offsets.specs.declared.fault.FrameFault.{FrameFault}
 use Rattle.ngc_offsets.specs.declared.fault.FrameFault.TheVariants.{BeyondRange, NoSuchTool}
 use Rattle.ngc_offsets.specs.declared.fault.Quantity.{Quantity}
 use Rattle.ngc_offsets.specs.declared.fault.Quantity.TheVariants.{Coordinate, Offset}
+use Rattle.ngc_offsets.specs.declared.fault.CoordinateRange.{CoordinateRange}
 use Rattle.ngc_offsets.specs.Ranges.{limit_of}
 
 infixl 10 ◌>>=◌
@@ -19,8 +20,8 @@ abbrev pub limited : Axis → Quantity → ℤ → Result ℤ FrameFault
 limited axis quantity l =
     if is_within (limit_of quantity) l then Ok l else Err (BeyondRange axis quantity l)
 
-abbrev pub coordinate : Axis → ℤ → Result ℤ FrameFault
-coordinate axis c = limited axis Coordinate c
+abbrev pub coordinate : CoordinateRange → Axis → ℤ → Result ℤ FrameFault
+coordinate reach axis c = limited axis (Coordinate reach) c
 
 abbrev pub offset : Axis → ℤ → Result ℤ FrameFault
 offset axis o = limited axis Offset o

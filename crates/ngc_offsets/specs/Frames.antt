@@ -12,6 +12,7 @@ use Rattle.ngc_offsets.specs.declared.fault.Axis.{Axis}
 use Rattle.ngc_offsets.specs.declared.fault.Axis.TheVariants.{X, Y, Z}
 use Rattle.ngc_offsets.specs.declared.fault.FrameFault.{FrameFault}
 use Rattle.ngc_offsets.specs.declared.fault.FrameFault.TheVariants.{NoSuchTool}
+use Rattle.ngc_offsets.specs.declared.fault.CoordinateRange.{CoordinateRange}
 use Rattle.ngc_offsets.specs.declared.given.AxisLengths.{AxisLengths}
 use Rattle.ngc_offsets.specs.Offsets.{Offsets}
 use Rattle.ngc_offsets.specs.Ranges.{IsMachinePlace}
@@ -33,14 +34,15 @@ abbrev pub origin_of : Offsets → System → Point3
 origin_of f system = slice_index_or f.origins (index system) zero_point
 
 -- at the start the first system is active, and there is no offset
-abbrev pub start_frames : List Point3 → Offsets
-start_frames origins =
+abbrev pub start_frames : CoordinateRange → List Point3 → Offsets
+start_frames reach origins =
     record {
       origins = origins;
       active = First;
       axis_offset = zero_point;
       saved = zero_point;
       length = pos 0;
+      reach = reach;
     }
 
 -- the tool length offset is on Z
@@ -83,21 +85,22 @@ set_origin f system given = do
   Ok (record f { origins = slice_set f.origins (index system) origin })
 
 -- G92: the axis offset with which the machine place has the coordinate l on an axis
-abbrev pub left_over : Axis → ℤ → ℤ → ℤ → Result ℤ FrameFault
-left_over axis place base l = do
-  c ← coordinate axis l
+abbrev pub left_over : CoordinateRange → Axis → ℤ → ℤ → ℤ → Result ℤ FrameFault
+left_over reach axis place base l = do
+  c ← coordinate reach axis l
   offset axis (place -ℤ base -ℤ c)
 
-abbrev pub new_axis : Point3 → Point3 → Point3 → AxisLengths → Result Point3 FrameFault
-new_axis place base had given = do
-  x ← on_axis (left_over X place.x base.x) had.x given.x
-  y ← on_axis (left_over Y place.y base.y) had.y given.y
-  z ← on_axis (left_over Z place.z base.z) had.z given.z
+abbrev pub new_axis : CoordinateRange → Point3 → Point3 → Point3 → AxisLengths →
+    Result Point3 FrameFault
+new_axis reach place base had given = do
+  x ← on_axis (left_over reach X place.x base.x) had.x given.x
+  y ← on_axis (left_over reach Y place.y base.y) had.y given.y
+  z ← on_axis (left_over reach Z place.z base.z) had.z given.z
   Ok (record { x = x; y = y; z = z })
 
 abbrev pub set_axis : Offsets → Point3 → AxisLengths → Result Offsets FrameFault
 set_axis f place given = do
-  axis ← new_axis place (base_of f) f.axis_offset given
+  axis ← new_axis f.reach place (base_of f) f.axis_offset given
   Ok (record f { axis_offset = axis; saved = axis })
 
 -- G92.1, G92.2, G92.3

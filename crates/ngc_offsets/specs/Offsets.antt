@@ -2,6 +2,7 @@
 use Rattle.std.specs.Prelude.{ℤ, List}
 use Rattle.ngc_fixed_length.specs.declared.modes.System.{System}
 use Rattle.ngc_fixed_length.specs.declared.points.Point3.{Point3}
+use Rattle.ngc_offsets.specs.declared.fault.CoordinateRange.{CoordinateRange}
 
 pub record Offsets : Type 0 where
   -- one for each of the nine coordinate systems
@@ -12,3 +13,5 @@ pub record Offsets : Type 0 where
   pub saved : Point3
   -- the tool length offset, on Z
   pub length : ℤ
+  -- how far from zero programmed coordinates may be
+  pub reach : CoordinateRange

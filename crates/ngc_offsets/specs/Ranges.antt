@@ -4,10 +4,21 @@ use Rattle.ngc_fixed_length.specs.declared.points.Point3.{Point3}
 use Rattle.ngc_offsets.specs.Offsets.{Offsets}
 use Rattle.ngc_offsets.specs.declared.fault.Quantity.{Quantity}
 use Rattle.ngc_offsets.specs.declared.fault.Quantity.TheVariants.{Coordinate, Offset}
+use Rattle.ngc_offsets.specs.declared.fault.CoordinateRange.{CoordinateRange}
+use Rattle.ngc_offsets.specs.declared.fault.CoordinateRange.TheVariants.{Near, Far}
 
--- a programmed coordinate: at most a metre
+-- a programmed coordinate near zero: at most a metre
 abbrev pub COORDINATE_LIMIT : ℕ
 COORDINATE_LIMIT = 1000000000
+
+-- any programmed coordinate: at most four metres
+abbrev pub FAR_LIMIT : ℕ
+FAR_LIMIT = 4000000000
+
+-- the greatest size of a programmed coordinate
+abbrev pub coordinate_limit : CoordinateRange → ℕ
+coordinate_limit Near = COORDINATE_LIMIT
+coordinate_limit Far = FAR_LIMIT
 
 -- an origin, an axis offset or a tool length offset: at most four metres
 abbrev pub OFFSET_LIMIT : ℕ
@@ -15,7 +26,7 @@ OFFSET_LIMIT = 4000000000
 
 -- the greatest size of a length of this quantity
 abbrev pub limit_of : Quantity → ℕ
-limit_of Coordinate = COORDINATE_LIMIT
+limit_of (Coordinate reach) = coordinate_limit reach
 limit_of Offset = OFFSET_LIMIT
 
 -- the sum of an origin, an axis offset and a tool length offset
@@ -24,14 +35,14 @@ SHIFT_LIMIT = 12000000000
 
 -- the sum of a programmed coordinate and these three
 abbrev pub MACHINE_LIMIT : ℕ
-MACHINE_LIMIT = 13000000000
+MACHINE_LIMIT = 16000000000
 
 -- the sum of a machine coordinate and these three
 abbrev pub PROGRAMMED_LIMIT : ℕ
-PROGRAMMED_LIMIT = 25000000000
+PROGRAMMED_LIMIT = 28000000000
 
 abbrev pub IsCoordinate : ℤ → Type 0
-IsCoordinate c = unsigned_abs c ≤ COORDINATE_LIMIT
+IsCoordinate c = unsigned_abs c ≤ FAR_LIMIT
 
 abbrev pub IsOffset : ℤ → Type 0
 IsOffset o = unsigned_abs o ≤ OFFSET_LIMIT

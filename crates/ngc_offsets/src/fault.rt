@@ -1,6 +1,6 @@
 ghost use Rattle.std.specs.Prelude.{◌≡◌};
 
-use crate::range::{COORDINATE, OFFSET};
+use crate::range::{COORDINATE, FAR_COORDINATE, OFFSET};
 use thiserror::Error;
 
 /// An axis of the machine.
@@ -11,11 +11,34 @@ pub enum Axis {
     Z,
 }
 
+/// How far from zero a programmed coordinate may be.
+#[derive(Clone, Copy, Debug, PartialEq, Eq)]
+pub enum CoordinateRange {
+    /// At most 10^9 nm in size.
+    Near,
+    /// At most 4*10^9 nm in size.
+    Far,
+}
+
+impl CoordinateRange {
+    ghost use Rattle.ngc_offsets.specs.Ranges.{coordinate_limit};
+
+    /// Returns the greatest size of a programmed coordinate, in nanometres.
+    pub fn limit(self) -> u64
+        ensures { result ≡ coordinate_limit self }
+    {
+        match self {
+            CoordinateRange::Near => COORDINATE,
+            CoordinateRange::Far => FAR_COORDINATE,
+        }
+    }
+}
+
 /// What a length in a part program is, which decides its range.
 #[derive(Clone, Copy, Debug, PartialEq, Eq)]
 pub enum Quantity {
-    /// A programmed coordinate: at most 10^9 nm in size.
-    Coordinate,
+    /// A programmed coordinate: at most 10^9 nm in size, or 4*10^9 nm.
+    Coordinate(CoordinateRange),
     /// An origin or an offset: at most 4*10^9 nm in size.
     Offset,
 }
@@ -28,7 +51,7 @@ impl Quantity {
         ensures { result ≡ limit_of self }
     {
         match self {
-            Quantity::Coordinate => COORDINATE,
+            Quantity::Coordinate(reach) => reach.limit(),
             Quantity::Offset => OFFSET,
         }
     }

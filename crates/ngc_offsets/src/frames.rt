@@ -6,7 +6,7 @@ ghost use Rattle.ngc_offsets.specs.Faults.{Becomes, offset as offset_in};
 ghost use Rattle.ngc_offsets.specs.Frames.{index, on_axis, new_origin as origin_after};
 ghost use Rattle.ngc_offsets.specs.Frames.{new_axis as axis_after, left_over as left_over_of};
 
-use crate::fault::{Axis, FrameFault};
+use crate::fault::{Axis, CoordinateRange, FrameFault};
 use crate::given::{AxisLengths, named_point};
 use crate::range::{coordinate, minus, offset, plus};
 use ngc_fixed_length::{Distance, Nm, Point3, System};
@@ -14,7 +14,8 @@ use std::marker::Model;
 
 /// The origins and offsets that map programmed coordinates to machine coordinates: the origins of
 /// the nine coordinate systems, the active system, the axis offset in force, the one that G92
-/// saved, and the tool length offset, on Z. Each is at most 4*10^9 nm in size.
+/// saved, and the tool length offset, on Z. Each is at most 4*10^9 nm in size. `reach` is how far
+/// from zero programmed coordinates may be.
 #[derive(Clone, Copy)]
 pub struct Frames {
     pub origins: [Point3; 9],
@@ -22,6 +23,7 @@ pub struct Frames {
     pub axis_offset: Point3,
     pub saved: Point3,
     pub length: Nm,
+    pub reach: CoordinateRange,
 }
 
 impl Model for Frames {
@@ -36,6 +38,7 @@ impl Model for Frames {
       axis_offset = f.axis_offset;
       saved = f.saved;
       length = f.length;
+      reach = f.reach;
     } };
 
     ghost invariant = { λ f. AreInRange
@@ -45,6 +48,7 @@ impl Model for Frames {
           axis_offset = f.axis_offset;
           saved = f.saved;
           length = f.length;
+          reach = f.reach;
         }) };
 
     ghost inverse = { λ f. record {
@@ -53,6 +57,7 @@ impl Model for Frames {
       axis_offset = f.axis_offset;
       saved = f.saved;
       length = f.length;
+      reach = f.reach;
     } };
 }
 
@@ -109,29 +114,37 @@ fn new_coordinate(axis: Axis, had: Nm, given: Option<Nm>) -> Result<Nm, FrameFau
 // Returns the axis offset after G92. With it, the machine place has the coordinates `given`. A
 // missing coordinate stays.
 fn new_axis(
+    reach: CoordinateRange,
     place: &Point3,
     base: &Point3,
     had: &Point3,
     given: &AxisLengths,
 ) -> Result<Point3, FrameFault>
     requires { IsWithin OFFSET_LIMIT had.now }
-    ensures value { result ≡ axis_after place.now base.now had.now given.now }
+    ensures value { result ≡ axis_after reach place.now base.now had.now given.now }
     ensures range { IfOk result (IsWithin OFFSET_LIMIT) }
 {
-    let x = new_offset(Axis::X, place.x, base.x, had.x, given.x)?;
-    let y = new_offset(Axis::Y, place.y, base.y, had.y, given.y)?;
-    let z = new_offset(Axis::Z, place.z, base.z, had.z, given.z)?;
+    let x = new_offset(reach, Axis::X, place.x, base.x, had.x, given.x)?;
+    let y = new_offset(reach, Axis::Y, place.y, base.y, had.y, given.y)?;
+    let z = new_offset(reach, Axis::Z, place.z, base.z, had.z, given.z)?;
     Ok(Point3 { x, y, z })
 }
 
-fn new_offset(axis: Axis, place: Nm, base: Nm, had: Nm, given: Option<Nm>) -> Result<Nm, FrameFault>
+fn new_offset(
+    reach: CoordinateRange,
+    axis: Axis,
+    place: Nm,
+    base: Nm,
+    had: Nm,
+    given: Option<Nm>,
+) -> Result<Nm, FrameFault>
     requires { IsOffset had }
-    ensures value { result ≡ on_axis (left_over_of axis place base) had given }
+    ensures value { result ≡ on_axis (left_over_of reach axis place base) had given }
     ensures range { IfOk result IsOffset }
 {
     match given {
         None => Ok(had),
-        Some(length) => left_over(axis, place, base, length),
+        Some(length) => left_over(reach, axis, place, base, length),
     }
 }
 
@@ -144,11 +157,17 @@ fn excess(place: Nm, base: Nm, coordinate: Nm) -> i64
 }
 
 // Returns the axis offset with which a machine place has the coordinate `length`.
-fn left_over(axis: Axis, place: Nm, base: Nm, length: Nm) -> Result<Nm, FrameFault>
-    ensures value { result ≡ left_over_of axis place base length }
+fn left_over(
+    reach: CoordinateRange,
+    axis: Axis,
+    place: Nm,
+    base: Nm,
+    length: Nm,
+) -> Result<Nm, FrameFault>
+    ensures value { result ≡ left_over_of reach axis place base length }
     ensures range { IfOk result IsOffset }
 {
-    let coordinate = coordinate(axis, length.nanometres())?;
+    let coordinate = coordinate(reach, axis, length.nanometres())?;
     offset(axis, excess(place, base, coordinate))
 }
 
@@ -159,9 +178,9 @@ impl Frames {
     ghost use Rattle.ngc_offsets.specs.Given.{target};
 
     /// Returns the frames at a program's start: the first system is active, and there is no offset.
-    pub fn new(origins: &[Point3; 9]) -> Frames
+    pub fn new(origins: &[Point3; 9], reach: CoordinateRange) -> Frames
         requires { All (IsWithin OFFSET_LIMIT) origins.now }
-        ensures { result ≡ start_frames origins.now }
+        ensures { result ≡ start_frames reach origins.now }
     {
         let mut nine = [zero(); 9];
         nine.copy_from_slice(origins);
@@ -171,6 +190,7 @@ impl Frames {
             axis_offset: zero(),
             saved: zero(),
             length: Nm::zero(),
+            reach,
         }
     }
 
@@ -218,7 +238,7 @@ impl Frames {
 
     /// Returns the machine place to which a line's lengths lead, from the machine place where it
     /// begins. After G91 they are added to the programmed current point. Returns `BeyondRange` if a
-    /// programmed coordinate is over 10^9 nm in size. NISTIR 6556, 3.5.17.
+    /// programmed coordinate is farther than the reach. NISTIR 6556, 3.5.17.
     pub fn target(
         &self,
         distance: Distance,
@@ -230,7 +250,7 @@ impl Frames {
         ensures range { IfOk result IsMachinePlace }
     {
         let shift = self.shift();
-        let programmed = named_point(distance, &minus(&place, &shift), given)?;
+        let programmed = named_point(self.reach, distance, &minus(&place, &shift), given)?;
         Ok(plus(&programmed, &shift))
     }
 
@@ -246,13 +266,13 @@ impl Frames {
     }
 
     /// G92: sets the axis offset so that the machine place has the programmed coordinates,
-    /// and saves it. Returns `BeyondRange` if a coordinate is over 10^9 nm in size or an offset
-    /// over 4*10^9 nm; the frames are then unchanged. NISTIR 6556, 3.5.18.
+    /// and saves it. Returns `BeyondRange` if a coordinate is farther than the reach or an offset
+    /// over 4*10^9 nm in size; the frames are then unchanged. NISTIR 6556, 3.5.18.
     pub fn set_axis(&mut self, place: Point3, given: &AxisLengths) -> Result<(), FrameFault>
         ensures { Becomes result self.old self.new (set_axis self.old place given.now) }
     {
         let base = self.base();
-        let axis = new_axis(&place, &base, &self.axis_offset, given)?;
+        let axis = new_axis(self.reach, &place, &base, &self.axis_offset, given)?;
         self.axis_offset = axis;
         self.saved = self.axis_offset;
         Ok(())

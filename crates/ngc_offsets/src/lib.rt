@@ -7,7 +7,6 @@ mod frames;
 mod given;
 mod range;
 
-pub use fault::{Axis, FrameFault, Quantity};
+pub use fault::{Axis, CoordinateRange, FrameFault, Quantity};
 pub use frames::Frames;
 pub use given::{AxisLengths, machine_target};
-pub use range::COORDINATE;

@@ -4,11 +4,14 @@ ghost use Rattle.ngc_offsets.specs.Ranges.{IsCoordinate, IsOffset, limit_of};
 ghost use Rattle.ngc_offsets.specs.Faults.{limited as limited_to, coordinate as coordinate_in};
 ghost use Rattle.ngc_offsets.specs.Faults.{offset as offset_in};
 
-use crate::fault::{Axis, FrameFault, Quantity};
+use crate::fault::{Axis, CoordinateRange, FrameFault, Quantity};
 use ngc_fixed_length::{Nm, Point3};
 
-/// The greatest size of a programmed coordinate, in nanometres.
-pub const COORDINATE: u64 = 1_000_000_000;
+/// The greatest size of a programmed coordinate near zero, in nanometres.
+pub(crate) const COORDINATE: u64 = 1_000_000_000;
+
+/// The greatest size of any programmed coordinate, in nanometres.
+pub(crate) const FAR_COORDINATE: u64 = 4_000_000_000;
 
 /// The greatest size of an origin or an offset, in nanometres.
 pub(crate) const OFFSET: u64 = 4_000_000_000;
@@ -28,12 +31,16 @@ fn limited(axis: Axis, quantity: Quantity, at: i64) -> Result<Nm, FrameFault>
     }
 }
 
-/// Returns a programmed coordinate, or `BeyondRange` over 10^9 nm in size.
-pub(crate) fn coordinate(axis: Axis, nanometres: i64) -> Result<Nm, FrameFault>
-    ensures value { result ≡ coordinate_in axis nanometres }
+/// Returns a programmed coordinate, or `BeyondRange` where it is farther than the reach.
+pub(crate) fn coordinate(
+    reach: CoordinateRange,
+    axis: Axis,
+    nanometres: i64,
+) -> Result<Nm, FrameFault>
+    ensures value { result ≡ coordinate_in reach axis nanometres }
     ensures range { IfOk result IsCoordinate }
 {
-    limited(axis, Quantity::Coordinate, nanometres)
+    limited(axis, Quantity::Coordinate(reach), nanometres)
 }
 
 /// Returns an origin or an offset, or `BeyondRange` over 4*10^9 nm in size.

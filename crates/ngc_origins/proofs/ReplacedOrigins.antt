@@ -5,7 +5,7 @@ use Rattle.std.specs.List.{All}
 use Rattle.std.proofs.lemmas.List.{append_assoc, drop_more, drop-set-lt, take_more, take_more_set}
 use Rattle.std.proofs.lemmas.List.Elements.{All-cons, All-head, All-nil, All-tail}
 use Rattle.ngc_fixed_length.specs.declared.points.Point3.{Point3}
-use Rattle.ngc_machine_files.specs.Ranges.{IsSized, PLACE_LIMIT}
+use Rattle.ngc_machine_files.specs.Ranges.{IsSized, NEAR_LIMIT, PLACE_LIMIT}
 use Rattle.ngc_origins.specs.Placed.{replaced}
 use Rattle.ngc_origins.specs.Texts.{OriginList}
 
@@ -36,15 +36,19 @@ one_kept origins places now i o d within inside is given stored =
     ∙ append_assoc (take i places) (place ∷ []) rest
     ∙ ap (λ (r : List Point3). take i places ++ r) (sym (ap₂ replaced origin (drop_more places i d inside)))
 
-in_range : (o : Option Point3) (p : Point3) → IfSome o (IsSized PLACE_LIMIT) → IsSized PLACE_LIMIT p → IsSized PLACE_LIMIT (unwrap_or o p)
-in_range None p given sized = sized
-in_range (Some q) p given sized = given
+-- a place at most a metre from zero is in the range of a machine's origins
+farther : (p : Point3) → IsSized NEAR_LIMIT p → IsSized PLACE_LIMIT p
+farther p near = record { x = omega (arith, near.x); y = omega (arith, near.y); z = omega (arith, near.z) }
 
-pub replaced_sized : (origins : OriginList) (own : List Point3) → All (λ o. IfSome o (IsSized PLACE_LIMIT)) origins → All (IsSized PLACE_LIMIT) own
+in_range : (o : Option Point3) (p : Point3) → IfSome o (IsSized NEAR_LIMIT) → IsSized PLACE_LIMIT p → IsSized PLACE_LIMIT (unwrap_or o p)
+in_range None p given sized = sized
+in_range (Some q) p given sized = farther q given
+
+pub replaced_sized : (origins : OriginList) (own : List Point3) → All (λ o. IfSome o (IsSized NEAR_LIMIT)) origins → All (IsSized PLACE_LIMIT) own
     → All (IsSized PLACE_LIMIT) (replaced origins own)
 replaced_sized [] own given sized = sized
 replaced_sized (o ∷ origins) [] given sized = All-nil (IsSized PLACE_LIMIT)
 replaced_sized (o ∷ origins) (p ∷ own) given sized =
     All-cons (IsSized PLACE_LIMIT) _ _
-    (in_range o p (All-head (λ o. IfSome o (IsSized PLACE_LIMIT)) o origins given) (All-head (IsSized PLACE_LIMIT) p own sized))
-    (replaced_sized origins own (All-tail (λ o. IfSome o (IsSized PLACE_LIMIT)) o origins given) (All-tail (IsSized PLACE_LIMIT) p own sized))
+    (in_range o p (All-head (λ o. IfSome o (IsSized NEAR_LIMIT)) o origins given) (All-head (IsSized PLACE_LIMIT) p own sized))
+    (replaced_sized origins own (All-tail (λ o. IfSome o (IsSized NEAR_LIMIT)) o origins given) (All-tail (IsSized PLACE_LIMIT) p own sized))

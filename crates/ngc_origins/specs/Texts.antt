@@ -8,7 +8,7 @@ use Rattle.std.specs.Str.{bytes_eq}
 use Rattle.ngc_fixed_length.specs.declared.modes.System.{System}
 use Rattle.ngc_fixed_length.specs.declared.modes.System.TheVariants as systems
 use Rattle.ngc_fixed_length.specs.declared.points.Point3.{Point3}
-use Rattle.ngc_machine_files.specs.Ranges.{PLACE_LIMIT}
+use Rattle.ngc_machine_files.specs.Ranges.{NEAR_LIMIT}
 use Rattle.ngc_machine_maker.specs.Decimals.{number_in, three_texts}
 use Rattle.ngc_origins.specs.declared.reading.OriginMistake.{OriginMistake}
 use Rattle.ngc_origins.specs.declared.reading.OriginMistake.TheVariants.{NoSystem, NoPlace, Twice}
@@ -18,7 +18,7 @@ use Rattle.ngc_origins.specs.declared.reading.OriginMistake.TheVariants.{NoSyste
 -- a size of at most 1000 mm, with at most six decimals, in nanometres
 abbrev pub small : Option ℕ → Option ℕ
 small None = None
-small (Some n) = if nat_le n PLACE_LIMIT then Some n else None
+small (Some n) = if nat_le n NEAR_LIMIT then Some n else None
 
 abbrev pub size_in : List ℕ → Option ℕ
 size_in text = small (number_in 6 text)

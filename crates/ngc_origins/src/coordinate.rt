@@ -1,6 +1,6 @@
 //! The coordinates of an origin, in millimetres.
 ghost use Rattle.std.specs.Prelude.{◌≡◌, ◌≤◌, IfSome, unsigned_abs};
-ghost use Rattle.ngc_machine_files.specs.Ranges.{IsSized, PLACE_LIMIT};
+ghost use Rattle.ngc_machine_files.specs.Ranges.{IsSized, NEAR_LIMIT};
 ghost use Rattle.ngc_origins.specs.Texts as spec;
 
 use ngc_fixed_length::{Nm, Point3};
@@ -59,7 +59,7 @@ fn coordinate_in(text: &[u8]) -> Option<Nm>
 /// Returns the place that a text writes as X, Y and Z in millimetres, separated by commas.
 pub(crate) fn place_in(text: &[u8]) -> Option<Point3>
     ensures value { result ≡ spec.place_in text.now }
-    ensures range { IfSome result (IsSized PLACE_LIMIT) }
+    ensures range { IfSome result (IsSized NEAR_LIMIT) }
 {
     let (x, y, z) = split_three(text);
     match (coordinate_in(x), coordinate_in(y), coordinate_in(z)) {

@@ -1,7 +1,7 @@
 ghost use Rattle.std.specs.Prelude.{◌≡◌, ◌<◌, Some, length, slice_get, slice_set};
 ghost use Rattle.std.specs.List.{All};
 ghost use Rattle.ngc_machine_files.specs.Machine.{file_of};
-ghost use Rattle.ngc_machine_files.specs.Ranges.{IsSized, PLACE_LIMIT};
+ghost use Rattle.ngc_machine_files.specs.Ranges.{IsSized, NEAR_LIMIT};
 ghost use Rattle.ngc_origins.specs.Placed.{placed, replaced};
 ghost use Rattle.ngc_origins.specs.Texts.{is_given, no_origins, position_of, replaces};
 
@@ -104,7 +104,7 @@ impl Origins {
     // Returns these origins with one more.
     pub(crate) fn with_origin(self, system: usize, place: Point3) -> Origins
         requires system { system < 9 }
-        requires place { IsSized PLACE_LIMIT place }
+        requires place { IsSized NEAR_LIMIT place }
         ensures { result ≡ slice_set self system (Some place) }
     {
         let mut systems = self.systems;

@@ -23,6 +23,7 @@ pub fn report_options(all: bool, json: bool) -> Options<'static>
         all,
         json,
         changes: Changes::none(),
+        cells: None,
         dialect: None,
     })
 }

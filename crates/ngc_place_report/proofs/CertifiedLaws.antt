@@ -8,7 +8,8 @@ use Rattle.ngc_fixed_length.specs.Boxes.{IsIn}
 use Rattle.ngc_fixed_length.specs.Length.{IsStep}
 use Rattle.ngc_fixed_length.specs.declared.modes.System.{System}
 use Rattle.ngc_machine_files.specs.Machine.{MachineFile}
-use Rattle.ngc_machine_files.specs.Ranges.{PLACE_LIMIT}
+use Rattle.ngc_machine_files.specs.MachineRanges.{takes_far}
+use Rattle.ngc_machine_files.specs.Ranges.{place_limit}
 use Rattle.ngc_job.specs.Job.{JobData}
 use Rattle.ngc_place.specs.Longest.{IsGrown, IsNearest, first_side, fit_at, hold_over, shifts_of, tried}
 use Rattle.ngc_place.specs.Shifts.{along, shifts_along}
@@ -42,10 +43,10 @@ ordered from to true i test is =
     let same = ap (λ o. unwrap_or o i) is in (ap (λ (j : Interval). j.from) same, ap (λ (j : Interval). j.to) same, omega (arith, ints, test))
 ordered from to false i test is = let bad : ⊥ = cc in absurd bad
 
-part_within : (step z : ℤ) (w i : Interval) → Some i ≡ in_range step z w → (w.from ≤ℤ i.from) × (i.from ≤ℤ i.to) × (i.to ≤ℤ w.to)
-part_within step z w i is =
-    let low = pos 0 -ℤ whole_steps step (pos PLACE_LIMIT +ℤ z) in
-    let high = whole_steps step (pos PLACE_LIMIT -ℤ z) in
+part_within : (far : Bool) (step z : ℤ) (w i : Interval) → Some i ≡ in_range far step z w → (w.from ≤ℤ i.from) × (i.from ≤ℤ i.to) × (i.to ≤ℤ w.to)
+part_within far step z w i is =
+    let low = pos 0 -ℤ whole_steps step (pos (place_limit far) +ℤ z) in
+    let high = whole_steps step (pos (place_limit far) -ℤ z) in
     let (from, to, order) = ordered (int_max w.from low) (int_min w.to high) _ i refl is in (
       omega (arith, ints, from, int_max_is w.from low),
       omega (arith, ints, from, to, order),
@@ -55,11 +56,11 @@ part_within step z w i is =
 -- the programs hold over an interval that is reported
 along_holds : (j : JobData) (system : System) (axis : Axis) (most : ℕ) (off on : Marked) (i : Interval) (whole : Option Interval) → IsStep j.machine.step →
     1 ≤ most → most ≤ 65535 → IsNearest j.machine most axis (off ∷ on ∷ []) whole →
-    Some i ≡ part_in_range j.machine.step (coordinate axis (origin_in j.machine system)) whole → (i.from ≤ℤ i.to)
+    Some i ≡ part_in_range (takes_far j.machine (origin_in j.machine system)) j.machine.step (coordinate axis (origin_in j.machine system)) whole → (i.from ≤ℤ i.to)
     × IsTrue (hold_over j.machine most axis (off ∷ on ∷ []) i)
 along_holds j system axis most off on i None step least greatest nearest is = let bad : ⊥ = cc in absurd bad
 along_holds j system axis most off on i (Some w) step least greatest nearest is =
-    let (low, order, high) = part_within j.machine.step (coordinate axis (origin_in j.machine system)) w i is in
+    let (low, order, high) = part_within (takes_far j.machine (origin_in j.machine system)) j.machine.step (coordinate axis (origin_in j.machine system)) w i is in
     let found = find (fit_at j.machine most axis (off ∷ on ∷ [])) tried in (
       order,
       hold_within j.machine most axis (off ∷ on ∷ []) w i step least greatest low order high

@@ -9,6 +9,7 @@ use Rattle.ngc_place.specs.declared.axis.Axis.{Axis}
 use Rattle.ngc_place.specs.declared.axis.Axis.TheVariants.{X, Y, Z}
 use Rattle.ngc_place.specs.declared.interval.Interval.{Interval}
 use Rattle.ngc_place.specs.declared.programs.Program.{Program as Marked}
+use Rattle.ngc_machine_files.specs.MachineRanges.{takes_far}
 use Rattle.ngc_shifted_program.specs.Origins.{origin_in}
 use Rattle.ngc_shifted_program.specs.Executions.{Execution}
 use Rattle.ngc_shifted_program.specs.Shifted.{MoveAt}
@@ -30,7 +31,8 @@ abbrev pub IsIntervalAlong : JobData → System → Axis → ℕ → Marked → 
     Type 0
 IsIntervalAlong j system axis most off on found =
     (whole : Option Interval) × IsNearest j.machine most axis (off ∷ on ∷ []) whole
-    × (found ≡ part_in_range j.machine.step (coordinate axis (origin_in j.machine system)) whole)
+    × (found ≡ part_in_range (takes_far j.machine (origin_in j.machine system)) j.machine.step
+    (coordinate axis (origin_in j.machine system)) whole)
 
 -- the commands move at both ends of an interval as their marks state, or not
 abbrev pub MoveAtEnds : Execution → JobData → System → Axis → Marked → Marked → Interval → Bool →

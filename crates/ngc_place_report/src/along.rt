@@ -7,7 +7,7 @@ ghost use Rattle.ngc_place_report.specs.Findings as spec;
 ghost use Rattle.ngc_place_report.specs.Same.{AreSame};
 
 use crate::placement::{AlongAxis, Finding, Here, Placement};
-use crate::range::{in_range, origin_along};
+use crate::range::{in_range, origin_along, takes_far};
 use crate::staying::staying;
 use ngc_fixed_length::{StepPos, System};
 use ngc_job::Job;
@@ -89,7 +89,12 @@ fn interval_along<A: Allocator>(
         Some(interval) => interval,
         None => return None,
     };
-    in_range(machine.step, origin_along(machine, system, axis), interval)
+    in_range(
+        takes_far(machine, system),
+        machine.step,
+        origin_along(machine, system, axis),
+        interval,
+    )
 }
 
 /// Returns whether the commands move at both ends of an interval as their marks state.

@@ -9,6 +9,7 @@ use Rattle.ngc_machine_files.specs.declared.tools.Tool.{Tool}
 use Rattle.ngc_report.specs.Forms.{closing}
 use Rattle.ngc_report.specs.declared.form.Form.{Form}
 use Rattle.ngc_program_report.specs.Coordinates.{History}
+use Rattle.ngc_file_figures.specs.Files.{FigureValues}
 use Rattle.ngc_program_report.specs.Reported.{ReportedLines}
 use Rattle.ngc_program_report.specs.Texts.{Findings, setting_text, shop_text}
 
@@ -21,7 +22,7 @@ setting_as form origins first named s entries found h lines machine own tools he
     ap₂ (λ (m : MachineFile) (ts : List Tool). setting_text form origins first named s (record { machine = m; tools = ts }) commands entries found h lines) is has
     ∙ ap (λ (cs : List Command). setting_text form origins first named s (record { machine = own; tools = held }) cs entries found h lines) are
 
-pub shop_as : (form : Form) (machine own : MachineFile) (tools given : List Tool) → machine ≡ own → tools ≡ given
-    → shop_text form (record { machine = machine; tools = tools }) ++ closing form ≡ shop_text form (record { machine = own; tools = given }) ++ closing form
-shop_as form machine own tools given is are =
-    ap₂ (λ (m : MachineFile) (ts : List Tool). shop_text form (record { machine = m; tools = ts }) ++ closing form) is are
+pub shop_as : (form : Form) (figures : FigureValues) (machine own : MachineFile) (tools given : List Tool) → machine ≡ own → tools ≡ given
+    → shop_text form (record { machine = machine; tools = tools }) figures ++ closing form ≡ shop_text form (record { machine = own; tools = given }) figures ++ closing form
+shop_as form figures machine own tools given is are =
+    ap₂ (λ (m : MachineFile) (ts : List Tool). shop_text form (record { machine = m; tools = ts }) figures ++ closing form) is are

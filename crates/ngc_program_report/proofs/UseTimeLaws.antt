@@ -10,7 +10,7 @@ use Rattle.ngc_machine_files.specs.declared.tools.Tool.{Tool}
 use Rattle.ngc_report.specs.Words.{tool_text}
 use Rattle.ngc_report.specs.declared.form.Form.{Form}
 use Rattle.ngc_report.specs.declared.form.Form.TheVariants.{Words, Json}
-use Rattle.ngc_report.specs.declared.uses.ToolUse.{ToolUse}
+use Rattle.ngc_findings.specs.declared.uses.ToolUse.{ToolUse}
 use Rattle.ngc_program_report.specs.Times.{tool_value, use_time, use_times}
 use Rattle.ngc_sentences.proofs.Said.{says_as}
 use Rattle.ngc_sentences.specs.Parts.{clock_text, three_digits}

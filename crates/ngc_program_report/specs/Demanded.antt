@@ -14,11 +14,11 @@ use Rattle.ngc_commands.specs.declared.command.Action.{Action}
 use Rattle.ngc_commands.specs.declared.command.Action.TheVariants.{Move, Mount}
 use Rattle.ngc_commands.specs.declared.command.Command.{Command}
 use Rattle.ngc_certificate.specs.Traverses.{takes_any_way}
-use Rattle.ngc_report.specs.Extents.{reach}
-use Rattle.ngc_report.specs.Shifts.{shifts_past}
+use Rattle.ngc_findings.specs.Extents.{reach}
+use Rattle.ngc_findings.specs.Shifts.{shifts_past}
 use Rattle.ngc_report.specs.declared.form.Form.{Form}
 use Rattle.ngc_report.specs.declared.form.Form.TheVariants.{Words, Json}
-use Rattle.ngc_report.specs.declared.shifts.Shifts.{Shifts}
+use Rattle.ngc_findings.specs.declared.shifts.Shifts.{Shifts}
 use Rattle.ngc_text.specs.Millimetres.{mm_text, size_text}
 use Rattle.ngc_program_report.specs.declared.demanded.Swept.{Swept}
 

@@ -6,6 +6,7 @@ use Rattle.ngc_margins.specs.Lines.{kept_by, kept_facts, kept_words, nothing_kep
 use Rattle.ngc_margins.specs.declared.report_lines.Kept.{Kept}
 use Rattle.ngc_origins.specs.Lines.{origins_facts, origins_words}
 use Rattle.ngc_origins.specs.Texts.{OriginList, replaces}
+use Rattle.ngc_file_figures.specs.Files.{FigureValues, speeds_of}
 use Rattle.ngc_fixed_length.specs.Grid.{grid}
 use Rattle.ngc_line_reader.specs.Program.{Line}
 use Rattle.ngc_machine_files.specs.Machine.{MachineFile}
@@ -31,11 +32,12 @@ use Rattle.ngc_report.specs.Forms.{closing, opening, report_text}
 use Rattle.ngc_report.specs.Marks.{named_line}
 use Rattle.ngc_report.specs.Quotes.{quoted}
 use Rattle.ngc_report.specs.Reports.{fit_lines, refusal_lines, refusals_head, scene_lines}
-use Rattle.ngc_report.specs.Scenes.{scene_at}
-use Rattle.ngc_report.specs.Warnings.{warning_lines}
+use Rattle.ngc_findings.specs.Scenes.{scene_at}
+use Rattle.ngc_findings.specs.Warnings.{warning_lines}
 use Rattle.ngc_report.specs.declared.form.Form.{Form}
 use Rattle.ngc_report.specs.declared.form.Form.TheVariants.{Words, Json}
 use Rattle.ngc_length_warnings.specs.Spelling.{length_warnings}
+use Rattle.ngc_limit_warnings.specs.Spelling.{limit_warnings}
 use Rattle.ngc_word_warnings.specs.Spelling.{word_warnings}
 use Rattle.ngc_lowest_tips.specs.Texts.{tips_text}
 use Rattle.ngc_lowest_tips.specs.Tips.{lowest_tips}
@@ -70,10 +72,12 @@ pub record Findings : Type 0 where
 abbrev pub findings : ProgramTimeData → Option WalkData → Findings
 findings time material = record { time = time; material = material }
 
--- a machine runs these commands in this time, and a walk over them finds these traverses
-pub record AreFindings (machine : MachineFile) (commands : List Command) (f : Findings) : Type 0 where
+-- a machine runs these commands in this time, and a walk over them, with at most `cells` cells, finds these
+-- traverses
+pub record AreFindings (cells : ℕ) (machine : MachineFile) (commands : List Command) (f : Findings) :
+    Type 0 where
   pub lasts : LastsFor machine commands f.time
-  pub walked : IsWalked machine commands f.material
+  pub walked : IsWalked cells machine commands f.material
 
 -- the line with the time
 abbrev pub takes_words : RunTime → List ℕ
@@ -143,14 +147,15 @@ language_warnings form deletes setup h commands None notes =
     length_warnings form setup.machine h.start h.changes commands
     ++ notes_text form (notes_at deletes notes)
 
--- the warnings at a setting: for the commands there, for tool changes, for the words of the
--- program's lines, and for the origins from which it moves
+-- the warnings at a setting: for the commands there, for tool changes, for the limits of the tools, for
+-- the words of the program's lines, and for the origins from which it moves
 abbrev pub warnings : Form → Setting → Setup → History → List Command → ReportedLines → List ℕ
 warnings form s setup h commands lines =
-    report_text form (warning_lines setup.machine commands)
+    report_text form (warning_lines setup.machine (speeds_of lines.figures.machine) commands)
     ++ (tool_warnings form setup.machine commands
+    ++ (limit_warnings form lines.figures.tools commands
     ++ (language_warnings form (is_on s) setup h commands lines.examined lines.notes
-    ++ origin_warnings form setup.machine setup.tools h.start h.changes commands))
+    ++ origin_warnings form setup.machine setup.tools h.start h.changes commands)))
 
 -- the lowest heights at a setting, and the warnings
 abbrev pub remarks : Form → Setting → Setup → History → List Command → ReportedLines → List ℕ
@@ -170,9 +175,9 @@ setting_text form origins first named s setup commands motions found h lines =
     ++ material_text form setup.machine setup.tools commands found.material)))
 
 -- the warnings about the machine and its tools
-abbrev pub shop_text : Form → Setup → List ℕ
-shop_text Words setup = warnings_text setup.machine setup.tools
-shop_text Json setup = warning_facts setup.machine setup.tools
+abbrev pub shop_text : Form → Setup → FigureValues → List ℕ
+shop_text Words setup figures = warnings_text setup.machine figures setup.tools
+shop_text Json setup figures = warning_facts setup.machine figures setup.tools
 
 -- the text for both settings, or once if they have the same commands; and the warnings about
 -- machine and tools
@@ -180,11 +185,11 @@ abbrev pub fits_text : Form → OriginList → Bool → Setup → List Command �
     CertificateData → Findings → Findings → History → History → ReportedLines → List ℕ
 fits_text form origins false setup off on c off_found on_found off_h on_h lines =
     setting_text form origins true false Off setup off c.off off_found off_h lines
-    ++ (shop_text form setup ++ closing form)
+    ++ (shop_text form setup lines.figures ++ closing form)
 fits_text form origins true setup off on c off_found on_found off_h on_h lines =
     setting_text form origins true true Off setup off c.off off_found off_h lines
     ++ (setting_text form origins false true On setup on c.on on_found on_h lines
-    ++ (shop_text form setup ++ closing form))
+    ++ (shop_text form setup lines.figures ++ closing form))
 
 -- the text for an accepted program
 abbrev pub accepted_text : Form → OriginList → Bool → AcceptedData → CertificateData →
@@ -239,7 +244,7 @@ missing_at form origins machine commands h (Some k) =
 -- the warnings at a setting, those about the machine and its tools, and the end
 abbrev pub refusal_end : Form → Setting → Setup → History → List Command → ReportedLines → List ℕ
 refusal_end form s setup h commands lines =
-    warnings form s setup h commands lines ++ (shop_text form setup ++ ending form 304)
+    warnings form s setup h commands lines ++ (shop_text form setup lines.figures ++ ending form 304)
 
 -- the obstacle of a command, what it lacks of a margin, its program line, and its coordinates in the
 -- program
@@ -307,11 +312,11 @@ abbrev pub refusals_text : Form → OriginList → Bool → Setup → List Comma
     History → History → List ℕ → List ℕ → ReportedLines → List ℕ
 refusals_text form origins false setup off on off_h on_h off_ks on_ks lines =
     setting_refusals form origins true false Off setup off off_h off_ks lines
-    ++ (shop_text form setup ++ ending form 304)
+    ++ (shop_text form setup lines.figures ++ ending form 304)
 refusals_text form origins true setup off on off_h on_h off_ks on_ks lines =
     setting_refusals form origins true true Off setup off off_h off_ks lines
     ++ (setting_refusals form origins false true On setup on on_h on_ks lines
-    ++ (shop_text form setup ++ ending form 304))
+    ++ (shop_text form setup lines.figures ++ ending form 304))
 
 -- the line for a program that is refused
 abbrev pub refused_line : Form → List ℕ

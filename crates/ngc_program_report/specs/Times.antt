@@ -3,12 +3,12 @@ use Rattle.std.specs.Prelude.{ℕ, ◌*◌, ◌/◌, ◌%◌, List, [], ◌∷�
 use Rattle.std.specs.Prelude.{None, Some, if◌then◌else◌}
 use Rattle.ngc_commands.specs.declared.command.Command.{Command}
 use Rattle.ngc_machine_files.specs.declared.tools.Tool.{Tool}
-use Rattle.ngc_report.specs.Uses.{moves, tool_uses, use_of}
+use Rattle.ngc_findings.specs.Uses.{moves, tool_uses, use_of}
 use Rattle.ngc_report.specs.Words.{tool_text}
 use Rattle.ngc_report.specs.declared.form.Form.{Form}
 use Rattle.ngc_report.specs.declared.form.Form.TheVariants.{Words, Json}
 use Rattle.ngc_sentences.specs.Parts.{clock_text, three_digits}
-use Rattle.ngc_report.specs.declared.uses.ToolUse.{ToolUse}
+use Rattle.ngc_findings.specs.declared.uses.ToolUse.{ToolUse}
 use Rattle.ngc_program_report.specs.declared.run_time.RunTime.{RunTime}
 
 -- the whole seconds of this number of ticks, and the whole thousandths of the rest

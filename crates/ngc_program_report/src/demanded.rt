@@ -8,9 +8,10 @@ ghost use Rattle.ngc_sentences.specs.Saying.{Says};
 
 use ngc_certificate::takes_any_way;
 use ngc_commands::{Action, Command, Reached};
+use ngc_findings::{Shifts, reach};
 use ngc_fixed_length::{GridBox, Nm};
 use ngc_machine_files::{Fixture, Machine, Tool};
-use ngc_report::{Form, Shifts, reach};
+use ngc_report::Form;
 use ngc_sentences::{Page, Part, say};
 use ngc_text::{Sink, WriteFault};
 use std::alloc::Allocator;

@@ -19,7 +19,7 @@ ghost use Rattle.ngc_program_report.specs.Writing.{Writes};
 use crate::program_time::ProgramTime;
 use crate::report_frame::{closing, write_heading};
 use crate::report_time::say_takes_line;
-use crate::reported::{OtherText, ReportedText};
+use crate::reported::{OtherText, ReportedText, figures_of, limits_in, speeds_in};
 use crate::subject::{Execution, Fit, Heading, Subject};
 use crate::use_times::say_use_times;
 use ngc_certificate::Setting;
@@ -29,6 +29,7 @@ use ngc_commands::Command;
 use ngc_dialect_note_texts::write_notes;
 use ngc_dialect_notes::Notes;
 use ngc_length_warnings::write_length_warnings;
+use ngc_limit_warnings::write_limit_warnings;
 use ngc_lowest_tips::{LowestTip, write_lowest_tips};
 use ngc_machine_files::Tools;
 use ngc_origin_warnings::write_origin_warnings;
@@ -150,7 +151,7 @@ fn write_words<A: Allocator, W: Sink>(
     let (form, machine, table) = (subject.form, subject.machine, subject.tools.tools());
     let commands = execution.commands;
     match subject.text {
-        ReportedText::Own(program) => {
+        ReportedText::Own(program, _) => {
             write_word_warnings(form, deletes, program, machine, table, commands, output)
         }
         ReportedText::Other(other) => {
@@ -175,8 +176,11 @@ pub(crate) fn write_setting_warnings<A: Allocator, W: Sink>(
 {
     let (form, machine, table) = (subject.form, subject.machine, subject.tools.tools());
     let commands = execution.commands;
-    write_warnings(form, machine, commands, output)?;
+    let speeds = speeds_in(subject.text);
+    let limits = limits_in(subject.text);
+    write_warnings(form, machine, speeds, commands, output)?;
     write_tool_warnings(form, machine, commands, output)?;
+    write_limit_warnings(form, limits, commands, output)?;
     write_words(subject, is_on(setting), execution, output)?;
     write_origin_warnings(form, machine, table, execution.history, commands, output)
 }
@@ -265,11 +269,14 @@ pub(crate) fn write_shop<A: Allocator, W: Sink>(
 ) -> Result<(), WriteFault>
     ensures { Writes (W.written output.old) (W.written output.new) (W.failures output.old)
         (W.failures output.new) result
-        (shop_text subject.now.form (setup_of subject.now.machine.now subject.now.tools.now)) }
+        (shop_text subject.now.form (setup_of subject.now.machine.now subject.now.tools.now)
+        (reported subject.now.text.now).figures) }
 {
+    let figures = figures_of(subject.text);
+    let tools = subject.tools.tools();
     match subject.form {
-        Form::Words => write_shop_warnings(subject.machine, subject.tools.tools(), output),
-        Form::Json => write_warning_facts(subject.machine, subject.tools.tools(), output),
+        Form::Words => write_shop_warnings(subject.machine, &figures, tools, output),
+        Form::Json => write_warning_facts(subject.machine, &figures, tools, output),
     }
 }
 
@@ -282,6 +289,7 @@ fn write_fit_end<A: Allocator, W: Sink>(
     ensures { Writes (W.written output.old) (W.written output.new) (W.failures output.old)
         (W.failures output.new) result
         (shop_text subject.now.form (setup_of subject.now.machine.now subject.now.tools.now)
+        (reported subject.now.text.now).figures
         ++ closing subject.now.form) }
 {
     write_shop(subject, output)?;

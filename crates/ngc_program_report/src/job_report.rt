@@ -36,8 +36,7 @@ use ngc_commands::Command;
 use ngc_frames::FrameHistory;
 use ngc_job::Job;
 use ngc_lowest_tips::{LowestTip, lowest_tips};
-use ngc_origins::Origins;
-use ngc_report::{Form, ReportFault};
+use ngc_report::ReportFault;
 use ngc_stock_report::{Walk, find_walk};
 use ngc_text::{Sink, WriteFault};
 use std::alloc::Allocator;
@@ -80,17 +79,19 @@ fn tips_at<A: Allocator + Copy>(
 }
 
 // Returns which traverses of an accepted program may touch material, at a setting of block delete, or
-// 900 if memory runs out.
+// 900 if memory runs out. The material is divided into at most `cells` cells.
 fn material_at<A: Allocator + Copy>(
     alloc: A,
+    cells: u32,
     accepted: &Accepted<A>,
     block_delete: bool,
 ) -> Result<Option<Walk<A>>, ReportFault>
     ensures walked { IfOk result
-        (IsWalked accepted.now.machine (commands_at block_delete accepted.now)) }
+        (IsWalked cells accepted.now.machine (commands_at block_delete accepted.now)) }
     ensures memory { IfErr result (λ fault. fault ≡ ReportFault.Memory) }
 {
-    match find_walk(alloc, accepted.machine(), accepted.commands(block_delete)) {
+    let commands = accepted.commands(block_delete);
+    match find_walk(alloc, cells, accepted.machine(), commands) {
         Ok(walk) => Ok(walk),
         Err(_) => Err(ReportFault::Memory),
     }
@@ -99,18 +100,18 @@ fn material_at<A: Allocator + Copy>(
 /// Writes the report of a job with plans of its motions: its extent and margins, the use of each
 /// tool, the time, the figures of each tool that feeds, the lowest heights, the warnings about its
 /// commands, the words of the program and the origins from which it moves, and which straight
-/// traverses may touch the material of the machine. The plans are those of
-/// the job's commands, and their motions are valid for it. `text` is the text of the job's program.
+/// traverses may touch the material of the machine, which is divided into at most `request.cells`
+/// cells. The plans are those of the job's commands, and their motions are valid for it. `text` is the
+/// text of the job's program. Of the request, the form, the origins and the cells are used.
 ///
-/// Nothing is written before the time and the lowest heights are computed, and nothing if memory
-/// runs out (900). If a write fails (902), a prefix is written.
+/// Nothing is written before the time, the lowest heights and the traverses are found, and nothing if
+/// memory runs out (900). If a write fails (902), a prefix is written.
 pub fn report_fit<A: Allocator + Copy, W: Sink>(
     alloc: A,
     text: &ReportedText<'_, A>,
     framed: FramedJob<A>,
     plans: &Plans<A>,
-    form: Form,
-    origins: &Origins,
+    request: &ReportRequest<'_>,
     output: &mut W,
 ) -> Result<(), ReportFault>
     requires off_are { AreEntries
@@ -128,17 +129,18 @@ pub fn report_fit<A: Allocator + Copy, W: Sink>(
     ensures tells { Prints
         (IsFitText (framed_in framed)
         (both_planned framed.job.machine.step framed.job.off (commands_in true framed.job)
-        plans.now) form origins.now (reported text.now))
+        plans.now) request.now.form request.now.origins request.now.cells (reported text.now))
         (W.written output.old) (W.written output.new) result }
     ensures counts { FailsByWriting result (W.failures output.old) (W.failures output.new) }
 {
     let FramedJob { job, off, on } = framed;
+    let (form, origins, cells) = (request.form, &request.origins, request.cells);
     let apart = job.has_deleted_lines();
     let accepted = accept(job, plans);
     let (off_time, accepted) = time_of(alloc, accepted, false)?;
     if !apart {
         let tips = tips_at(alloc, &off, &accepted, false)?;
-        let material = material_at(alloc, &accepted, false)?;
+        let material = material_at(alloc, cells, &accepted, false)?;
         let motions = motions_at(&accepted, plans, Setting::Off);
         let fit = Fit {
             history: &off,
@@ -153,8 +155,8 @@ pub fn report_fit<A: Allocator + Copy, W: Sink>(
     let on_history = frames_or(&off, &on);
     let off_tips = tips_at(alloc, &off, &accepted, false)?;
     let on_tips = tips_at(alloc, on_history, &accepted, true)?;
-    let off_material = material_at(alloc, &accepted, false)?;
-    let on_material = material_at(alloc, &accepted, true)?;
+    let off_material = material_at(alloc, cells, &accepted, false)?;
+    let on_material = material_at(alloc, cells, &accepted, true)?;
     let off_motions = motions_at(&accepted, plans, Setting::Off);
     let on_motions = motions_at(&accepted, plans, Setting::On);
     let off_fit = Fit {
@@ -190,7 +192,7 @@ fn report_first<A: Allocator, W: Sink>(
     setting: Setting,
     command: u32,
     history: &FrameHistory<A>,
-    request: &ReportRequest,
+    request: &ReportRequest<'_>,
     output: &mut W,
 ) -> Result<(), WriteFault>
     ensures { Writes (W.written output.old) (W.written output.new) (W.failures output.old)
@@ -272,7 +274,7 @@ fn report_all<A: Allocator + Copy, W: Sink>(
     framed: &FramedJob<A>,
     setting: Setting,
     command: u32,
-    request: ReportRequest,
+    request: ReportRequest<'_>,
     output: &mut W,
 ) -> Result<(), ReportFault>
     requires made { IsMade framed.now.job.machine request.cuts framed.now.job.off
@@ -329,7 +331,7 @@ pub fn report_refusal<A: Allocator + Copy, W: Sink>(
     framed: &FramedJob<A>,
     setting: Setting,
     command: u32,
-    request: ReportRequest,
+    request: ReportRequest<'_>,
     output: &mut W,
 ) -> Result<(), ReportFault>
     requires made { IsMade framed.now.job.machine request.cuts framed.now.job.off

@@ -14,7 +14,7 @@ ghost use Rattle.ngc_frames.specs.Walks.{WalksOver};
 ghost use Rattle.ngc_refused_values.specs.Texts.{value_line};
 ghost use Rattle.ngc_report.specs.Marks.{named_line};
 ghost use Rattle.ngc_report.specs.Quotes.{quoted};
-ghost use Rattle.ngc_report.specs.Scenes.{StandsAfter};
+ghost use Rattle.ngc_findings.specs.Scenes.{StandsAfter};
 ghost use Rattle.ngc_program_report.specs.Coordinates.{coordinates_text, history_of};
 ghost use Rattle.ngc_program_report.specs.Reported.{reported};
 ghost use Rattle.ngc_program_report.specs.Texts.{all_refusals, cause_text, command_refusal};
@@ -35,6 +35,7 @@ use crate::subject::{Execution, Heading, Subject};
 use ngc_canonical::Fault;
 use ngc_certificate::{Setting, place_fault};
 use ngc_commands::{Command, Way};
+use ngc_findings::Standing;
 use ngc_frames::{FrameInForce, FrameWalk};
 use ngc_line_reader::Program;
 use ngc_machine_files::Machine;
@@ -42,8 +43,8 @@ use ngc_origin_warnings::write_missing_origin;
 use ngc_origins::Origins;
 use ngc_refused_values::write_values;
 use ngc_report::{
-    Form, Standing, collect_refusals_head, collect_refused_command, write_line, write_named,
-    write_refusal, write_text_line,
+    Form, collect_refusals_head, collect_refused_command, write_line, write_named, write_refusal,
+    write_text_line,
 };
 use ngc_text::{Chunk, Sink, WriteFault, write_all};
 use std::alloc::Allocator;
@@ -84,7 +85,7 @@ fn write_quoted<A: Allocator, W: Sink>(
         (W.failures output.new) result (quoted form number (reported text.now).quoted) }
 {
     match text {
-        ReportedText::Own(program) => write_line(form, program, number, output),
+        ReportedText::Own(program, _) => write_line(form, program, number, output),
         ReportedText::Other(other) => write_text_line(form, other.text, number, output),
     }
 }
@@ -212,6 +213,7 @@ fn write_misfit_end<A: Allocator, W: Sink>(
     ensures { Writes (W.written output.old) (W.written output.new) (W.failures output.old)
         (W.failures output.new) result
         (shop_text subject.now.form (setup_of subject.now.machine.now subject.now.tools.now)
+        (reported subject.now.text.now).figures
         ++ ending subject.now.form 304) }
 {
     write_shop(subject, output)?;

@@ -1,7 +1,7 @@
 -- Two quantities with "to" between them, and three with commas. If an earlier one has no unit, the
 -- unit of the last one counts. Our own.
-use Rattle.std.specs.Prelude.{ℕ, nat_eq, int_lt, ◌+◌, List, take, drop, codes, Some, None, Result, Ok}
-use Rattle.std.specs.Prelude.{if◌then◌else◌}
+use Rattle.std.specs.Prelude.{ℕ, nat_eq, pos, int_lt, ◌+◌, List, take, drop, codes, Some, None, Result, Ok}
+use Rattle.std.specs.Prelude.{Bool, if◌then◌else◌}
 use Rattle.std.specs.List.{starts_with}
 use Rattle.ngc_quantities.specs.declared.fault.Cause.TheVariants as causes
 use Rattle.ngc_quantities.specs.declared.fault.Fault.{Fault}
@@ -45,6 +45,26 @@ speed_range_of text = range_of kinds.Speed text
 
 abbrev pub turning_range_of : List ℕ → Result Range Fault
 turning_range_of text = range_of kinds.Turning text
+
+-- ---- limits: a range, or from 0 up to one quantity
+
+abbrev pub has_to : List ℕ → Bool
+has_to text = starts_with nat_eq (drop (mark_index 116 text) text) (codes "to")
+
+abbrev pub up_to : Kind → List ℕ → Result Range Fault
+up_to kind text =
+    and_then (short_length text) (λ _.
+    and_then (amount_in kind None 0 text) (λ most.
+    Ok (record { low = pos 0; high = most.amount })))
+
+abbrev pub limits_of : Kind → List ℕ → Result Range Fault
+limits_of kind text = if has_to text then range_of kind text else up_to kind text
+
+abbrev pub speed_limits_of : List ℕ → Result Range Fault
+speed_limits_of text = limits_of kinds.Speed text
+
+abbrev pub turning_limits_of : List ℕ → Result Range Fault
+turning_limits_of text = limits_of kinds.Turning text
 
 -- ---- places: X, Y and Z
 

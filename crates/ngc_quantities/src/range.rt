@@ -84,6 +84,52 @@ pub fn turning_range_of(text: &[u8]) -> Result<Range, Fault>
     range_of(Kind::Turning, text)
 }
 
+// Returns whether a text has the word "to", as a range has.
+fn has_to(text: &[u8]) -> bool
+    ensures { result ≡ spec.has_to text.now }
+{
+    let index = mark_index(b't', text);
+    text[index..].starts_with(b"to")
+}
+
+// Returns the amounts from 0 up to the one that a text says.
+fn up_to(kind: Kind, text: &[u8]) -> Result<Range, Fault>
+    ensures { result ≡ spec.up_to kind text.now }
+{
+    short_length(text)?;
+    let most = amount_in(kind, None, 0, text)?;
+    Ok(Range {
+        low: 0,
+        high: most.amount,
+    })
+}
+
+fn limits_of(kind: Kind, text: &[u8]) -> Result<Range, Fault>
+    ensures { result ≡ spec.limits_of kind text.now }
+{
+    if has_to(text) {
+        range_of(kind, text)
+    } else {
+        up_to(kind, text)
+    }
+}
+
+/// Returns limits of speeds in nanometres per minute: a range, as of `100 to 1500 mm/min`, or from 0
+/// up to a speed, as of `1500 mm/min`.
+pub fn speed_limits_of(text: &[u8]) -> Result<Range, Fault>
+    ensures { result ≡ spec.speed_limits_of text.now }
+{
+    limits_of(Kind::Speed, text)
+}
+
+/// Returns limits of spindle speeds in millionths of a turn per minute: a range, as of
+/// `8000 to 24000 rpm`, or from 0 up to a speed, as of `24000 rpm`.
+pub fn turning_limits_of(text: &[u8]) -> Result<Range, Fault>
+    ensures { result ≡ spec.turning_limits_of text.now }
+{
+    limits_of(Kind::Turning, text)
+}
+
 /// Returns a place in nanometres, X, Y and Z, as of `60, 40, -140 mm`.
 pub fn place_of(text: &[u8]) -> Result<Place, Fault>
     ensures { result ≡ spec.place_of text.now }

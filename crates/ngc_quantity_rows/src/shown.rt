@@ -2,7 +2,8 @@
 
 use ngc_quantities::{
     Cause, Ending, Fault, Kind, Place, Range, Step, Unit, acceleration_of, length_of,
-    length_range_of, motor_of, place_of, speed_of, speed_range_of, turning_of, turning_range_of,
+    length_range_of, motor_of, place_of, speed_limits_of, speed_of, speed_range_of,
+    turning_limits_of, turning_of, turning_range_of,
 };
 use std::alloc::{AllocError, Global};
 
@@ -158,6 +159,8 @@ fn found_text(
         "lengths" => range_text(alloc, length_range_of(text)),
         "speeds" => range_text(alloc, speed_range_of(text)),
         "turnings" => range_text(alloc, turning_range_of(text)),
+        "speed limits" => range_text(alloc, speed_limits_of(text)),
+        "turning limits" => range_text(alloc, turning_limits_of(text)),
         "place" => place_text(alloc, place_of(text)),
         "motor" => step_text(alloc, motor_of(text), expected),
         _ => format!(in alloc; "no call"),

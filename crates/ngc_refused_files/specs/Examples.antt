@@ -22,6 +22,9 @@ tool_sample (tools.Offset n) = samples.Reach
 tool_sample (tools.Flute n) = samples.Flute
 tool_sample (tools.PartDiameter n part) = samples.HolderDiameter
 tool_sample (tools.PartLength n part) = samples.HolderLength
+tool_sample (tools.Speed n) = samples.Turning
+tool_sample (tools.Feed n) = samples.Feeds
+tool_sample (tools.Plunge n) = samples.Plunge
 tool_sample _ = samples.Other
 
 -- what the text of a key says
@@ -61,6 +64,9 @@ sample_text samples.Reach = codes "\"45 mm\""
 sample_text samples.Flute = codes "\"18 mm\""
 sample_text samples.HolderDiameter = codes "\"25 mm\""
 sample_text samples.HolderLength = codes "\"30 mm\""
+sample_text samples.Feeds = codes "\"100 to 1500 mm/min\""
+sample_text samples.Plunge = codes "\"300 mm/min\""
+sample_text samples.Turning = codes "\"8000 to 24000 rpm\""
 sample_text samples.Other = codes "a text with a unit"
 
 -- of the text of a motor only a chain has parts of another kind than steps

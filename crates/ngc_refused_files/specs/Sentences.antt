@@ -75,6 +75,9 @@ base_unit samples.Reach = codes " nm"
 base_unit samples.Flute = codes " nm"
 base_unit samples.HolderDiameter = codes " nm"
 base_unit samples.HolderLength = codes " nm"
+base_unit samples.Feeds = codes " nm/min"
+base_unit samples.Plunge = codes " nm/min"
+base_unit samples.Turning = codes " millionths of rpm"
 base_unit _ = codes ""
 
 unfoldable pub no_unit : List ℕ → List ℕ → List ℕ
@@ -145,6 +148,7 @@ tool_text tools.UnequalHolder = codes "with the holder it isn't the length: chan
 tool_text tools.UnequalLength = codes "it isn't the length: describe the rest of it with the key holder"
 tool_text tools.LongFlute = codes "it is longer than what sticks out of the holder: write a shorter one"
 tool_text tools.ManyParts = codes "cutter, shank and holder have over four parts: join parts of the holder"
+tool_text tools.NoCutter = codes "it isn't a cutter: write \"flat\", \"ball\", \"vee\" or \"drill\""
 
 -- the whole sentence where it has no subject and no example
 abbrev pub whole_text : Wrong → List ℕ

@@ -26,6 +26,12 @@ pub(crate) enum Sample {
     HolderDiameter,
     /// The length of a part of a holder.
     HolderLength,
+    /// The limits of a tool's feeds.
+    Feeds,
+    /// The greatest feed of a tool straight down.
+    Plunge,
+    /// The limits of the spindle's speeds with a tool.
+    Turning,
     /// No length, speed or the like.
     Other,
 }
@@ -39,6 +45,9 @@ fn tool_sample(key: ToolKey) -> Sample
         ToolKey::Flute(_) => Sample::Flute,
         ToolKey::PartDiameter { .. } => Sample::HolderDiameter,
         ToolKey::PartLength { .. } => Sample::HolderLength,
+        ToolKey::Speed(_) => Sample::Turning,
+        ToolKey::Feed(_) => Sample::Feeds,
+        ToolKey::Plunge(_) => Sample::Plunge,
         _ => Sample::Other,
     }
 }
@@ -79,6 +88,9 @@ impl Sample {
             Sample::Flute => b"\"18 mm\"",
             Sample::HolderDiameter => b"\"25 mm\"",
             Sample::HolderLength => b"\"30 mm\"",
+            Sample::Feeds => b"\"100 to 1500 mm/min\"",
+            Sample::Plunge => b"\"300 mm/min\"",
+            Sample::Turning => b"\"8000 to 24000 rpm\"",
             Sample::Other => b"a text with a unit",
         }
     }

@@ -40,6 +40,10 @@ fn tool_with(key: ToolKey) -> Section
         | ToolKey::Flute(tool)
         | ToolKey::Shank(tool)
         | ToolKey::Offset(tool)
+        | ToolKey::Cutter(tool)
+        | ToolKey::Speed(tool)
+        | ToolKey::Feed(tool)
+        | ToolKey::Plunge(tool)
         | ToolKey::Holder(tool) => Section::Tool(tool),
         ToolKey::Part { tool, part }
         | ToolKey::PartDiameter { tool, part }

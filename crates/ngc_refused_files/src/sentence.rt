@@ -72,7 +72,8 @@ fn base_unit(sample: Sample) -> &'static [u8]
         Sample::Length | Sample::Range | Sample::Place => b" nm",
         Sample::Diameter | Sample::Reach | Sample::Flute => b" nm",
         Sample::HolderDiameter | Sample::HolderLength => b" nm",
-        Sample::Speed => b" nm/min",
+        Sample::Speed | Sample::Feeds | Sample::Plunge => b" nm/min",
+        Sample::Turning => b" millionths of rpm",
         Sample::Acceleration => b" nm/s2",
         _ => b"",
     }
@@ -242,6 +243,8 @@ fn tool_text(wrong: ToolWrong) -> &'static [u8]
             b"it is longer than what sticks out of the holder: write a shorter one",
         ToolWrong::ManyParts =>
             b"cutter, shank and holder have over four parts: join parts of the holder",
+        ToolWrong::NoCutter =>
+            b"it isn't a cutter: write \"flat\", \"ball\", \"vee\" or \"drill\"",
     }
 }
 

@@ -11,6 +11,8 @@ use Rattle.ngc_offsets.specs.declared.fault.FrameFault.{FrameFault}
 use Rattle.ngc_offsets.specs.declared.fault.FrameFault.TheVariants.{BeyondRange, NoSuchTool}
 use Rattle.ngc_offsets.specs.declared.fault.Quantity.{Quantity}
 use Rattle.ngc_offsets.specs.declared.fault.Quantity.TheVariants.{Coordinate, Offset}
+use Rattle.ngc_offsets.specs.declared.fault.CoordinateRange.{CoordinateRange}
+use Rattle.ngc_offsets.specs.declared.fault.CoordinateRange.TheVariants.{Near, Far}
 use Rattle.ngc_arc_geometry.specs.declared.fault.ArcFault.{ArcFault}
 use Rattle.ngc_arc_geometry.specs.declared.fault.ArcFault.TheVariants.{RadiiDiffer}
 use Rattle.ngc_line_reader.specs.Program.{Line}
@@ -59,7 +61,7 @@ unfoldable pub far_text : ℤ → List ℕ
 far_text z = sign_text z ++ shift_text (unsigned_abs z)
 
 abbrev pub quantity_text : Quantity → List ℕ
-quantity_text Coordinate = []
+quantity_text (Coordinate reach) = []
 quantity_text Offset = codes "The origin or offset of "
 
 unfoldable pub inches_phrase : Option ℕ → List ℕ
@@ -92,13 +94,16 @@ frame_line form inches NoSuchTool = []
 
 -- ---- a canned cycle
 
-unfoldable pub cycle_phrase : Option ℕ → List ℕ
-cycle_phrase inches =
-    codes "A height or a hole of the cycle is over 1000 mm from zero." ++ inches_phrase inches
+abbrev pub cycle_text : CoordinateRange → List ℕ
+cycle_text Near = codes "A height or a hole of the cycle is over 1000 mm from zero."
+cycle_text Far = codes "A height or a hole of the cycle is over 4000 mm from zero."
 
-abbrev pub cycle_line : Form → Option ℕ → List ℕ
-cycle_line Words inches = words_of (cycle_phrase inches)
-cycle_line Json inches = fact_of (cycle_phrase inches) (inches_fact inches)
+unfoldable pub cycle_phrase : CoordinateRange → Option ℕ → List ℕ
+cycle_phrase reach inches = cycle_text reach ++ inches_phrase inches
+
+abbrev pub cycle_line : Form → CoordinateRange → Option ℕ → List ℕ
+cycle_line Words reach inches = words_of (cycle_phrase reach inches)
+cycle_line Json reach inches = fact_of (cycle_phrase reach inches) (inches_fact inches)
 
 -- ---- the radii of an arc
 
@@ -133,7 +138,7 @@ value_line form deletes number (faults.NoSuchTool tool) lines =
     selection_text form tool (selected_tool deletes number lines)
 value_line form deletes number (faults.Frame e) lines =
     frame_line form (inches_since deletes number lines) e
-value_line form deletes number faults.CycleBeyondRange lines =
-    cycle_line form (inches_since deletes number lines)
+value_line form deletes number (faults.CycleBeyondRange reach) lines =
+    cycle_line form reach (inches_since deletes number lines)
 value_line form deletes number (faults.Arc e) lines = arc_line form e
 value_line form deletes number fault lines = []

@@ -10,6 +10,7 @@ ghost use Rattle.ngc_report.specs.Words.{shift_text};
 ghost use Rattle.ngc_sentences.specs.Parts.{part_text, parts_text};
 ghost use Rattle.ngc_sentences.specs.Saying.{Says};
 ghost use Rattle.ngc_refused_values.specs.Texts.{arc_line, axis_text, cycle_line, cycle_phrase};
+ghost use Rattle.ngc_refused_values.specs.Texts.{cycle_text};
 ghost use Rattle.ngc_refused_values.specs.Texts.{fact_of, far_phrase, far_text, far_values, words_of};
 ghost use Rattle.ngc_refused_values.specs.Texts.{frame_line, inches_fact, inches_phrase, quantity_text};
 ghost use Rattle.ngc_refused_values.specs.Texts.{near_text, radii_phrase, radii_values};
@@ -21,7 +22,7 @@ use crate::values::{inches_since, selected_tool};
 use ngc_arc_geometry::ArcFault;
 use ngc_canonical::Fault;
 use ngc_line_reader::Program;
-use ngc_offsets::{Axis, FrameFault, Quantity};
+use ngc_offsets::{Axis, CoordinateRange, FrameFault, Quantity};
 use ngc_report::Form;
 use ngc_sentences::{Page, Part, say};
 use ngc_text::{Sink, WriteFault};
@@ -135,7 +136,7 @@ fn quantity_name(quantity: Quantity) -> &'static [u8]
     ensures { result.now ≡ quantity_text quantity }
 {
     match quantity {
-        Quantity::Coordinate => b"",
+        Quantity::Coordinate(_) => b"",
         Quantity::Offset => b"The origin or offset of ",
     }
 }
@@ -236,29 +237,49 @@ fn say_frame_line<W: Sink>(
     }
 }
 
+fn cycle_words(reach: CoordinateRange) -> &'static [u8]
+    ensures { result.now ≡ cycle_text reach }
+{
+    match reach {
+        CoordinateRange::Near => b"A height or a hole of the cycle is over 1000 mm from zero.",
+        CoordinateRange::Far => b"A height or a hole of the cycle is over 4000 mm from zero.",
+    }
+}
+
 #[tactic(auto, unfolding(crate::specs::Texts::cycle_phrase))]
-fn say_cycle_phrase<W: Sink>(inches: Option<u32>, page: &mut Page, output: &mut W)
+fn say_cycle_phrase<W: Sink>(
+    reach: CoordinateRange,
+    inches: Option<u32>,
+    page: &mut Page,
+    output: &mut W,
+)
     ensures { Says (W.written output.old) (W.written output.new)
         (W.failures output.old) (W.failures output.new) page.old page.new
-        (cycle_phrase inches) }
+        (cycle_phrase reach inches) }
 {
-    say!(page, output; b"A height or a hole of the cycle is over 1000 mm from zero.");
+    say!(page, output; Part::Text(cycle_words(reach)));
     say_inches_phrase(inches, page, output);
 }
 
-fn say_cycle_line<W: Sink>(form: Form, inches: Option<u32>, page: &mut Page, output: &mut W)
+fn say_cycle_line<W: Sink>(
+    form: Form,
+    reach: CoordinateRange,
+    inches: Option<u32>,
+    page: &mut Page,
+    output: &mut W,
+)
     ensures { Says (W.written output.old) (W.written output.new)
         (W.failures output.old) (W.failures output.new) page.old page.new
-        (cycle_line form inches) }
+        (cycle_line form reach inches) }
 {
     match form {
         Form::Words => {
-            say_cycle_phrase(inches, page, output);
+            say_cycle_phrase(reach, inches, page, output);
             say!(page, output; b"\n");
         }
         Form::Json => {
             begin_fact(page, output);
-            say_cycle_phrase(inches, page, output);
+            say_cycle_phrase(reach, inches, page, output);
             say!(page, output; b"\"");
             say_inches_fact(inches, page, output);
             say!(page, output; b"}");
@@ -340,9 +361,9 @@ fn say_value_line<A: Allocator, W: Sink>(
             let inches = inches_since(deletes, program, number);
             say_frame_line(form, inches, fault, page, output);
         }
-        Fault::CycleBeyondRange => {
+        Fault::CycleBeyondRange(reach) => {
             let inches = inches_since(deletes, program, number);
-            say_cycle_line(form, inches, page, output);
+            say_cycle_line(form, *reach, inches, page, output);
         }
         Fault::Arc(fault) => say_arc_line(form, fault, page, output),
         _ => {}

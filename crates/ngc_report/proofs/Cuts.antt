@@ -4,10 +4,10 @@ use Rattle.std.proofs.lemmas.List.{drop-take, take_all, drop_all, drop-drop, len
 use Rattle.ngc_text.proofs.ListPrefixes.{enough}
 use Rattle.ngc_machine_files.specs.Machine.{MachineFile}
 use Rattle.ngc_certificate_text.specs.Certificate.{Entry}
-use Rattle.ngc_report.specs.Nearing.{nearest}
+use Rattle.ngc_findings.specs.Nearing.{nearest}
 use Rattle.ngc_report.specs.Reports.{use_lines, near_line, motions_in}
-use Rattle.ngc_report.specs.declared.line.Line.TheVariants as lines
-use Rattle.ngc_report.specs.declared.uses.ToolUse.{ToolUse}
+use Rattle.ngc_findings.specs.declared.line.Line.TheVariants as lines
+use Rattle.ngc_findings.specs.declared.uses.ToolUse.{ToolUse}
 
 few : {X : Type 0} (n k : ℕ) (xs : List X) → k ≡ min n (length xs) → take k xs ≡ take n xs
 few n k xs is = elim (enough n (length xs)) [

@@ -14,7 +14,7 @@ use Rattle.ngc_commands.specs.Movement.{actions_of, ways_of}
 use Rattle.ngc_commands.specs.ProgramPath.{IsPathOf}
 use Rattle.ngc_commands.specs.declared.movement.Way.{Way}
 use Rattle.ngc_commands.specs.declared.movement.Way.TheVariants.{Line, Arc}
-use Rattle.ngc_report.specs.Extents.{joint_box, reach, ExtentHoldsPaths, ExtentHoldsStart}
+use Rattle.ngc_findings.specs.Extents.{joint_box, reach, ExtentHoldsPaths, ExtentHoldsStart}
 
 -- ---- one motion
 

@@ -6,9 +6,9 @@ use Rattle.std.proofs.lemmas.Int.{ints, clamps}
 use Rattle.std.proofs.lemmas.Nat.{div-add-mod', mod_below, mul-le}
 use Rattle.ngc_fixed_length.specs.Boxes.{grid_above, grid_below}
 use Rattle.ngc_fixed_length.specs.Length.{IsStep}
-use Rattle.ngc_report.specs.Extents.{extent, ExtentInTravelHolds}
+use Rattle.ngc_findings.specs.Extents.{extent, ExtentInTravelHolds}
 use Rattle.ngc_report.specs.Reports.{SettingStaysInside}
-use Rattle.ngc_report.specs.Rooms.{is_inside_on, axis_space}
+use Rattle.ngc_findings.specs.Rooms.{is_inside_on, axis_space}
 use Rattle.ngc_arc_geometry.proofs.CutGrid.{above_low, below_high}
 use Rattle.ngc_report.proofs.Fitting.{both, and, le_test}
 

@@ -21,13 +21,13 @@ use Rattle.ngc_machine_files.specs.Ranges.{IsAtMost}
 use Rattle.ngc_collision.specs.Body.{is_in_travel, is_below, nanometres_of}
 use Rattle.ngc_certificate_text.specs.Certificate.{Entry}
 use Rattle.ngc_certificate_text.specs.declared.piece.Piece.{Piece}
-use Rattle.ngc_report.specs.Extents.{joint_box, boxes_of, fit_extent, FitExtentHoldsPieces, FitExtentHoldsStart}
+use Rattle.ngc_findings.specs.Extents.{joint_box, boxes_of, fit_extent, FitExtentHoldsPieces, FitExtentHoldsStart}
 use Rattle.ngc_report.specs.Reports.{use_lines, is_line_inside, ArePiecesInTravel, FitStaysInside}
-use Rattle.ngc_report.specs.Rooms.{room, is_inside, is_inside_on}
-use Rattle.ngc_report.specs.Uses.{tool_uses}
-use Rattle.ngc_report.specs.declared.uses.ToolUse.{ToolUse}
+use Rattle.ngc_findings.specs.Rooms.{room, is_inside, is_inside_on}
+use Rattle.ngc_findings.specs.Uses.{tool_uses}
+use Rattle.ngc_findings.specs.declared.uses.ToolUse.{ToolUse}
 use Rattle.ngc_report.proofs.ExtentHoldsPoints.{in_right, in_first, at_itself}
-use Rattle.ngc_report.proofs.Tests.{room_law}
+use Rattle.ngc_findings.proofs.Tests.{room_law}
 
 -- ---- the boxes of all pieces
 

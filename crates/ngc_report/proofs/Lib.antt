@@ -1,7 +1,5 @@
 -- What holds of a converted error.
 pub mod Converted
--- Tests of whole numbers.
-pub mod Tests
 -- How far a command must move to be clear of an obstacle.
 pub mod ShiftLaws
 -- Every point that a program may reach lies in its extent.
@@ -10,8 +8,6 @@ pub mod ExtentHoldsPoints
 pub mod Fitting
 -- The part of an extent that lies within the travel.
 pub mod ExtentInTravel
--- The result over a list, one element further.
-pub mod Folds
 -- A whole text that is collected and written out.
 pub mod ReportPrefix
 -- Lines after others.
@@ -20,11 +16,5 @@ pub mod Sentences
 pub mod Cuts
 -- The line with a number, found one by one.
 pub mod Lines
--- The commands concerned, counted one by one.
-pub mod CommandCounts
 -- The first line of a text, and lines by their number.
 pub mod LinesByNumber
--- The machine's state some commands further.
-pub mod Causes
--- A difference of two coordinates fits in 64 bits.
-mod DifferenceRange

@@ -6,7 +6,7 @@ use Rattle.ngc_sentences.specs.declared.page.Page.{Page}
 use Rattle.ngc_sentences.proofs.Said.{says_as, then}
 use Rattle.ngc_report.specs.Forms.{report_text, spelled}
 use Rattle.ngc_report.specs.declared.form.Form.{Form}
-use Rattle.ngc_report.specs.declared.line.Line.{Line}
+use Rattle.ngc_findings.specs.declared.line.Line.{Line}
 
 -- lines after others
 pub then_lines : {old mid new : Option (List ℕ)} {n m k : ℕ} {p q r : Page} (form : Form) (a b : List Line) → Says old mid n m p q (report_text form a) →

@@ -12,18 +12,18 @@ use Rattle.ngc_machine_files.specs.declared.machine.Fixture.{Fixture}
 use Rattle.ngc_machine_files.specs.declared.parts.Part.{Part}
 use Rattle.ngc_machine_files.specs.declared.tools.Tool.{Tool}
 use Rattle.ngc_collision.specs.Body.{Solid, are_apart, bodies, filled, span, stacked}
-use Rattle.ngc_report.specs.Shifts.{whole_steps, is_beside, is_past, is_passed, shifts_of, no_shifts, longest, shifts_past}
-use Rattle.ngc_report.specs.Shifts.{toward, signed, moved, ShiftIsReported, ShiftClears}
-use Rattle.ngc_report.specs.Shifts.{opposite, room_on, shift_inside, ShiftStaysInside}
+use Rattle.ngc_findings.specs.Shifts.{whole_steps, is_beside, is_past, is_passed, shifts_of, no_shifts, longest, shifts_past}
+use Rattle.ngc_findings.specs.Shifts.{toward, signed, moved, ShiftIsReported, ShiftClears}
+use Rattle.ngc_findings.specs.Shifts.{opposite, room_on, shift_inside, ShiftStaysInside}
 use Rattle.ngc_report.specs.Printed.{PrintedIsEnough}
-use Rattle.ngc_report.specs.Rooms.{is_inside_on, room}
+use Rattle.ngc_findings.specs.Rooms.{is_inside_on, room}
 use Rattle.ngc_machine_files.specs.Machine.{MachineFile}
-use Rattle.ngc_report.specs.declared.margins.Axis.{Axis}
-use Rattle.ngc_report.specs.declared.margins.Axis.TheVariants.{X, Y, Z}
-use Rattle.ngc_report.specs.declared.margins.Side.{Side}
-use Rattle.ngc_report.specs.declared.margins.Side.TheVariants.{Below, Above}
-use Rattle.ngc_report.specs.declared.shifts.Shifts.{Shifts}
-use Rattle.ngc_report.proofs.Tests.{le_of, le_test, same}
+use Rattle.ngc_findings.specs.declared.margins.Axis.{Axis}
+use Rattle.ngc_findings.specs.declared.margins.Axis.TheVariants.{X, Y, Z}
+use Rattle.ngc_findings.specs.declared.margins.Side.{Side}
+use Rattle.ngc_findings.specs.declared.margins.Side.TheVariants.{Below, Above}
+use Rattle.ngc_findings.specs.declared.shifts.Shifts.{Shifts}
+use Rattle.ngc_findings.proofs.Tests.{le_of, le_test, same}
 
 -- ---- whole steps
 

@@ -8,23 +8,23 @@ use Rattle.ngc_machine_files.specs.declared.tools.Tool.{Tool}
 use Rattle.ngc_collision.specs.Inside.{place_of}
 use Rattle.ngc_report.specs.Quotes.{escaped}
 use Rattle.ngc_report.specs.Words.{axis_text, away_text, concern_text}
-use Rattle.ngc_report.specs.declared.clearing.Clearing.{Clearing}
-use Rattle.ngc_report.specs.declared.clearing.Clearing.TheVariants as clearings
-use Rattle.ngc_report.specs.declared.clearing.Inward.{Inward}
-use Rattle.ngc_report.specs.declared.clearing.Passed.{Passed}
-use Rattle.ngc_report.specs.declared.line.Along.{Along}
-use Rattle.ngc_report.specs.declared.line.Line.{Line}
-use Rattle.ngc_report.specs.declared.line.Line.TheVariants as lines
-use Rattle.ngc_report.specs.declared.margins.Margin.{Margin}
-use Rattle.ngc_report.specs.declared.margins.Side.{Side}
-use Rattle.ngc_report.specs.declared.margins.Side.TheVariants.{Below, Above}
-use Rattle.ngc_report.specs.declared.nearest.Nearest.{Nearest}
-use Rattle.ngc_report.specs.declared.scene.Met.{Met}
-use Rattle.ngc_report.specs.declared.scene.Obstacle.{Obstacle}
-use Rattle.ngc_report.specs.declared.scene.Obstacle.TheVariants.{Travel, Fixture}
-use Rattle.ngc_report.specs.declared.scene.Scene.{Scene}
-use Rattle.ngc_report.specs.declared.uses.ToolUse.{ToolUse}
-use Rattle.ngc_report.specs.declared.warnings.Warning.{Warning}
+use Rattle.ngc_findings.specs.declared.clearing.Clearing.{Clearing}
+use Rattle.ngc_findings.specs.declared.clearing.Clearing.TheVariants as clearings
+use Rattle.ngc_findings.specs.declared.clearing.Inward.{Inward}
+use Rattle.ngc_findings.specs.declared.clearing.Passed.{Passed}
+use Rattle.ngc_findings.specs.declared.line.Along.{Along}
+use Rattle.ngc_findings.specs.declared.line.Line.{Line}
+use Rattle.ngc_findings.specs.declared.line.Line.TheVariants as lines
+use Rattle.ngc_findings.specs.declared.margins.Margin.{Margin}
+use Rattle.ngc_findings.specs.declared.margins.Side.{Side}
+use Rattle.ngc_findings.specs.declared.margins.Side.TheVariants.{Below, Above}
+use Rattle.ngc_findings.specs.declared.nearest.Nearest.{Nearest}
+use Rattle.ngc_findings.specs.declared.scene.Met.{Met}
+use Rattle.ngc_findings.specs.declared.scene.Obstacle.{Obstacle}
+use Rattle.ngc_findings.specs.declared.scene.Obstacle.TheVariants.{Travel, Fixture}
+use Rattle.ngc_findings.specs.declared.scene.Scene.{Scene}
+use Rattle.ngc_findings.specs.declared.uses.ToolUse.{ToolUse}
+use Rattle.ngc_findings.specs.declared.warnings.Warning.{Warning}
 
 -- ---- values
 

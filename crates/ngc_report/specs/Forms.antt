@@ -4,7 +4,7 @@ use Rattle.ngc_report.specs.Facts.{line_fact}
 use Rattle.ngc_report.specs.Words.{line_text}
 use Rattle.ngc_report.specs.declared.form.Form.{Form}
 use Rattle.ngc_report.specs.declared.form.Form.TheVariants.{Words, Json}
-use Rattle.ngc_report.specs.declared.line.Line.{Line}
+use Rattle.ngc_findings.specs.declared.line.Line.{Line}
 
 unfoldable pub spelled : Form → Line → List ℕ
 spelled Words l = line_text l

@@ -12,24 +12,24 @@ use Rattle.ngc_certificate_text.specs.Certificate.{Entry}
 use Rattle.ngc_certificate_text.specs.Collects.{Collects}
 use Rattle.ngc_certificate_text.specs.declared.piece.Piece.{Piece}
 use Rattle.ngc_collision.specs.Body.{is_in_travel}
-use Rattle.ngc_report.specs.Clearings.{clearing}
-use Rattle.ngc_report.specs.Extents.{extent, fit_extent, extent_in_travel}
-use Rattle.ngc_report.specs.Nearing.{nearest, nearest_name}
-use Rattle.ngc_report.specs.Rooms.{room, is_inside_on}
-use Rattle.ngc_report.specs.Scenes.{start_scene, scene_at, obstacle}
-use Rattle.ngc_report.specs.Uses.{tool_uses}
-use Rattle.ngc_report.specs.Warnings.{warning_about}
+use Rattle.ngc_findings.specs.Clearings.{clearing}
+use Rattle.ngc_findings.specs.Extents.{extent, fit_extent, extent_in_travel}
+use Rattle.ngc_findings.specs.Nearing.{nearest, nearest_name}
+use Rattle.ngc_findings.specs.Rooms.{room, is_inside_on}
+use Rattle.ngc_findings.specs.Scenes.{start_scene, scene_at, obstacle}
+use Rattle.ngc_findings.specs.Uses.{tool_uses}
+use Rattle.ngc_findings.specs.Warnings.{warning_about}
 use Rattle.ngc_report.specs.Forms.{report_text}
 use Rattle.ngc_report.specs.declared.form.Form.{Form}
-use Rattle.ngc_report.specs.declared.line.Line.{Line}
-use Rattle.ngc_report.specs.declared.line.Line.TheVariants as lines
-use Rattle.ngc_report.specs.declared.nearest.Nearest.{Nearest}
-use Rattle.ngc_report.specs.declared.margins.Axis.{Axis}
-use Rattle.ngc_report.specs.declared.margins.Axis.TheVariants.{X, Y, Z}
-use Rattle.ngc_report.specs.declared.scene.Scene.{Scene}
-use Rattle.ngc_report.specs.declared.travel.AxisSpace.{AxisSpace}
-use Rattle.ngc_report.specs.declared.uses.ToolUse.{ToolUse}
-use Rattle.ngc_report.specs.declared.warnings.Concern.TheVariants.{Untested}
+use Rattle.ngc_findings.specs.declared.line.Line.{Line}
+use Rattle.ngc_findings.specs.declared.line.Line.TheVariants as lines
+use Rattle.ngc_findings.specs.declared.nearest.Nearest.{Nearest}
+use Rattle.ngc_findings.specs.declared.margins.Axis.{Axis}
+use Rattle.ngc_findings.specs.declared.margins.Axis.TheVariants.{X, Y, Z}
+use Rattle.ngc_findings.specs.declared.scene.Scene.{Scene}
+use Rattle.ngc_findings.specs.declared.travel.AxisSpace.{AxisSpace}
+use Rattle.ngc_findings.specs.declared.uses.ToolUse.{ToolUse}
+use Rattle.ngc_findings.specs.declared.warnings.Concern.TheVariants.{Untested}
 
 -- the text of lines is added after the collected text; if a write fails, a prefix of both is
 -- written

@@ -6,27 +6,27 @@ use Rattle.ngc_fixed_length.specs.declared.points.Point3.{Point3}
 use Rattle.ngc_text.specs.Millimetres.{number_text, size_text, mm_text}
 use Rattle.ngc_machine_files.specs.declared.tools.Tool.{Tool}
 use Rattle.ngc_collision.specs.Inside.{place_of}
-use Rattle.ngc_report.specs.declared.clearing.Clearing.{Clearing}
-use Rattle.ngc_report.specs.declared.clearing.Clearing.TheVariants as clearings
-use Rattle.ngc_report.specs.declared.clearing.Passed.{Passed}
-use Rattle.ngc_report.specs.declared.line.Along.{Along}
-use Rattle.ngc_report.specs.declared.line.Line.{Line}
-use Rattle.ngc_report.specs.declared.line.Line.TheVariants as lines
-use Rattle.ngc_report.specs.declared.margins.Axis.{Axis}
-use Rattle.ngc_report.specs.declared.margins.Axis.TheVariants.{X, Y, Z}
-use Rattle.ngc_report.specs.declared.margins.Side.{Side}
-use Rattle.ngc_report.specs.declared.margins.Side.TheVariants.{Below, Above}
-use Rattle.ngc_report.specs.declared.nearest.Nearest.{Nearest}
-use Rattle.ngc_report.specs.declared.scene.Met.{Met}
-use Rattle.ngc_report.specs.declared.scene.Obstacle.{Obstacle}
-use Rattle.ngc_report.specs.declared.scene.Obstacle.TheVariants.{Travel, Fixture}
-use Rattle.ngc_report.specs.declared.scene.Scene.{Scene}
-use Rattle.ngc_report.specs.declared.uses.ToolUse.{ToolUse}
-use Rattle.ngc_report.specs.declared.warnings.Concern.{Concern}
-use Rattle.ngc_report.specs.declared.warnings.Concern.TheVariants.{NoTool, IdleSpindle}
-use Rattle.ngc_report.specs.declared.warnings.Concern.TheVariants.{FastFeed, NearlyFull, LowHome}
-use Rattle.ngc_report.specs.declared.warnings.Concern.TheVariants.{LowAcross, Untested}
-use Rattle.ngc_report.specs.declared.warnings.Warning.{Warning}
+use Rattle.ngc_findings.specs.declared.clearing.Clearing.{Clearing}
+use Rattle.ngc_findings.specs.declared.clearing.Clearing.TheVariants as clearings
+use Rattle.ngc_findings.specs.declared.clearing.Passed.{Passed}
+use Rattle.ngc_findings.specs.declared.line.Along.{Along}
+use Rattle.ngc_findings.specs.declared.line.Line.{Line}
+use Rattle.ngc_findings.specs.declared.line.Line.TheVariants as lines
+use Rattle.ngc_findings.specs.declared.margins.Axis.{Axis}
+use Rattle.ngc_findings.specs.declared.margins.Axis.TheVariants.{X, Y, Z}
+use Rattle.ngc_findings.specs.declared.margins.Side.{Side}
+use Rattle.ngc_findings.specs.declared.margins.Side.TheVariants.{Below, Above}
+use Rattle.ngc_findings.specs.declared.nearest.Nearest.{Nearest}
+use Rattle.ngc_findings.specs.declared.scene.Met.{Met}
+use Rattle.ngc_findings.specs.declared.scene.Obstacle.{Obstacle}
+use Rattle.ngc_findings.specs.declared.scene.Obstacle.TheVariants.{Travel, Fixture}
+use Rattle.ngc_findings.specs.declared.scene.Scene.{Scene}
+use Rattle.ngc_findings.specs.declared.uses.ToolUse.{ToolUse}
+use Rattle.ngc_findings.specs.declared.warnings.Concern.{Concern}
+use Rattle.ngc_findings.specs.declared.warnings.Concern.TheVariants.{NoTool, IdleSpindle}
+use Rattle.ngc_findings.specs.declared.warnings.Concern.TheVariants.{FastFeed, NearlyFull, LowHome}
+use Rattle.ngc_findings.specs.declared.warnings.Concern.TheVariants.{LowAcross, Untested}
+use Rattle.ngc_findings.specs.declared.warnings.Warning.{Warning}
 
 -- ---- lengths
 
@@ -148,7 +148,7 @@ clearing_text (Some (clearings.Travel i)) = inward_text i.axis i.side i.shift
 unfoldable pub concern_text : Concern → List ℕ
 concern_text NoTool = codes "motions without a tool, away from the height of the start"
 concern_text IdleSpindle = codes "feeds with a tool and the spindle off"
-concern_text FastFeed = codes "feeds above the greatest speed of the machine"
+concern_text (FastFeed speeds) = codes "feeds above the greatest speed of the machine"
 concern_text NearlyFull = codes "arcs of over 359 degrees with ends less than 0.01 mm apart"
 concern_text LowHome = codes "traverses home along X or Y, below the top of a fixture"
 concern_text LowAcross = codes "traverses across the work without a retract before them"

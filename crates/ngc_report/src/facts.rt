@@ -12,16 +12,13 @@ ghost use Rattle.ngc_report.specs.Facts.{tool_fact, travel_fact, triple, use_fac
 ghost use Rattle.ngc_report.specs.Facts.{warning_fact};
 ghost use Rattle.ngc_report.specs.Quotes.{escaped};
 
-use crate::clearing::{Clearing, Inward, Passed};
-use crate::line::{Along, Line};
-use crate::margins::{Margin, Side};
-use crate::nearest::Nearest;
 use crate::quotes::say_string;
-use crate::scene::{Met, Obstacle, Scene};
-use crate::uses::ToolUse;
-use crate::warnings::Warning;
 use crate::words::{away, axis_name, concern_words, sign};
 use ngc_collision::Place;
+use ngc_findings::{
+    Along, Clearing, Inward, Line, Margin, Met, Nearest, Obstacle, Passed, Scene, Side, ToolUse,
+    Warning,
+};
 use ngc_machine_files::{Name, Tool};
 use ngc_sentences::{Page, Part, say};
 use ngc_text::Sink;

@@ -1,13 +1,13 @@
 //! Laws about the definitions only.
-ghost use Rattle.ngc_report.specs.Extents.{ExtentHoldsPaths, ExtentHoldsStart};
-ghost use Rattle.ngc_report.specs.Extents.{FitExtentHoldsPieces, FitExtentHoldsStart};
-ghost use Rattle.ngc_report.specs.Extents.{ExtentInTravelHolds};
-ghost use Rattle.ngc_report.specs.Gaps.{GapIsReported};
-ghost use Rattle.ngc_report.specs.Margins.{TightestIsReported};
+ghost use Rattle.ngc_findings.specs.Extents.{ExtentHoldsPaths, ExtentHoldsStart};
+ghost use Rattle.ngc_findings.specs.Extents.{FitExtentHoldsPieces, FitExtentHoldsStart};
+ghost use Rattle.ngc_findings.specs.Extents.{ExtentInTravelHolds};
+ghost use Rattle.ngc_findings.specs.Gaps.{GapIsReported};
+ghost use Rattle.ngc_findings.specs.Margins.{TightestIsReported};
 ghost use Rattle.ngc_report.specs.Printed.{PrintedIsEnough};
 ghost use Rattle.ngc_report.specs.Reports.{FitStaysInside, SettingStaysInside};
-ghost use Rattle.ngc_report.specs.Rooms.{SpaceIsReported};
-ghost use Rattle.ngc_report.specs.Shifts.{ShiftClears, ShiftStaysInside, ShiftIsReported};
+ghost use Rattle.ngc_findings.specs.Rooms.{SpaceIsReported};
+ghost use Rattle.ngc_findings.specs.Shifts.{ShiftClears, ShiftStaysInside, ShiftIsReported};
 
 /// States that the extent of a program holds the start point and each point of each path that a
 /// motion may take.

@@ -47,47 +47,23 @@
 //! ```
 #![tactic(auto)]
 
-mod bounds;
-mod clearing;
 mod facts;
 mod form;
-mod gaps;
 pub mod laws;
-mod line;
-mod margins;
 mod marks;
-mod nearest;
 mod quotes;
 mod refusals;
 mod report;
 mod report_fault;
-mod scene;
-mod shifts;
 mod source_lines;
-mod tool_state;
-mod travel;
-mod uses;
 mod warned;
-mod warnings;
-mod ways;
 mod words;
 
-pub use bounds::{extent, fit_extent, reach};
-pub use clearing::{Clearing, Inward, Passed};
 pub use form::Form;
-pub use gaps::gap;
-pub use line::{Along, Line};
-pub use margins::{Axis, Margin, Side};
 pub use marks::{letter_byte, mark_of, write_named, write_named_source, written_number};
-pub use nearest::Nearest;
 pub use quotes::write_line;
-pub use refusals::{Standing, collect_refusals_head, collect_refused_command};
+pub use refusals::{collect_refusals_head, collect_refused_command};
 pub use report::{write_fit, write_refusal};
 pub use report_fault::ReportFault;
-pub use scene::{Met, Obstacle, Scene};
-pub use shifts::{AxisShift, Shifts};
 pub use source_lines::{write_source_line, write_text_line};
-pub use travel::{AxisSpace, Room};
-pub use uses::{ToolUse, ToolUses};
 pub use warned::write_warnings;
-pub use warnings::{Concern, Warning};

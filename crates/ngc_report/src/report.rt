@@ -9,23 +9,18 @@ ghost use Rattle.ngc_sentences.specs.Saying.{Says};
 ghost use Rattle.ngc_report.specs.Reports.{motions_in, along, alongs, use_lines, fit_lines};
 ghost use Rattle.ngc_report.specs.Reports.{start_lines, scene_lines, cause_lines, refusal_lines};
 ghost use Rattle.ngc_report.specs.Reports.{fit_line, near_line};
-ghost use Rattle.ngc_report.specs.Uses.{tool_uses};
+ghost use Rattle.ngc_findings.specs.Uses.{tool_uses};
 ghost use Rattle.ngc_report.specs.Forms.{spelled, report_text};
 
-use crate::bounds::{extent, fit_extent};
-use crate::clearing::Clearing;
 use crate::facts::say_fact;
 use crate::form::Form;
-use crate::line::{Along, Line};
-use crate::margins::Axis;
-use crate::nearest::{Nearest, nearest_name};
-use crate::scene::Scene;
-use crate::travel::{AxisSpace, Room};
-use crate::uses::{ToolUse, ToolUses};
-use crate::warnings::{Concern, warning_about};
 use crate::words::say_line;
 use ngc_certificate_text::MotionList;
 use ngc_commands::Command;
+use ngc_findings::{
+    Along, Axis, AxisSpace, Clearing, Concern, Line, Nearest, Room, Scene, ToolUse, ToolUses,
+    extent, fit_extent, nearest_name, warning_about,
+};
 use ngc_fixed_length::{GridBox, Nm, nanometres_at};
 use ngc_machine_files::Machine;
 use ngc_sentences::Page;

@@ -11,14 +11,11 @@ ghost use Rattle.ngc_report.specs.Words.{nose_text, obstacle_text, over_text, pa
 ghost use Rattle.ngc_report.specs.Words.{shift_text, side_text, space_text, space_words, use_text};
 ghost use Rattle.ngc_report.specs.Words.{verdict_text, warning_text};
 
-use crate::clearing::{Clearing, Inward, Passed};
-use crate::line::{Along, Line};
-use crate::margins::{Axis, Margin, Side};
-use crate::nearest::Nearest;
-use crate::scene::{Met, Obstacle, Scene};
-use crate::uses::ToolUse;
-use crate::warnings::{Concern, Warning};
 use ngc_collision::Place;
+use ngc_findings::{
+    Along, Axis, Clearing, Concern, Inward, Line, Margin, Met, Nearest, Obstacle, Passed, Scene,
+    Side, ToolUse, Warning,
+};
 use ngc_machine_files::{Name, Tool};
 use ngc_sentences::{Page, Part, say};
 use ngc_text::Sink;
@@ -130,7 +127,7 @@ pub(crate) fn concern_words(concern: Concern) -> &'static [u8]
     match concern {
         Concern::NoTool => b"motions without a tool, away from the height of the start",
         Concern::IdleSpindle => b"feeds with a tool and the spindle off",
-        Concern::FastFeed => b"feeds above the greatest speed of the machine",
+        Concern::FastFeed(_) => b"feeds above the greatest speed of the machine",
         Concern::NearlyFull => b"arcs of over 359 degrees with ends less than 0.01 mm apart",
         Concern::LowHome => b"traverses home along X or Y, below the top of a fixture",
         Concern::LowAcross => b"traverses across the work without a retract before them",

@@ -1,5 +1,5 @@
 -- Lines of which only the warnings are written, in a style.
-use Rattle.std.proofs.Common.{◌≡◌, ℕ, ◌+◌, ◌<◌, Bool, List, [], ◌∷◌, ◌++◌, length, get_or, drop, flat_map, true, false, cond, ap, sym, ◌∙◌, refl}
+use Rattle.std.proofs.Common.{◌≡◌, ℕ, ◌+◌, ◌<◌, Bool, List, [], ◌∷◌, ◌++◌, length, get_or, drop, flat_map, Option, true, false, cond, ap, sym, ◌∙◌, refl}
 use Rattle.std.specs.Prelude.{map, filter}
 use Rattle.std.proofs.lemmas.List.{append_assoc, append-nil, map-append}
 use Rattle.std.proofs.lemmas.List.Concat.{flat_map-append}
@@ -7,6 +7,8 @@ use Rattle.std.proofs.lemmas.List.Elements.{filter-append}
 use Rattle.ngc_machine_files.specs.Machine.{MachineFile}
 use Rattle.ngc_machine_files.specs.declared.machine.Fixture.{Fixture}
 use Rattle.ngc_machine_files.specs.declared.tools.Tool.{Tool}
+use Rattle.ngc_file_figures.specs.declared.figures.MachineFigures.{MachineFigures}
+use Rattle.ngc_file_figures.specs.declared.limits.ToolLimits.{ToolLimits}
 use Rattle.ngc_setup_sheet.specs.Sheets.{fixture_lines, fixtures_from, tool_lines, is_warning, as_fact, as_remark}
 use Rattle.ngc_setup_sheet.specs.Spelling.{line_text, lines_text}
 use Rattle.ngc_setup_sheet.specs.Writes.{styled, chosen}
@@ -61,16 +63,16 @@ told_of_all s (l ∷ ls) =
 
 -- ---- the remaining text, one step further
 
-pub next_fixture_warned : (s : Style) (m : MachineFile) (r : Reach) (fs : List Fixture) (i : ℕ) (f : Fixture) → i < length fs → f ≡ get_or fs i f
-    → lines_text (chosen s (fixtures_from m r i (drop i fs)))
-    ≡ lines_text (chosen s (fixture_lines m r i f)) ++ lines_text (chosen s (fixtures_from m r (i + 1) (drop (i + 1) fs)))
-next_fixture_warned s m r fs i f inside found =
-    ap (λ l. lines_text (chosen s l)) (next_fixture m r fs i f inside found)
-    ∙ both_chosen s (fixture_lines m r i f) (fixtures_from m r (i + 1) (drop (i + 1) fs))
+pub next_fixture_warned : (s : Style) (m : MachineFile) (w : Option MachineFigures) (r : Reach) (fs : List Fixture) (i : ℕ) (f : Fixture) → i < length fs → f ≡ get_or fs i f
+    → lines_text (chosen s (fixtures_from m w r i (drop i fs)))
+    ≡ lines_text (chosen s (fixture_lines m w r i f)) ++ lines_text (chosen s (fixtures_from m w r (i + 1) (drop (i + 1) fs)))
+next_fixture_warned s m w r fs i f inside found =
+    ap (λ l. lines_text (chosen s l)) (next_fixture m w r fs i f inside found)
+    ∙ both_chosen s (fixture_lines m w r i f) (fixtures_from m w r (i + 1) (drop (i + 1) fs))
 
-pub next_tool_warned : (s : Style) (b : Bool) (tools : List Tool) (i : ℕ) (t : Tool) → i < length tools → t ≡ get_or tools i t
-    → lines_text (chosen s (flat_map (tool_lines b) (drop i tools)))
-    ≡ lines_text (chosen s (tool_lines b t)) ++ lines_text (chosen s (flat_map (tool_lines b) (drop (i + 1) tools)))
-next_tool_warned s b tools i t inside found =
-    ap (λ l. lines_text (chosen s l)) (next_tool b tools i t inside found)
-    ∙ both_chosen s (tool_lines b t) (flat_map (tool_lines b) (drop (i + 1) tools))
+pub next_tool_warned : (s : Style) (b : Bool) (table : List ToolLimits) (tools : List Tool) (i : ℕ) (t : Tool) → i < length tools → t ≡ get_or tools i t
+    → lines_text (chosen s (flat_map (tool_lines b table) (drop i tools)))
+    ≡ lines_text (chosen s (tool_lines b table t)) ++ lines_text (chosen s (flat_map (tool_lines b table) (drop (i + 1) tools)))
+next_tool_warned s b table tools i t inside found =
+    ap (λ l. lines_text (chosen s l)) (next_tool b table tools i t inside found)
+    ∙ both_chosen s (tool_lines b table t) (flat_map (tool_lines b table) (drop (i + 1) tools))

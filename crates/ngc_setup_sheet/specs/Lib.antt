@@ -1,4 +1,3 @@
-pub mod Figures
 pub mod Reaches
 pub mod Warnings
 pub mod Spelling

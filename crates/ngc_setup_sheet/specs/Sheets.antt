@@ -1,8 +1,15 @@
 -- What a setup sheet says about a machine and its tools. Our own.
-use Rattle.std.specs.Prelude.{ℕ, ◌+◌, min, nat_lt, ℤ, pos, ◌+ℤ◌, ◌*ℤ◌, List, [], ◌∷◌, ◌++◌, map}
+use Rattle.std.specs.Prelude.{ℕ, ◌+◌, ◌/◌, ◌%◌, min, nat_lt, ℤ, pos, ◌+ℤ◌, ◌*ℤ◌, List, [], ◌∷◌, ◌++◌, map}
 use Rattle.std.specs.Prelude.{Option, Some, None, filter, flat_map, ◌==◌, Bool, true, false, not, ◌&&◌, if◌then◌else◌}
 use Rattle.std.specs.Ordering.{int_eq}
 use Rattle.ngc_dialect_names.specs.declared.dialect.Dialect.{Dialect}
+use Rattle.ngc_file_figures.specs.Files.{FigureValues, acceleration_of, corner_of, jump_of, speeds_of, turn_of}
+use Rattle.ngc_file_figures.specs.Limits.{limits_of}
+use Rattle.ngc_file_figures.specs.declared.cutter.Cutter.{Cutter}
+use Rattle.ngc_file_figures.specs.declared.figures.AxisFigures.{AxisFigures}
+use Rattle.ngc_file_figures.specs.declared.figures.MachineFigures.{MachineFigures}
+use Rattle.ngc_file_figures.specs.declared.limits.Limits.{Limits}
+use Rattle.ngc_file_figures.specs.declared.limits.ToolLimits.{ToolLimits}
 use Rattle.ngc_fixed_length.specs.declared.modes.System.{System}
 use Rattle.ngc_fixed_length.specs.declared.modes.System.TheVariants as systems
 use Rattle.ngc_fixed_length.specs.declared.points.Point3.{Point3}
@@ -15,8 +22,8 @@ use Rattle.ngc_machine_files.specs.declared.machine.Rapids.TheVariants as ways
 use Rattle.ngc_machine_files.specs.declared.machine.StockBox.{StockBox}
 use Rattle.ngc_machine_files.specs.declared.parts.Part.{Part}
 use Rattle.ngc_machine_files.specs.declared.tools.Tool.{Tool}
-use Rattle.ngc_setup_sheet.specs.Figures.{steps_a_millimetre, millimetres_a_minute, acceleration}
-use Rattle.ngc_setup_sheet.specs.Figures.{arc_acceleration}
+use Rattle.ngc_machine_speeds.specs.Speeds.{steps_a_millimetre, millimetres_a_minute, acceleration}
+use Rattle.ngc_machine_speeds.specs.Speeds.{arc_acceleration}
 use Rattle.ngc_setup_sheet.specs.Reaches.{reach_of, is_out_of_reach, is_outside_travel}
 use Rattle.ngc_setup_sheet.specs.Spelling.{lines_text}
 use Rattle.ngc_setup_sheet.specs.Warnings.{is_odd_speed, is_odd_acceleration, is_short_travel}
@@ -26,6 +33,7 @@ use Rattle.ngc_setup_sheet.specs.declared.line.Axis.{Axis}
 use Rattle.ngc_setup_sheet.specs.declared.line.Axis.TheVariants as axes
 use Rattle.ngc_setup_sheet.specs.declared.line.Fact.{Fact}
 use Rattle.ngc_setup_sheet.specs.declared.line.Fact.TheVariants as facts
+use Rattle.ngc_setup_sheet.specs.declared.line.Figure.{Figure}
 use Rattle.ngc_setup_sheet.specs.declared.line.Figure.TheVariants as figures
 use Rattle.ngc_setup_sheet.specs.declared.line.Line.{Line}
 use Rattle.ngc_setup_sheet.specs.declared.line.Line.TheVariants as lines
@@ -41,6 +49,22 @@ line_where holds l = if holds then l ∷ [] else []
 abbrev pub warned : Bool → Warning → List Line
 warned wrong w = line_where wrong (lines.Warning w)
 
+-- ---- figures as they are written, in millionths of the unit
+
+-- a number of thousandths is one of millionths
+abbrev pub is_thousandths : ℕ → ℕ → Bool
+is_thousandths n millionths = (millionths % 1000 == 0) && (millionths / 1000 == n)
+
+-- what is kept, and what was written if that prints another number
+abbrev pub speed_figure : Option ℕ → ℕ → Figure
+speed_figure None n = figures.Speed n
+speed_figure (Some w) n = if is_thousandths n w then figures.Speed n else figures.SpeedAsWritten n w
+
+abbrev pub acceleration_figure : Option ℕ → ℕ → Figure
+acceleration_figure None n = figures.Acceleration n
+acceleration_figure (Some w) n =
+    if is_thousandths n w then figures.Acceleration n else figures.AccelerationAsWritten n w
+
 abbrev pub from : Fact → ℤ → ℤ → Line
 from fact low high = lines.Fact fact (figures.Span (record { low = low; high = high }))
 
@@ -50,13 +74,13 @@ from fact low high = lines.Fact fact (figures.Span (record { low = low; high = h
 abbrev pub axis_speed : MachineFile → ℕ → ℕ
 axis_speed m rate = millimetres_a_minute m (min m.max_rate rate)
 
-abbrev pub step_facts : MachineFile → List Line
-step_facts m =
+abbrev pub step_facts : MachineFile → Option MachineFigures → List Line
+step_facts m f =
     lines.Machine ∷ lines.Fact facts.Step (figures.Length m.step)
     ∷ lines.Fact facts.Steps (figures.PerMillimetre (steps_a_millimetre m)) ∷
     lines.Fact facts.Ticks (figures.PerSecond m.ticks_per_second) ∷
     lines.Fact facts.GreatestSpeed (figures.Speed (millimetres_a_minute m m.max_rate)) ∷
-    lines.Fact facts.CornerSpeed (figures.Speed (millimetres_a_minute m m.corner)) ∷ []
+    lines.Fact facts.CornerSpeed (speed_figure (corner_of f) (millimetres_a_minute m m.corner)) ∷ []
 
 abbrev pub have_one_step : MachineFile → Bool
 have_one_step m =
@@ -73,10 +97,10 @@ motor_facts m =
     ∷ motor_fact axes.Z m.motor_steps.z ∷ []
 
 -- a jump of 0 is none
-abbrev pub jump_facts : MachineFile → List Line
-jump_facts m =
+abbrev pub jump_facts : MachineFile → Option MachineFigures → List Line
+jump_facts m f =
     line_where (nat_lt 0 m.jump)
-    (lines.Fact facts.Jump (figures.Speed (millimetres_a_minute m m.jump)))
+    (lines.Fact facts.Jump (speed_figure (jump_of f) (millimetres_a_minute m m.jump)))
 
 -- the ring's capacity, unless that is 16
 abbrev pub ring_facts : MachineFile → List Line
@@ -127,13 +151,29 @@ block_lines (Some b) = lines.Fact facts.Stock (figures.Block b) ∷ []
 abbrev pub stock_facts : MachineFile → List Line
 stock_facts m = block_lines m.stock
 
-abbrev pub rate_facts : MachineFile → List Line
-rate_facts m =
-    lines.Fact facts.Acceleration (figures.Acceleration (acceleration m m.change)) ∷
-    lines.Fact facts.ArcAcceleration (figures.Acceleration (arc_acceleration m)) ∷
-    lines.Fact (facts.Speed axes.X) (figures.Speed (axis_speed m m.axis_rates.x)) ∷
-    lines.Fact (facts.Speed axes.Y) (figures.Speed (axis_speed m m.axis_rates.y)) ∷
-    lines.Fact (facts.Speed axes.Z) (figures.Speed (axis_speed m m.axis_rates.z)) ∷ []
+abbrev pub acceleration_facts : MachineFile → Option MachineFigures → List Line
+acceleration_facts m f =
+    lines.Fact facts.Acceleration (acceleration_figure (acceleration_of f) (acceleration m m.change)) ∷
+    lines.Fact facts.ArcAcceleration (acceleration_figure (turn_of f) (arc_acceleration m)) ∷ []
+
+-- the speed of an axis, of all that are written
+abbrev pub axis_written : Axis → Option AxisFigures → Option ℕ
+axis_written axis None = None
+axis_written axes.X (Some s) = Some s.x
+axis_written axes.Y (Some s) = Some s.y
+axis_written axes.Z (Some s) = Some s.z
+
+abbrev pub axis_fact : MachineFile → Option AxisFigures → Axis → ℕ → Line
+axis_fact m s axis rate =
+    lines.Fact (facts.Speed axis) (speed_figure (axis_written axis s) (axis_speed m rate))
+
+abbrev pub speed_facts : MachineFile → Option AxisFigures → List Line
+speed_facts m s =
+    axis_fact m s axes.X m.axis_rates.x ∷ axis_fact m s axes.Y m.axis_rates.y
+    ∷ axis_fact m s axes.Z m.axis_rates.z ∷ []
+
+abbrev pub rate_facts : MachineFile → Option MachineFigures → List Line
+rate_facts m f = acceleration_facts m f ++ speed_facts m (speeds_of f)
 
 abbrev pub machine_places : MachineFile → List Line
 machine_places m =
@@ -171,30 +211,44 @@ origins_from m r s [] = []
 origins_from m r s (p ∷ ps) = origin_lines m r s p ++ origins_from m r (next_system s) ps
 
 -- without a jump the corner speed alone bounds where motions meet
-abbrev pub corner_notes : MachineFile → List Line
-corner_notes m =
-    line_where (m.jump == 0) (lines.CornerNote (millimetres_a_minute m m.corner))
+abbrev pub corner_note_by : Option MachineFigures → ℕ → Line
+corner_note_by None speed = lines.CornerNote speed
+corner_note_by (Some f) speed = lines.WrittenCornerNote speed
 
-abbrev pub machine_warnings : MachineFile → List Line
-machine_warnings m =
+abbrev pub corner_notes : MachineFile → Option MachineFigures → List Line
+corner_notes m f =
+    line_where (m.jump == 0) (corner_note_by f (millimetres_a_minute m m.corner))
+
+-- in a file of version 3 the acceleration on arcs is that of `turn`, or else that of the axes
+abbrev pub turn_warning : Option ℕ → Warning
+turn_warning None = warnings.WrittenArcs
+turn_warning (Some turn) = warnings.WrittenTurn
+
+abbrev pub arc_warning : Option MachineFigures → Warning
+arc_warning None = warnings.Arcs
+arc_warning (Some f) = turn_warning f.turn
+
+abbrev pub machine_warnings : MachineFile → Option MachineFigures → List Line
+machine_warnings m f =
     warned (is_odd_speed m) warnings.Speed
     ++ (warned (is_odd_acceleration m) warnings.Acceleration ++
-    (warned (is_slow_on_arcs m) warnings.Arcs ++
+    (warned (is_slow_on_arcs m) (arc_warning f) ++
     (warned (is_short_travel m.low.x m.high.x) (warnings.Travel axes.X)
     ++ (warned (is_short_travel m.low.y m.high.y) (warnings.Travel axes.Y) ++
     warned (is_short_travel m.low.z m.high.z) (warnings.Travel axes.Z)))))
 
 -- its places and origins, the block of material, the note and the warnings
-abbrev pub machine_end : MachineFile → Reach → List Line
-machine_end m r =
+abbrev pub machine_end : MachineFile → Option MachineFigures → Reach → List Line
+machine_end m f r =
     machine_places m ++ (origins_from m r systems.First m.origins ++ (stock_facts m ++
-    (corner_notes m ++ machine_warnings m)))
+    (corner_notes m f ++ machine_warnings m f)))
 
-unfoldable pub machine_lines : MachineFile → Reach → List Line
-machine_lines m r =
-    step_facts m ++ (motor_facts m ++ (jump_facts m ++ (rate_facts m ++ (ring_facts m ++
+-- with the figures of a file of version 3
+unfoldable pub machine_lines : MachineFile → Option MachineFigures → Reach → List Line
+machine_lines m f r =
+    step_facts m f ++ (motor_facts m ++ (jump_facts m f ++ (rate_facts m f ++ (ring_facts m ++
     (arc_feed_facts m ++ (changer_facts m ++ (margin_facts m ++ (dialect_facts m ++
-    machine_end m r))))))))
+    machine_end m f r))))))))
 
 -- ---- fixtures
 
@@ -204,16 +258,21 @@ fixture_facts i f =
     ∷ from (facts.Extent axes.Y) f.low.y f.high.y ∷
     from (facts.Extent axes.Z) f.low.z f.high.z ∷ []
 
-abbrev pub fixture_lines : MachineFile → Reach → ℕ → Fixture → List Line
-fixture_lines m r i f =
+abbrev pub thin_warning : Option MachineFigures → ℕ → Warning
+thin_warning None i = warnings.Thin i
+thin_warning (Some w) i = warnings.WrittenThin i
+
+-- the warnings fit the version of the machine file
+abbrev pub fixture_lines : MachineFile → Option MachineFigures → Reach → ℕ → Fixture → List Line
+fixture_lines m w r i f =
     fixture_facts i f
-    ++ (warned (is_thin f) (warnings.Thin i)
+    ++ (warned (is_thin f) (thin_warning w i)
     ++ warned (is_out_of_reach m r f) (warnings.OutOfReach i))
 
 -- numbered from i on
-abbrev pub fixtures_from : MachineFile → Reach → ℕ → List Fixture → List Line
-fixtures_from m r i [] = []
-fixtures_from m r i (f ∷ fs) = fixture_lines m r i f ++ fixtures_from m r (i + 1) fs
+abbrev pub fixtures_from : MachineFile → Option MachineFigures → Reach → ℕ → List Fixture → List Line
+fixtures_from m w r i [] = []
+fixtures_from m w r i (f ∷ fs) = fixture_lines m w r i f ++ fixtures_from m w r (i + 1) fs
 
 -- ---- tools
 
@@ -231,28 +290,57 @@ abbrev pub tool_facts : Tool → List Line
 tool_facts t =
     lines.Tool t.number t.name ∷ lines.Fact facts.Offset (figures.Length t.offset) ∷ []
 
+-- the cutter of a tool, and its limits
+
+abbrev pub cutter_lines : Option Cutter → List Line
+cutter_lines None = []
+cutter_lines (Some cutter) = lines.Fact facts.Cutter (figures.Cutter cutter) ∷ []
+
+abbrev pub turning_lines : Option Limits → List Line
+turning_lines None = []
+turning_lines (Some l) = lines.Fact facts.SpindleLimits (figures.Turning l) ∷ []
+
+abbrev pub feed_lines : Fact → Option Limits → List Line
+feed_lines fact None = []
+feed_lines fact (Some l) = lines.Fact fact (figures.Feeds l) ∷ []
+
+abbrev pub limit_lines : Option ToolLimits → List Line
+limit_lines None = []
+limit_lines (Some l) =
+    cutter_lines l.cutter ++ (turning_lines l.speed ++ (feed_lines facts.FeedLimits l.feed
+    ++ feed_lines facts.PlungeLimits l.plunge))
+
+-- in a table of version 3 each tool has limits, if only empty ones
+abbrev pub short_warning : Option ToolLimits → ℕ → Warning
+short_warning None number = warnings.Short number
+short_warning (Some l) number = warnings.WrittenShort number
+
+abbrev pub tool_lines_by : Bool → Option ToolLimits → Tool → List Line
+tool_lines_by unset l t =
+    tool_facts t ++ (part_lines t.bottom t.parts ++ (limit_lines l ++
+    (warned (is_short_tool t) (short_warning l t.number)
+    ++ warned (not unset && is_odd_offset t) (warnings.Offset t.number))))
+
 -- in a table without offsets, no tool has a warning of its own about it
-abbrev pub tool_lines : Bool → Tool → List Line
-tool_lines unset t =
-    tool_facts t ++ (part_lines t.bottom t.parts ++
-    (warned (is_short_tool t) (warnings.Short t.number)
-    ++ warned (not unset && is_odd_offset t) (warnings.Offset t.number)))
+abbrev pub tool_lines : Bool → List ToolLimits → Tool → List Line
+tool_lines unset table t = tool_lines_by unset (limits_of t.number table) t
 
 -- one warning after the tools takes the place of those
-abbrev pub table_lines : List Tool → List Line
-table_lines tools =
-    flat_map (tool_lines (are_unset tools)) tools ++ warned (are_unset tools) warnings.Unset
+abbrev pub table_lines : List ToolLimits → List Tool → List Line
+table_lines table tools =
+    flat_map (tool_lines (are_unset tools) table) tools ++ warned (are_unset tools) warnings.Unset
 
 -- ---- the whole sheet
 
-abbrev pub sheet : MachineFile → List Tool → List Line
-sheet m tools =
-    machine_lines m (reach_of tools)
-    ++ (fixtures_from m (reach_of tools) 0 m.fixtures ++ table_lines tools)
+-- with what the two files say besides the machine and its tools
+abbrev pub sheet : MachineFile → FigureValues → List Tool → List Line
+sheet m v tools =
+    machine_lines m v.machine (reach_of tools)
+    ++ (fixtures_from m v.machine (reach_of tools) 0 m.fixtures ++ table_lines v.tools tools)
 
 -- its text
-abbrev pub sheet_text : MachineFile → List Tool → List ℕ
-sheet_text m tools = lines_text (sheet m tools)
+abbrev pub sheet_text : MachineFile → FigureValues → List Tool → List ℕ
+sheet_text m v tools = lines_text (sheet m v tools)
 
 -- ---- only its warnings
 
@@ -260,8 +348,8 @@ abbrev pub is_warning : Line → Bool
 is_warning (lines.Warning w) = true
 is_warning _ = false
 
-abbrev pub warnings_text : MachineFile → List Tool → List ℕ
-warnings_text m tools = lines_text (filter is_warning (sheet m tools))
+abbrev pub warnings_text : MachineFile → FigureValues → List Tool → List ℕ
+warnings_text m v tools = lines_text (filter is_warning (sheet m v tools))
 
 -- ---- the same warnings for a JSON document
 
@@ -271,8 +359,8 @@ as_fact (lines.Warning w) = lines.WarningFact w
 as_fact l = l
 
 -- an object for each warning, in the order of the sheet
-abbrev pub warning_facts : MachineFile → List Tool → List ℕ
-warning_facts m tools = lines_text (map as_fact (filter is_warning (sheet m tools)))
+abbrev pub warning_facts : MachineFile → FigureValues → List Tool → List ℕ
+warning_facts m v tools = lines_text (map as_fact (filter is_warning (sheet m v tools)))
 
 -- ---- the same warnings for a machine file
 
@@ -282,5 +370,5 @@ as_remark (lines.Warning w) = lines.WarningRemark w
 as_remark l = l
 
 -- a comment for each warning, in the order of the sheet
-abbrev pub warning_remarks : MachineFile → List Tool → List ℕ
-warning_remarks m tools = lines_text (map as_remark (filter is_warning (sheet m tools)))
+abbrev pub warning_remarks : MachineFile → FigureValues → List Tool → List ℕ
+warning_remarks m v tools = lines_text (map as_remark (filter is_warning (sheet m v tools)))

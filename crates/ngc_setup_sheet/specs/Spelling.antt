@@ -2,6 +2,8 @@
 use Rattle.std.specs.Prelude.{ℕ, ◌+◌, ◌-◌, nat_le, ◌-ℤ◌, unsigned_abs, List, [], ◌++◌, flat_map, codes}
 use Rattle.std.specs.Prelude.{decimal, length, ◌==◌, if◌then◌else◌}
 use Rattle.ngc_dialect_names.specs.Names.{name_of}
+use Rattle.ngc_file_figures.specs.Cutters.{name_of as cutter_name}
+use Rattle.ngc_file_figures.specs.declared.limits.Limits.{Limits}
 use Rattle.ngc_fixed_length.specs.declared.modes.System.{System}
 use Rattle.ngc_fixed_length.specs.declared.modes.System.TheVariants as systems
 use Rattle.ngc_fixed_length.specs.declared.points.Point3.{Point3}
@@ -85,6 +87,10 @@ fact_text (facts.Extent axes.Y) = codes "  on Y                  "
 fact_text (facts.Extent axes.Z) = codes "  on Z                  "
 fact_text facts.Offset = codes "  length offset         "
 fact_text facts.Part = codes "  part                  "
+fact_text facts.Cutter = codes "  cutter                "
+fact_text facts.SpindleLimits = codes "  spindle               "
+fact_text facts.FeedLimits = codes "  feed                  "
+fact_text facts.PlungeLimits = codes "  feed straight down    "
 
 -- the coordinate system of a block of material, 1 to 9 for G54 to G59.3, or 0
 abbrev pub block_system : ℕ → List ℕ
@@ -95,6 +101,12 @@ block_system n =
 abbrev pub block_text : StockBox → List ℕ
 block_text b =
     place_text b.low ++ codes " to " ++ place_text b.high ++ codes " in " ++ block_system b.system
+
+-- limits in millionths of a unit, without it
+abbrev pub limits_text : Limits → List ℕ
+limits_text l =
+    if l.least == 0 then codes "at most " ++ size_text l.greatest
+    else size_text l.least ++ codes " to " ++ size_text l.greatest
 
 unfoldable pub figure_text : Figure → List ℕ
 figure_text (figures.Length z) = mm_text z
@@ -109,6 +121,13 @@ figure_text (figures.Language d) = name_of d
 figure_text (figures.Block b) = block_text b
 figure_text (figures.Speed n) = thousandths_text n ++ codes " mm/min"
 figure_text (figures.Acceleration n) = thousandths_text n ++ codes " mm/s^2"
+figure_text (figures.SpeedAsWritten n written) =
+    thousandths_text n ++ codes " mm/min (" ++ size_text written ++ codes " as written)"
+figure_text (figures.AccelerationAsWritten n written) =
+    thousandths_text n ++ codes " mm/s^2 (" ++ size_text written ++ codes " as written)"
+figure_text (figures.Cutter cutter) = cutter_name cutter
+figure_text (figures.Turning l) = limits_text l ++ codes " rpm"
+figure_text (figures.Feeds l) = limits_text l ++ codes " mm/min"
 figure_text (figures.Span s) = span_text s
 figure_text (figures.Place p) = place_text p
 figure_text (figures.Part s diameter) = span_text s ++ codes ", diameter " ++ mm_text diameter
@@ -118,6 +137,10 @@ warning_text warnings.Speed = codes "the greatest speed is not from 0.1 to 1000 
 warning_text warnings.Acceleration = codes "the acceleration is not from 1 to 20000 mm/s^2"
 warning_text warnings.Arcs = codes
     "the acceleration on arcs is below 1 mm/s^2, so arcs crawl: raise `turn` to about 500000 times `change`"
+warning_text warnings.WrittenTurn = codes
+    "the acceleration on arcs is below 1 mm/s^2, so arcs crawl: raise `turn` to about the least `acceleration` of the axes"
+warning_text warnings.WrittenArcs = codes
+    "the acceleration on arcs is below 1 mm/s^2, so arcs crawl: raise the least `acceleration` of the axes"
 warning_text (warnings.Travel axes.X) = codes "the travel on X is less than 10 mm"
 warning_text (warnings.Travel axes.Y) = codes "the travel on Y is less than 10 mm"
 warning_text (warnings.Travel axes.Z) = codes "the travel on Z is less than 10 mm"
@@ -125,10 +148,14 @@ warning_text (warnings.Origin s) = codes "the origin of " ++ system_text s
     ++ codes " is outside the travel: no tool reaches it"
 warning_text (warnings.Thin n) = codes "fixture " ++ decimal n
     ++ codes " is thinner than 0.1 mm: its corners are in nanometres"
+warning_text (warnings.WrittenThin n) = codes "fixture " ++ decimal n
+    ++ codes " is thinner than 0.1 mm: is the unit of its corners right?"
 warning_text (warnings.OutOfReach n) =
     codes "fixture " ++ decimal n ++ codes " is where no tool reaches"
 warning_text (warnings.Short n) = codes "tool " ++ decimal n
     ++ codes " is shorter than 1 mm: lengths are in nanometres"
+warning_text (warnings.WrittenShort n) = codes "tool " ++ decimal n
+    ++ codes " is shorter than 1 mm: is the unit of its lengths right?"
 warning_text (warnings.Offset n) = codes "tool " ++ decimal n
     ++ codes " has an offset of more than twice or less than half its length"
 warning_text warnings.Unset = codes "every tool of the table has an offset of 0: G43 changes nothing"
@@ -152,6 +179,11 @@ abbrev pub corner_note : ℕ → List ℕ
 corner_note speed = codes "note: motions meet at " ++ thousandths_text speed
     ++ codes " mm/min at most, except lines in one direction: `jump`, `ring` and `arc_feed` in the machine file would make it faster (docs/RUNNING.md)\n"
 
+-- a file of version 3 has these keys; without them the motions meet faster
+abbrev pub written_note : ℕ → List ℕ
+written_note speed = codes "note: motions meet at " ++ thousandths_text speed
+    ++ codes " mm/min at most, except lines in one direction: without `jump`, `ring` and `arc_feed` in the machine file it would be faster (docs/RUNNING.md)\n"
+
 abbrev pub line_text : Line → List ℕ
 line_text lines.Machine = codes "machine\n"
 line_text (lines.Fixture n name) =
@@ -159,6 +191,7 @@ line_text (lines.Fixture n name) =
 line_text (lines.Tool n name) = codes "tool " ++ decimal n ++ bracketed name ++ codes "\n"
 line_text (lines.Fact f figure) = fact_text f ++ figure_text figure ++ codes "\n"
 line_text (lines.CornerNote speed) = corner_note speed
+line_text (lines.WrittenCornerNote speed) = written_note speed
 line_text (lines.Warning w) = codes "warning: " ++ warning_text w ++ codes "\n"
 line_text (lines.WarningFact w) = warning_object w
 line_text (lines.WarningRemark w) = warning_remark w

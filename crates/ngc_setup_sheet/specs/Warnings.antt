@@ -5,7 +5,7 @@ use Rattle.std.specs.Ordering.{int_eq}
 use Rattle.ngc_machine_files.specs.Machine.{MachineFile}
 use Rattle.ngc_machine_files.specs.declared.machine.Fixture.{Fixture}
 use Rattle.ngc_machine_files.specs.declared.tools.Tool.{Tool}
-use Rattle.ngc_setup_sheet.specs.Figures.{speed, gain, pull}
+use Rattle.ngc_machine_speeds.specs.Speeds.{speed, gain, pull}
 use Rattle.ngc_setup_sheet.specs.Reaches.{top_of}
 
 -- the greatest speed is below 0.1 mm/s or above 1,000 mm/s

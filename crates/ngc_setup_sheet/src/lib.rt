@@ -2,7 +2,6 @@
 //! what looks wrong. For a file that is refused, its first mistake.
 #![tactic(auto)]
 
-mod figures;
 mod line;
 mod lines;
 mod mistake;

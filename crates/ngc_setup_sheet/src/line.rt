@@ -1,4 +1,5 @@
 use ngc_dialect_names::Dialect;
+use ngc_file_figures::{Cutter, Limits};
 use ngc_fixed_length::{Point3, System};
 use ngc_machine_files::{Name, StockBox};
 
@@ -66,6 +67,14 @@ pub enum Fact {
     Offset,
     /// A part of a tool.
     Part,
+    /// The shape of a tool's cutter.
+    Cutter,
+    /// The limits of the spindle's speeds with a tool.
+    SpindleLimits,
+    /// The limits of a tool's feeds.
+    FeedLimits,
+    /// The limits of a tool's feeds straight down.
+    PlungeLimits,
 }
 
 /// A number with its unit. Lengths are in nanometres, and rounded numbers in thousandths of the
@@ -90,10 +99,19 @@ pub enum Figure {
     Speed(u128),
     /// In thousandths of a millimetre per second squared.
     Acceleration(u128),
+    /// The same, and a number of nanometres per minute that was written.
+    SpeedAsWritten(u128, u64),
+    /// The same, and a number of nanometres per second squared that was written.
+    AccelerationAsWritten(u128, u64),
     Span(Span),
     Place(Point3),
     /// The heights from the spindle nose between which a part of a tool lies, and its diameter.
     Part(Span, i64),
+    Cutter(Cutter),
+    /// In millionths of a turn per minute.
+    Turning(Limits),
+    /// In nanometres per minute.
+    Feeds(Limits),
 }
 
 /// What looks wrong in a machine file or in a tool table.
@@ -103,15 +121,23 @@ pub enum Warning {
     Acceleration,
     /// A low acceleration towards the centres of arcs.
     Arcs,
+    /// The same in a file of version 3, that has the key `turn`.
+    WrittenTurn,
+    /// The same in one that hasn't.
+    WrittenArcs,
     Travel(Axis),
     /// The origin of the coordinate system is out of reach.
     Origin(System),
     /// A thin fixture, by its number.
     Thin(usize),
+    /// The same in a file of version 3.
+    WrittenThin(usize),
     /// A fixture out of reach, by its number.
     OutOfReach(usize),
     /// A short tool, by its number.
     Short(u32),
+    /// The same in a table of version 3.
+    WrittenShort(u32),
     /// A tool whose offset isn't its length, by its number.
     Offset(u32),
     /// A table in which no tool has an offset.
@@ -131,6 +157,8 @@ pub enum Line {
     /// The note that the corner speed alone bounds where motions meet, in thousandths of a millimetre
     /// per minute.
     CornerNote(u128),
+    /// The same on a file of version 3.
+    WrittenCornerNote(u128),
     Warning(Warning),
     /// The warning as an object of a JSON document.
     WarningFact(Warning),

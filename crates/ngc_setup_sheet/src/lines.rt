@@ -12,11 +12,14 @@ ghost use Rattle.ngc_setup_sheet.specs.Sheets.{have_one_step, motor_fact, motor_
 ghost use Rattle.ngc_setup_sheet.specs.Sheets.{jump_facts, ring_facts, arc_feed_facts, changer_facts, is_free, margin_line, margin_facts, rate_facts, machine_places, corner_notes};
 ghost use Rattle.ngc_setup_sheet.specs.Sheets.{is_zero, origin_lines, next_system, origins_from};
 ghost use Rattle.ngc_setup_sheet.specs.Sheets.{machine_warnings, machine_lines, fixture_facts};
+ghost use Rattle.ngc_setup_sheet.specs.Sheets.{acceleration_facts, acceleration_figure, arc_warning};
+ghost use Rattle.ngc_setup_sheet.specs.Sheets.{axis_fact, axis_written, corner_note_by, cutter_lines};
+ghost use Rattle.ngc_setup_sheet.specs.Sheets.{feed_lines, is_thousandths, limit_lines, short_warning};
+ghost use Rattle.ngc_setup_sheet.specs.Sheets.{speed_facts, speed_figure, thin_warning, turning_lines};
 ghost use Rattle.ngc_setup_sheet.specs.Sheets.{fixture_lines, part_line, part_lines, tool_facts};
 ghost use Rattle.ngc_setup_sheet.specs.Sheets.{tool_lines, dialect_facts, stock_facts, machine_end};
 ghost use Rattle.ngc_setup_sheet.specs.declared.line.Warning.TheVariants as warnings;
 
-use crate::figures::{acceleration, arc_acceleration, millimetres_a_minute, steps_a_millimetre};
 use crate::line::{Axis, Fact, Figure, Line, Span, Warning};
 use crate::reach::{Reach, end_of, is_out_of_reach, is_outside_travel};
 use crate::warnings::{
@@ -24,8 +27,15 @@ use crate::warnings::{
     is_thin,
 };
 use arrayvec::ArrayVec;
+use ngc_file_figures::{
+    AxisFigures, Cutter, Limits, MachineFigures, ToolLimits, acceleration_of, corner_of, jump_of,
+    limits_of, speeds_of, turn_of,
+};
 use ngc_fixed_length::{Nm, Point3, System};
 use ngc_machine_files::{ArcFeed, Fixture, Machine, Part, Parts, Rapids, Tool};
+use ngc_machine_speeds::{
+    acceleration, arc_acceleration, millimetres_a_minute, steps_a_millimetre,
+};
 use std::alloc::Allocator;
 
 /// Space for the lines of a machine, of a fixture or of a tool.
@@ -70,19 +80,52 @@ fn from(fact: Fact, low: Nm, high: Nm) -> Line
     Line::Fact(fact, Figure::Span(span))
 }
 
-fn axis_speed<A: Allocator>(machine: &Machine<A>, rate: u32) -> Figure
-    requires { IsRate rate }
-    ensures { result ≡ figures.Speed (axis_speed (file_of machine.now) rate) }
+// Returns whether a number of thousandths is one of millionths.
+fn is_thousandths(number: u128, millionths: u64) -> bool
+    ensures { result ≡ is_thousandths number millionths }
 {
-    Figure::Speed(millimetres_a_minute(machine, machine.max_rate.min(rate)))
+    millionths % 1_000 == 0 && u128::from(millionths / 1_000) == number
 }
 
-fn step_facts<A: Allocator>(machine: &Machine<A>) -> [Line; 6]
-    ensures { result ≡ step_facts (file_of machine.now) }
+// Returns a speed, and what was written if that prints another number.
+fn speed_figure(written: Option<u64>, number: u128) -> Figure
+    ensures { result ≡ speed_figure written number }
+{
+    match written {
+        Some(written) if !is_thousandths(number, written) => {
+            Figure::SpeedAsWritten(number, written)
+        }
+        _ => Figure::Speed(number),
+    }
+}
+
+fn acceleration_figure(written: Option<u64>, number: u128) -> Figure
+    ensures { result ≡ acceleration_figure written number }
+{
+    match written {
+        Some(written) if !is_thousandths(number, written) => {
+            Figure::AccelerationAsWritten(number, written)
+        }
+        _ => Figure::Acceleration(number),
+    }
+}
+
+fn axis_speed<A: Allocator>(machine: &Machine<A>, rate: u32) -> u128
+    requires { IsRate rate }
+    ensures { result ≡ axis_speed (file_of machine.now) rate }
+{
+    millimetres_a_minute(machine, machine.max_rate.min(rate))
+}
+
+fn step_facts<A: Allocator>(machine: &Machine<A>, written: &Option<MachineFigures>) -> [Line; 6]
+    ensures { result ≡ step_facts (file_of machine.now) written.now }
 {
     let steps = Figure::PerMillimetre(steps_a_millimetre(machine));
     let greatest = Figure::Speed(millimetres_a_minute(machine, machine.max_rate));
-    let corner = Figure::Speed(millimetres_a_minute(machine, machine.corner));
+    let corner = speed_figure(
+        corner_of(written),
+        millimetres_a_minute(machine, machine.corner),
+    );
     [
         Line::Machine,
         Line::Fact(Fact::Step, Figure::Length(machine.step.nanometres())),
@@ -133,12 +176,16 @@ fn add_motors<A: Allocator>(lines: &mut Lines, machine: &Machine<A>)
     }
 }
 
-fn add_jump<A: Allocator>(lines: &mut Lines, machine: &Machine<A>)
+fn add_jump<A: Allocator>(lines: &mut Lines, machine: &Machine<A>, written: &Option<MachineFigures>)
     requires { array_vec_len lines.old < 55 }
-    ensures items { lines.new.items ≡ lines.old.items ++ jump_facts (file_of machine.now) }
+    ensures items { lines.new.items
+        ≡ lines.old.items ++ jump_facts (file_of machine.now) written.now }
     ensures few { array_vec_len lines.new ≤ array_vec_len lines.old + 1 }
 {
-    let speed = Figure::Speed(millimetres_a_minute(machine, machine.jump));
+    let speed = speed_figure(
+        jump_of(written),
+        millimetres_a_minute(machine, machine.jump),
+    );
     add_where(lines, 0 < machine.jump, Line::Fact(Fact::Jump, speed));
 }
 
@@ -238,31 +285,68 @@ fn add_stock<A: Allocator>(lines: &mut Lines, machine: &Machine<A>)
     }
 }
 
-fn rate_facts<A: Allocator>(machine: &Machine<A>) -> [Line; 5]
-    ensures { result ≡ rate_facts (file_of machine.now) }
+fn acceleration_facts<A: Allocator>(
+    machine: &Machine<A>,
+    written: &Option<MachineFigures>,
+) -> [Line; 2]
+    ensures { result ≡ acceleration_facts (file_of machine.now) written.now }
 {
+    let along = acceleration_figure(acceleration_of(written), acceleration(machine));
+    let arcs = acceleration_figure(turn_of(written), arc_acceleration(machine));
     [
-        Line::Fact(
-            Fact::Acceleration,
-            Figure::Acceleration(acceleration(machine)),
-        ),
-        Line::Fact(
-            Fact::ArcAcceleration,
-            Figure::Acceleration(arc_acceleration(machine)),
-        ),
-        Line::Fact(
-            Fact::Speed(Axis::X),
-            axis_speed(machine, machine.axis_rates.x),
-        ),
-        Line::Fact(
-            Fact::Speed(Axis::Y),
-            axis_speed(machine, machine.axis_rates.y),
-        ),
-        Line::Fact(
-            Fact::Speed(Axis::Z),
-            axis_speed(machine, machine.axis_rates.z),
-        ),
+        Line::Fact(Fact::Acceleration, along),
+        Line::Fact(Fact::ArcAcceleration, arcs),
     ]
+}
+
+// Returns the speed of an axis, of all that are written.
+fn axis_written(axis: Axis, speeds: &Option<AxisFigures>) -> Option<u64>
+    ensures { result ≡ axis_written axis speeds.now }
+{
+    match (speeds, axis) {
+        (None, _) => None,
+        (Some(speeds), Axis::X) => Some(speeds.x),
+        (Some(speeds), Axis::Y) => Some(speeds.y),
+        (Some(speeds), Axis::Z) => Some(speeds.z),
+    }
+}
+
+fn axis_fact<A: Allocator>(
+    machine: &Machine<A>,
+    speeds: &Option<AxisFigures>,
+    axis: Axis,
+    rate: u32,
+) -> Line
+    requires { IsRate rate }
+    ensures { result ≡ axis_fact (file_of machine.now) speeds.now axis rate }
+{
+    let figure = speed_figure(axis_written(axis, speeds), axis_speed(machine, rate));
+    Line::Fact(Fact::Speed(axis), figure)
+}
+
+fn speed_facts<A: Allocator>(machine: &Machine<A>, speeds: &Option<AxisFigures>) -> [Line; 3]
+    ensures { result ≡ speed_facts (file_of machine.now) speeds.now }
+{
+    let rates = &machine.axis_rates;
+    [
+        axis_fact(machine, speeds, Axis::X, rates.x),
+        axis_fact(machine, speeds, Axis::Y, rates.y),
+        axis_fact(machine, speeds, Axis::Z, rates.z),
+    ]
+}
+
+fn add_rates<A: Allocator>(
+    lines: &mut Lines,
+    machine: &Machine<A>,
+    written: &Option<MachineFigures>,
+)
+    requires { array_vec_len lines.old + 5 ≤ 55 }
+    ensures items { lines.new.items
+        ≡ lines.old.items ++ rate_facts (file_of machine.now) written.now }
+    ensures count { array_vec_len lines.new ≡ array_vec_len lines.old + 5 }
+{
+    add_all(lines, &acceleration_facts(machine, written));
+    add_all(lines, &speed_facts(machine, &speeds_of(written)));
 }
 
 fn machine_places<A: Allocator>(machine: &Machine<A>) -> [Line; 6]
@@ -308,13 +392,38 @@ fn add_origin<A: Allocator>(
     }
 }
 
-fn add_corner_note<A: Allocator>(lines: &mut Lines, machine: &Machine<A>)
+fn corner_note(written: &Option<MachineFigures>, speed: u128) -> Line
+    ensures { result ≡ corner_note_by written.now speed }
+{
+    match written {
+        None => Line::CornerNote(speed),
+        Some(_) => Line::WrittenCornerNote(speed),
+    }
+}
+
+fn add_corner_note<A: Allocator>(
+    lines: &mut Lines,
+    machine: &Machine<A>,
+    written: &Option<MachineFigures>,
+)
     requires { array_vec_len lines.old < 55 }
-    ensures items { lines.new.items ≡ lines.old.items ++ corner_notes (file_of machine.now) }
+    ensures items { lines.new.items
+        ≡ lines.old.items ++ corner_notes (file_of machine.now) written.now }
     ensures few { array_vec_len lines.new ≤ array_vec_len lines.old + 1 }
 {
     let speed = millimetres_a_minute(machine, machine.corner);
-    add_where(lines, machine.jump == 0, Line::CornerNote(speed));
+    add_where(lines, machine.jump == 0, corner_note(written, speed));
+}
+
+// Returns the warning of a low acceleration on arcs, which names keys of the file's version.
+fn arc_warning(written: &Option<MachineFigures>) -> Warning
+    ensures { result ≡ arc_warning written.now }
+{
+    match written {
+        None => Warning::Arcs,
+        Some(MachineFigures { turn: Some(_), .. }) => Warning::WrittenTurn,
+        Some(_) => Warning::WrittenArcs,
+    }
 }
 
 /// Returns the coordinate system that comes next in the machine file.
@@ -352,14 +461,19 @@ fn add_origins<A: Allocator>(
     }
 }
 
-fn warn_of_machine<A: Allocator>(lines: &mut Lines, machine: &Machine<A>)
+fn warn_of_machine<A: Allocator>(
+    lines: &mut Lines,
+    machine: &Machine<A>,
+    written: &Option<MachineFigures>,
+)
     requires { array_vec_len lines.old + 6 ≤ 55 }
-    ensures { lines.new.items ≡ lines.old.items ++ machine_warnings (file_of machine.now) }
+    ensures { lines.new.items
+        ≡ lines.old.items ++ machine_warnings (file_of machine.now) written.now }
 {
     let (low, high) = (machine.low, machine.high);
     warn(lines, is_odd_speed(machine), Warning::Speed);
     warn(lines, is_odd_acceleration(machine), Warning::Acceleration);
-    warn(lines, is_slow_on_arcs(machine), Warning::Arcs);
+    warn(lines, is_slow_on_arcs(machine), arc_warning(written));
     warn(
         lines,
         is_shorter(SHORT_TRAVEL, low.x, high.x),
@@ -377,34 +491,44 @@ fn warn_of_machine<A: Allocator>(lines: &mut Lines, machine: &Machine<A>)
     );
 }
 
-fn add_end<A: Allocator>(lines: &mut Lines, machine: &Machine<A>, reach: &Reach)
+fn add_end<A: Allocator>(
+    lines: &mut Lines,
+    machine: &Machine<A>,
+    written: &Option<MachineFigures>,
+    reach: &Reach,
+)
     requires room { array_vec_len lines.old + 32 ≤ 55 }
     requires reach { IsReach reach.now }
-    ensures { lines.new.items ≡ lines.old.items ++ machine_end (file_of machine.now) reach.now }
+    ensures { lines.new.items
+        ≡ lines.old.items ++ machine_end (file_of machine.now) written.now reach.now }
 {
     add_all(lines, &machine_places(machine));
     add_origins(lines, machine, reach, &machine.origins);
     add_stock(lines, machine);
-    add_corner_note(lines, machine);
-    warn_of_machine(lines, machine);
+    add_corner_note(lines, machine, written);
+    warn_of_machine(lines, machine, written);
 }
 
 #[tactic(auto, unfolding(crate::specs::Sheets::machine_lines))]
-pub(crate) fn machine_lines<A: Allocator>(machine: &Machine<A>, reach: &Reach) -> Lines
+pub(crate) fn machine_lines<A: Allocator>(
+    machine: &Machine<A>,
+    written: &Option<MachineFigures>,
+    reach: &Reach,
+) -> Lines
     requires { IsReach reach.now }
-    ensures { result.items ≡ machine_lines (file_of machine.now) reach.now }
+    ensures { result.items ≡ machine_lines (file_of machine.now) written.now reach.now }
 {
     let mut lines = ArrayVec::new();
-    add_all(&mut lines, &step_facts(machine));
+    add_all(&mut lines, &step_facts(machine, written));
     add_motors(&mut lines, machine);
-    add_jump(&mut lines, machine);
-    add_all(&mut lines, &rate_facts(machine));
+    add_jump(&mut lines, machine, written);
+    add_rates(&mut lines, machine, written);
     add_ring(&mut lines, machine);
     add_arc_feed(&mut lines, machine);
     add_changer(&mut lines, machine);
     add_margins(&mut lines, machine);
     add_dialect(&mut lines, machine);
-    add_end(&mut lines, machine, reach);
+    add_end(&mut lines, machine, written, reach);
     lines
 }
 
@@ -420,18 +544,29 @@ fn fixture_facts(number: usize, fixture: &Fixture) -> [Line; 4]
     ]
 }
 
+// Returns the warning of a thin fixture, which fits the version of the machine file.
+fn thin_warning(written: &Option<MachineFigures>, number: usize) -> Warning
+    ensures { result ≡ thin_warning written.now number }
+{
+    match written {
+        None => Warning::Thin(number),
+        Some(_) => Warning::WrittenThin(number),
+    }
+}
+
 pub(crate) fn fixture_lines<A: Allocator>(
     machine: &Machine<A>,
+    written: &Option<MachineFigures>,
     reach: &Reach,
     number: usize,
     fixture: &Fixture,
 ) -> Lines
     requires { IsReach reach.now }
-    ensures { result.items ≡ fixture_lines (file_of machine.now) reach.now number fixture.now }
+    ensures { result.items ≡ fixture_lines (file_of machine.now) written.now reach.now number fixture.now }
 {
     let mut lines = ArrayVec::new();
     add_all(&mut lines, &fixture_facts(number, fixture));
-    warn(&mut lines, is_thin(fixture), Warning::Thin(number));
+    warn(&mut lines, is_thin(fixture), thin_warning(written, number));
     let unreached = is_out_of_reach(machine, reach, fixture);
     warn(&mut lines, unreached, Warning::OutOfReach(number));
     lines
@@ -472,15 +607,81 @@ fn tool_facts(tool: &Tool) -> [Line; 2]
     ]
 }
 
-/// Returns the lines of a tool, which has a warning about its offset unless no tool of the table
-/// has one.
-pub(crate) fn tool_lines(unset: bool, tool: &Tool) -> Lines
-    ensures { result.items ≡ tool_lines unset tool.now }
+fn add_cutter(lines: &mut Lines, cutter: &Option<Cutter>)
+    requires { array_vec_len lines.old < 55 }
+    ensures items { lines.new.items ≡ lines.old.items ++ cutter_lines cutter.now }
+    ensures few { array_vec_len lines.new ≤ array_vec_len lines.old + 1 }
 {
+    match cutter {
+        None => {}
+        Some(cutter) => add_all(lines, &[Line::Fact(Fact::Cutter, Figure::Cutter(*cutter))]),
+    }
+}
+
+fn add_turning(lines: &mut Lines, limits: &Option<Limits>)
+    requires { array_vec_len lines.old < 55 }
+    ensures items { lines.new.items ≡ lines.old.items ++ turning_lines limits.now }
+    ensures few { array_vec_len lines.new ≤ array_vec_len lines.old + 1 }
+{
+    match limits {
+        None => {}
+        Some(limits) => add_all(
+            lines,
+            &[Line::Fact(Fact::SpindleLimits, Figure::Turning(*limits))],
+        ),
+    }
+}
+
+fn add_feeds(lines: &mut Lines, fact: Fact, limits: &Option<Limits>)
+    requires { array_vec_len lines.old < 55 }
+    ensures items { lines.new.items ≡ lines.old.items ++ feed_lines fact limits.now }
+    ensures few { array_vec_len lines.new ≤ array_vec_len lines.old + 1 }
+{
+    match limits {
+        None => {}
+        Some(limits) => add_all(lines, &[Line::Fact(fact, Figure::Feeds(*limits))]),
+    }
+}
+
+// Adds the cutter of a tool and its limits.
+fn add_limits(lines: &mut Lines, limits: &Option<ToolLimits>)
+    requires { array_vec_len lines.old + 4 ≤ 55 }
+    ensures items { lines.new.items ≡ lines.old.items ++ limit_lines limits.now }
+    ensures few { array_vec_len lines.new ≤ array_vec_len lines.old + 4 }
+{
+    if let Some(limits) = limits {
+        add_cutter(lines, &limits.cutter);
+        add_turning(lines, &limits.speed);
+        add_feeds(lines, Fact::FeedLimits, &limits.feed);
+        add_feeds(lines, Fact::PlungeLimits, &limits.plunge);
+    }
+}
+
+// Returns the warning of a short tool, which fits the version of its table.
+fn short_warning(limits: &Option<ToolLimits>, number: u32) -> Warning
+    ensures { result ≡ short_warning limits.now number }
+{
+    match limits {
+        None => Warning::Short(number),
+        Some(_) => Warning::WrittenShort(number),
+    }
+}
+
+/// Returns the lines of a tool, with what its table says of it besides its body. It has a warning about
+/// its offset unless no tool of the table has one.
+pub(crate) fn tool_lines(unset: bool, table: &[ToolLimits], tool: &Tool) -> Lines
+    ensures { result.items ≡ tool_lines unset table.now tool.now }
+{
+    let limits = limits_of(tool.number, table);
     let mut lines = ArrayVec::new();
     add_all(&mut lines, &tool_facts(tool));
     add_parts(&mut lines, tool.bottom, &tool.parts);
-    warn(&mut lines, is_short_tool(tool), Warning::Short(tool.number));
+    add_limits(&mut lines, &limits);
+    warn(
+        &mut lines,
+        is_short_tool(tool),
+        short_warning(&limits, tool.number),
+    );
     warn(
         &mut lines,
         !unset && is_odd_offset(tool),

@@ -7,9 +7,11 @@ ghost use Rattle.ngc_setup_sheet.specs.declared.line.Warning.TheVariants as warn
 ghost use Rattle.ngc_setup_sheet.specs.Spelling.{span_text, place_text, block_system, block_text};
 ghost use Rattle.ngc_setup_sheet.specs.Spelling.{system_text, origin_text, fact_text};
 ghost use Rattle.ngc_setup_sheet.specs.Spelling.{figure_text, warning_text};
-ghost use Rattle.ngc_setup_sheet.specs.Spelling.{bracketed, corner_note, line_text};
+ghost use Rattle.ngc_setup_sheet.specs.Spelling.{bracketed, corner_note, limits_text, line_text};
+ghost use Rattle.ngc_setup_sheet.specs.Spelling.{written_note};
 
 use crate::line::{Axis, Fact, Figure, Line, Span, Warning};
+use ngc_file_figures::Limits;
 use ngc_fixed_length::{Point3, System};
 use ngc_machine_files::{Name, StockBox};
 use ngc_sentences::{Page, Part, say};
@@ -114,6 +116,10 @@ fn fact(fact: &Fact) -> &'static [u8]
         Fact::Extent(Axis::Z) => b"  on Z                  ",
         Fact::Offset => b"  length offset         ",
         Fact::Part => b"  part                  ",
+        Fact::Cutter => b"  cutter                ",
+        Fact::SpindleLimits => b"  spindle               ",
+        Fact::FeedLimits => b"  feed                  ",
+        Fact::PlungeLimits => b"  feed straight down    ",
     }
 }
 
@@ -122,6 +128,18 @@ fn say_length<W: Sink>(nanometres: &i64, page: &mut Page, output: &mut W)
         (W.failures output.old) (W.failures output.new) page.old page.new (mm_text nanometres.now) }
 {
     say!(page, output; Part::Millimetres(*nanometres));
+}
+
+/// Says limits in millionths of a unit, without it.
+fn say_limits<W: Sink>(limits: &Limits, page: &mut Page, output: &mut W)
+    ensures { Says (W.written output.old) (W.written output.new)
+        (W.failures output.old) (W.failures output.new) page.old page.new (limits_text limits.now) }
+{
+    if limits.least == 0 {
+        say!(page, output; b"at most ", Part::Size(u128::from(limits.greatest)));
+    } else {
+        say!(page, output; Part::Size(u128::from(limits.least)), b" to ", Part::Size(u128::from(limits.greatest)));
+    }
 }
 
 /// Says the coordinate system of a block of material.
@@ -173,6 +191,19 @@ fn say_figure<W: Sink>(figure: &Figure, page: &mut Page, output: &mut W)
         Figure::Acceleration(number) => {
             say!(page, output; Part::Thousandths(*number), b" mm/s^2")
         }
+        Figure::SpeedAsWritten(number, written) =>
+            say!(page, output; Part::Thousandths(*number), b" mm/min (", Part::Size(u128::from(*written)), b" as written)"),
+        Figure::AccelerationAsWritten(number, written) =>
+            say!(page, output; Part::Thousandths(*number), b" mm/s^2 (", Part::Size(u128::from(*written)), b" as written)"),
+        Figure::Cutter(cutter) => say!(page, output; Part::Text(cutter.name().as_bytes())),
+        Figure::Turning(limits) => {
+            say_limits(limits, page, output);
+            say!(page, output; b" rpm");
+        }
+        Figure::Feeds(limits) => {
+            say_limits(limits, page, output);
+            say!(page, output; b" mm/min");
+        }
         Figure::Span(heights) => page.say(output, &span(heights)),
         Figure::Place(point) => page.say(output, &place(point)),
         Figure::Part(heights, diameter) => {
@@ -206,15 +237,23 @@ fn say_warning_text<W: Sink>(warning: &Warning, page: &mut Page, output: &mut W)
             say!(page, output; b"the acceleration is not from 1 to 20000 mm/s^2"),
         Warning::Arcs =>
             say!(page, output; b"the acceleration on arcs is below 1 mm/s^2, so arcs crawl: raise `turn` to about 500000 times `change`"),
+        Warning::WrittenTurn =>
+            say!(page, output; b"the acceleration on arcs is below 1 mm/s^2, so arcs crawl: raise `turn` to about the least `acceleration` of the axes"),
+        Warning::WrittenArcs =>
+            say!(page, output; b"the acceleration on arcs is below 1 mm/s^2, so arcs crawl: raise the least `acceleration` of the axes"),
         Warning::Travel(axis) => say!(page, output; Part::Text(short_travel(*axis))),
         Warning::Origin(system) =>
             say!(page, output; b"the origin of ", Part::Text(system_name(*system)), b" is outside the travel: no tool reaches it"),
         Warning::Thin(number) =>
             say!(page, output; b"fixture ", Part::Number(*number as u128), b" is thinner than 0.1 mm: its corners are in nanometres"),
+        Warning::WrittenThin(number) =>
+            say!(page, output; b"fixture ", Part::Number(*number as u128), b" is thinner than 0.1 mm: is the unit of its corners right?"),
         Warning::OutOfReach(number) =>
             say!(page, output; b"fixture ", Part::Number(*number as u128), b" is where no tool reaches"),
         Warning::Short(number) =>
             say!(page, output; Part::Tool(*number), b" is shorter than 1 mm: lengths are in nanometres"),
+        Warning::WrittenShort(number) =>
+            say!(page, output; Part::Tool(*number), b" is shorter than 1 mm: is the unit of its lengths right?"),
         Warning::Offset(number) =>
             say!(page, output; Part::Tool(*number), b" has an offset of more than twice or less than half its length"),
         Warning::Unset =>
@@ -269,6 +308,14 @@ fn say_corner_note<W: Sink>(speed: u128, page: &mut Page, output: &mut W)
     say!(page, output; b"note: motions meet at ", Part::Thousandths(speed), b" mm/min at most, except lines in one direction: `jump`, `ring` and `arc_feed` in the machine file would make it faster (docs/RUNNING.md)\n");
 }
 
+/// Says the note on a machine file of version 3 without a jump.
+fn say_written_note<W: Sink>(speed: u128, page: &mut Page, output: &mut W)
+    ensures { Says (W.written output.old) (W.written output.new)
+        (W.failures output.old) (W.failures output.new) page.old page.new (written_note speed) }
+{
+    say!(page, output; b"note: motions meet at ", Part::Thousandths(speed), b" mm/min at most, except lines in one direction: without `jump`, `ring` and `arc_feed` in the machine file it would be faster (docs/RUNNING.md)\n");
+}
+
 /// Says a line.
 pub(crate) fn say_line<W: Sink>(line: &Line, page: &mut Page, output: &mut W)
     ensures { Says (W.written output.old) (W.written output.new)
@@ -288,6 +335,7 @@ pub(crate) fn say_line<W: Sink>(line: &Line, page: &mut Page, output: &mut W)
             say!(page, output; b"\n");
         }
         Line::CornerNote(speed) => say_corner_note(*speed, page, output),
+        Line::WrittenCornerNote(speed) => say_written_note(*speed, page, output),
         Line::Warning(told) => say_warning(b"warning: ", told, b"\n", page, output),
         Line::WarningFact(told) => say_warning(
             b",\n{\"fact\":\"warning\",\"text\":\"",

@@ -6,10 +6,10 @@ ghost use Rattle.ngc_setup_sheet.specs.Warnings.{is_odd_speed, is_odd_accelerati
 ghost use Rattle.ngc_setup_sheet.specs.Warnings.{is_slow_on_arcs, is_thin, is_short_tool};
 ghost use Rattle.ngc_setup_sheet.specs.Warnings.{is_odd_offset, is_unset, are_unset};
 
-use crate::figures::{gain, pull, speed};
 use crate::reach::top_of;
 use ngc_fixed_length::Nm;
 use ngc_machine_files::{Fixture, Machine, Tool};
+use ngc_machine_speeds::{gain, pull, speed};
 use std::alloc::Allocator;
 
 pub(crate) fn is_odd_speed<A: Allocator>(machine: &Machine<A>) -> bool

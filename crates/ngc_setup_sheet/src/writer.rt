@@ -41,6 +41,7 @@ fn is_warning(line: &Line) -> bool
         | Line::Tool(..)
         | Line::Fact(_, _)
         | Line::CornerNote(_)
+        | Line::WrittenCornerNote(_)
         | Line::WarningFact(_)
         | Line::WarningRemark(_) => false,
     }
@@ -56,6 +57,7 @@ fn as_fact(line: &Line) -> Line
         | Line::Tool(..)
         | Line::Fact(_, _)
         | Line::CornerNote(_)
+        | Line::WrittenCornerNote(_)
         | Line::WarningFact(_)
         | Line::WarningRemark(_) => *line,
     }
@@ -71,6 +73,7 @@ fn as_remark(line: &Line) -> Line
         | Line::Tool(..)
         | Line::Fact(_, _)
         | Line::CornerNote(_)
+        | Line::WrittenCornerNote(_)
         | Line::WarningFact(_)
         | Line::WarningRemark(_) => *line,
     }

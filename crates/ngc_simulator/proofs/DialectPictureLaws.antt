@@ -9,8 +9,8 @@ use Rattle.ngc_command_line.specs.declared.options.DrawOptions.{DrawOptions}
 use Rattle.ngc_commands.specs.declared.command.Command.{Command}
 use Rattle.ngc_dialect_execution.specs.Program.{meaning_in}
 use Rattle.ngc_dialect_names.specs.declared.dialect.Dialect.{Dialect}
-use Rattle.ngc_drawing.specs.declared.look.Look.{Look}
-use Rattle.ngc_drawing.specs.declared.view.View.{View}
+use Rattle.ngc_picture_shapes.specs.declared.look.Look.{Look}
+use Rattle.ngc_picture_shapes.specs.declared.view.View.{View}
 use Rattle.ngc_machine_files.specs.Machine.{MachineFile}
 use Rattle.ngc_program_report.specs.Coordinates.{History}
 use Rattle.ngc_inputs.specs.Jobs.{IsNoCertificate}

@@ -1,5 +1,8 @@
 -- The report of a program for another control, from the results of its parts.
-use Rattle.std.proofs.Common.{◌≡◌, ℕ, List, Option, Some, None, Result, Ok, Err, IfErr, inr, refl}
+use Rattle.std.proofs.Common.{◌≡◌, ℕ, List, Option, Some, None, Result, Ok, Err, IfErr, inl, inr, refl}
+use Rattle.ngc_file_figures.specs.Files.{values_of}
+use Rattle.ngc_file_figures.specs.declared.figures.FileFigures.{FileFigures}
+use Rattle.ngc_canonical.specs.Interpreter.{setup_of}
 use Rattle.ngc_canonical.specs.State.{Setup}
 use Rattle.ngc_dialect_names.specs.declared.dialect.Dialect.{Dialect}
 use Rattle.ngc_inputs.specs.Unread.{unread_by}
@@ -10,19 +13,28 @@ use Rattle.ngc_program_report.specs.Reported.{other_lines}
 use Rattle.ngc_program_report.specs.declared.request.ReportRequest.{ReportRequest}
 use Rattle.ngc_command_line.specs.declared.options.ReportOptions.{ReportOptions}
 use Rattle.ngc_inputs.specs.Setups.{FileBytes}
-use Rattle.ngc_simulator.specs.Answers.{DialectReportResult, DialectReportsOn, StopsReport, requested_form}
-use Rattle.ngc_simulator.specs.Mistaken.{ReportsPlacedRefusal}
+use Rattle.ngc_simulator.specs.Answers.{DialectReportResult, DialectReportsOn, StopsReport, StopsShop, request_of}
 use Rattle.ngc_simulator.specs.DialectReports.{IsFramedDialect, ReportsDialect, dialect_notes}
 use Rattle.ngc_simulator.specs.Reporting.{ReportsJob}
+use Rattle.ngc_simulator.specs.declared.dialects.Sent.{Sent}
 use Rattle.ngc_simulator.specs.declared.done.Done.{Done}
 
 -- ---- the report
 
 -- a report that isn't written whole
 pub dialect_stopped : (d : Dialect) (setup : Setup) (source : List ℕ) (request : ReportRequest) (f : FramedData) (old new : Option (List ℕ)) (fault : AnswerFault)
-    → IsFramedDialect d setup source f → ReportsJob f (other_lines source (dialect_notes d setup source)) request old new (Err fault) → ReportsDialect d setup source request old new (Err fault)
+    → IsFramedDialect d setup source f → ReportsJob f (other_lines (values_of request.figures) source (dialect_notes d setup source)) request old new (Err fault) → ReportsDialect d setup source request old new (Err fault)
 dialect_stopped d setup source request f old new answers.Memory framed tells = absurd tells
 dialect_stopped d setup source request f old new _ framed tells = (f, framed, tells)
+
+-- the report of what was read, from that of the same without its figures
+pub report_asked : (sent moved : Sent) (figures : FileFigures) (options : ReportOptions) (request : ReportRequest) (old new : Option (List ℕ)) (outcome : Result Done AnswerFault)
+    → moved.dialect ≡ sent.dialect → moved.shop.machine ≡ sent.shop.machine → moved.shop.tools ≡ sent.shop.tools → moved.text ≡ sent.text
+    → request ≡ request_of figures options
+    → ReportsDialect moved.dialect (setup_of moved.shop.machine moved.shop.tools) moved.text.items request old new outcome
+    → ReportsDialect sent.dialect (setup_of sent.shop.machine sent.shop.tools) sent.text.items (request_of figures options) old new outcome
+report_asked sent moved figures options request old new outcome dialect machine tools text asked reports =
+    rw (← dialect, ← machine, ← tools, ← text, ← asked) reports
 
 -- no file was left unread
 pub report_read : (d : Dialect) (setup : Setup) (source : List ℕ) (request : ReportRequest) (old new : Option (List ℕ)) (outcome : Result Done AnswerFault) →
@@ -35,12 +47,12 @@ report_read d setup source request old new (Err _) tells = refl
 
 -- ---- its files
 
--- a machine file or a tool table that is refused, or a file that isn't read
+-- a machine file or a tool table that is refused, a file that isn't read, or cells without material
 pub stops_report : (control : List ℕ) (bytes : FileBytes) (options : ReportOptions) (old new : Option (List ℕ)) (fault : AnswerFault)
-    → ReportsPlacedRefusal (requested_form options.json) bytes (Some options.machine.now) (Some options.tools.now) options.changes old new fault
-    → StopsReport control bytes options old new fault
-stops_report control bytes options old new answers.UnknownControl refuses = absurd refuses.0
-stops_report control bytes options old new _ refuses = refuses
+    → StopsShop bytes options old new fault → StopsReport control bytes options old new fault
+stops_report control bytes options old new answers.UnknownControl (inl refuses) = absurd refuses.0
+stops_report control bytes options old new answers.UnknownControl (inr idle) = absurd idle.1
+stops_report control bytes options old new _ stops = stops
 
 -- a report that is made of files that were read
 pub dialect_reported : (control : List ℕ) (bytes : FileBytes) (options : ReportOptions) (old new : Option (List ℕ)) (outcome : Result Done AnswerFault)

@@ -33,10 +33,10 @@ use Rattle.ngc_command_line.specs.declared.options.DrawOptions.{DrawOptions}
 use Rattle.ngc_drawing.specs.Pictures.{picture_text}
 use Rattle.ngc_drawing.specs.declared.fault.DrawFault.{DrawFault}
 use Rattle.ngc_drawing.specs.declared.fault.DrawFault.TheVariants.{Memory, Write}
-use Rattle.ngc_drawing.specs.declared.look.Look.{Look}
+use Rattle.ngc_picture_shapes.specs.declared.look.Look.{Look}
 use Rattle.ngc_drawing.specs.declared.origin.WorkOrigin.{WorkOrigin}
 use Rattle.ngc_drawing.specs.declared.refusal.RefusedMotion.{RefusedMotion}
-use Rattle.ngc_drawing.specs.declared.view.View.{View}
+use Rattle.ngc_picture_shapes.specs.declared.view.View.{View}
 use Rattle.ngc_simulator.specs.Answers.{DrawsFrom, certificate_input, certificate_inputs, own_draw_inputs, program_input}
 use Rattle.ngc_program_report.specs.Coordinates.{History, history_of}
 use Rattle.ngc_simulator.specs.Drawing.{Draws, DrawsCertified, DrawsNamed, DrawsProgram, IsFirstRefused, IsNamedRefusal, IsPicture, IsPictureOf}

@@ -3,6 +3,7 @@ use Rattle.std.proofs.Common.{◌≡◌, ℕ, List, Option, Some, Bool, true, fa
 use Rattle.std.proofs.Common.{◌∙◌}
 use Rattle.std.specs.Prelude.{◌⊎◌, IfErr, is_some, option_map}
 use Rattle.std.specs.Io.KnownBytes.{Appends, Keeps}
+use Rattle.ngc_file_figures.specs.Files.{values_of}
 use Rattle.ngc_text.specs.Written.{AppendsPrefix}
 use Rattle.ngc_text.specs.declared.writing.WriteFault.{WriteFault}
 use Rattle.ngc_line_reader.specs.Grammar.{Reading}
@@ -21,9 +22,11 @@ use Rattle.ngc_certificate.specs.declared.fault.MakeFault.TheVariants.{NotCleare
 use Rattle.ngc_certificate.specs.Made.{IsMade}
 use Rattle.ngc_job.specs.Job.{IsJobOf, commands_in}
 use Rattle.ngc_command_line.specs.declared.options.ReportOptions.{ReportOptions}
-use Rattle.ngc_machine_files.specs.Machine.{MachineFile}
+use Rattle.ngc_machine_files.specs.Machine.{MachineFile, file_of}
 use Rattle.ngc_machine_files.specs.declared.tools.Tool.{Tool}
-use Rattle.ngc_simulator.specs.Answers.{ReportsOn, request_of}
+use Rattle.ngc_file_figures.specs.declared.figures.FileFigures.{FileFigures}
+use Rattle.ngc_simulator.specs.Answers.{AreFiguresOf, ReportsOn, request_of}
+use Rattle.ngc_simulator.specs.Cells.{is_idle}
 use Rattle.ngc_program_report.specs.JobReports.{IsFitText, IsRefusalText, IsRefusalsText, IsStartClear, OffBegins, Prints}
 use Rattle.ngc_program_report.specs.Coordinates.{History}
 use Rattle.ngc_program_report.specs.Framed.{FramedData, IsHistoryAt, frames_in, setup_in}
@@ -70,21 +73,21 @@ module _ (setup : Setup) (bytes : List ℕ) (request : ReportRequest) (text : Pr
   frames_at Off = frames_as Off f.off off_is
   frames_at On = frames_as On f.on on_is
 
-  fit_report : (c : CertificateData) (t : List ℕ) → IsMadeOf f.job request.cuts c → IsFitText f c request.form request.origins (own_lines text.lines) t → IsFitReport setup bytes request t
+  fit_report : (c : CertificateData) (t : List ℕ) → IsMadeOf f.job request.cuts c → IsFitText f c request.form request.origins request.cells (own_lines (values_of request.figures) text.lines) t → IsFitReport setup bytes request t
   fit_report c t made is = record {
     certificate = c;
     made = made_for_file setup bytes request.cuts text f.job c is_text have is_job made;
     off_found = is.off_found;
-    off_are = subst (λ (m : MachineFile). AreFindings m f.job.off is.off_found) the_job.machine is.off_are;
+    off_are = subst (λ (m : MachineFile). AreFindings request.cells m f.job.off is.off_found) the_job.machine is.off_are;
     on_found = is.on_found;
-    on_are = subst (λ (m : MachineFile). AreFindings m (commands_in true f.job) is.on_found) the_job.machine is.on_are;
+    on_are = subst (λ (m : MachineFile). AreFindings request.cells m (commands_in true f.job) is.on_found) the_job.machine is.on_are;
     tells = is.tells
         ∙ ap (λ (d : Bool). fits_text request.form request.origins d (setup_in f.job) f.job.off (commands_in true f.job) c is.off_found is.on_found
-        f.off f.on (own_lines text.lines)) the_job.apart
+        f.off f.on (own_lines (values_of request.figures) text.lines)) the_job.apart
         ∙ ap (λ (s : Setup). fits_text request.form request.origins (has_deleted (parsed_program text have.readings).lines) s f.job.off (commands_in true f.job) c
-        is.off_found is.on_found f.off f.on (own_lines text.lines)) same_setup
+        is.off_found is.on_found f.off f.on (own_lines (values_of request.figures) text.lines)) same_setup
         ∙ ap₂ (λ (off_h on_h : History). fits_text request.form request.origins (has_deleted (parsed_program text have.readings).lines) setup f.job.off
-        (commands_in true f.job) c is.off_found is.on_found off_h on_h (own_lines text.lines))
+        (commands_in true f.job) c is.off_found is.on_found off_h on_h (own_lines (values_of request.figures) text.lines))
         (frames_at Off) (frames_at On);
   }
 
@@ -99,7 +102,7 @@ module _ (setup : Setup) (bytes : List ℕ) (request : ReportRequest) (text : Pr
   refused_made s k is =
       subst (λ (m : MachineFile). IsMade m request.cuts f.job.off (commands_in true f.job) (Err (NotCleared s k))) the_job.machine is
 
-  first_report : (s : Setting) (k : ℕ) (t : List ℕ) → IsUnmade f.job request.cuts (NotCleared s k) → t ≡ first_text f.job request.form request.origins s k (own_lines text.lines) (frames_in s f)
+  first_report : (s : Setting) (k : ℕ) (t : List ℕ) → IsUnmade f.job request.cuts (NotCleared s k) → t ≡ first_text f.job request.form request.origins s k (own_lines (values_of request.figures) text.lines) (frames_in s f)
       → IsFirstReport setup bytes request s k t
   first_report s k t unmade tells = record {
     off = f.job.off;
@@ -107,15 +110,15 @@ module _ (setup : Setup) (bytes : List ℕ) (request : ReportRequest) (text : Pr
     means = means_job setup bytes text f.job is_text have is_job;
     made = refused_made s k unmade;
     tells = tells
-        ∙ ap (λ (cs : List Command). refusal_text request.form request.origins (is_some f.job.on) s (setup_in f.job) cs k (own_lines text.lines) (frames_in s f))
+        ∙ ap (λ (cs : List Command). refusal_text request.form request.origins (is_some f.job.on) s (setup_in f.job) cs k (own_lines (values_of request.figures) text.lines) (frames_in s f))
         (at_setting s)
         ∙ ap (λ (d : Bool). refusal_text request.form request.origins d s (setup_in f.job) (commands_of s f.job.off (commands_in true f.job)) k
-        (own_lines text.lines) (frames_in s f)) the_job.apart
+        (own_lines (values_of request.figures) text.lines) (frames_in s f)) the_job.apart
         ∙ ap₂ (λ (of : Setup) (h : History). refusal_text request.form request.origins (has_deleted (parsed_program text have.readings).lines) s of
-        (commands_of s f.job.off (commands_in true f.job)) k (own_lines text.lines) h) same_setup (frames_at s);
+        (commands_of s f.job.off (commands_in true f.job)) k (own_lines (values_of request.figures) text.lines) h) same_setup (frames_at s);
   }
 
-  all_report : (s : Setting) (k : ℕ) (t : List ℕ) → IsUnmade f.job request.cuts (NotCleared s k) → IsRefusalsText f request.cuts s k request.form request.origins (own_lines text.lines) t
+  all_report : (s : Setting) (k : ℕ) (t : List ℕ) → IsUnmade f.job request.cuts (NotCleared s k) → IsRefusalsText f request.cuts s k request.form request.origins (own_lines (values_of request.figures) text.lines) t
       → IsAllReport setup bytes request s k t
   all_report s k t unmade is = record {
     off = f.job.off;
@@ -129,27 +132,27 @@ module _ (setup : Setup) (bytes : List ℕ) (request : ReportRequest) (text : Pr
     on_uncleared = subst (λ (m : MachineFile). AreUncleared m request.cuts (commands_in true f.job) is.on_ks) the_job.machine is.on_uncleared;
     on_begins = λ start. is.on_begins (subst IsStartClear (sym the_job.machine) start);
     tells = is.tells
-        ∙ ap (λ (d : Bool). refusals_text request.form request.origins d (setup_in f.job) f.job.off (commands_in true f.job) f.off f.on is.off_ks is.on_ks (own_lines text.lines))
+        ∙ ap (λ (d : Bool). refusals_text request.form request.origins d (setup_in f.job) f.job.off (commands_in true f.job) f.off f.on is.off_ks is.on_ks (own_lines (values_of request.figures) text.lines))
         the_job.apart
         ∙ ap (λ (of : Setup). refusals_text request.form request.origins (has_deleted (parsed_program text have.readings).lines) of f.job.off (commands_in true f.job)
-        f.off f.on is.off_ks is.on_ks (own_lines text.lines)) same_setup
+        f.off f.on is.off_ks is.on_ks (own_lines (values_of request.figures) text.lines)) same_setup
         ∙ ap₂ (λ (off_h on_h : History). refusals_text request.form request.origins (has_deleted (parsed_program text have.readings).lines) setup f.job.off
-        (commands_in true f.job) off_h on_h is.off_ks is.on_ks (own_lines text.lines))
+        (commands_in true f.job) off_h on_h is.off_ks is.on_ks (own_lines (values_of request.figures) text.lines))
         (frames_at Off) (frames_at On);
   }
 
   refusal_report : (all : Bool) (s : Setting) (k : ℕ) (t : List ℕ) → IsUnmade f.job request.cuts (NotCleared s k)
-      → IsRefusalText all f request s k (own_lines text.lines) t → IsReportOf all setup bytes request s k t
+      → IsRefusalText all f request s k (own_lines (values_of request.figures) text.lines) t → IsReportOf all setup bytes request s k t
   refusal_report true s k t unmade is = all_report s k t unmade is
   refusal_report false s k t unmade is = first_report s k t unmade is
 
   stopped_report : (t : List ℕ)
-      → IsJobFit f (own_lines text.lines) request t ⊎ ((s : Setting) × (k : ℕ) × IsJobMisfit f (own_lines text.lines) request s k t) → IsReport setup bytes request t
+      → IsJobFit f (own_lines (values_of request.figures) text.lines) request t ⊎ ((s : Setting) × (k : ℕ) × IsJobMisfit f (own_lines (values_of request.figures) text.lines) request s k t) → IsReport setup bytes request t
   stopped_report t (inl fits) = inl (fit_report fits.certificate t fits.made fits.tells)
   stopped_report t (inr misfits) = inr (inl (misfits.0, misfits.1, refusal_report request.all misfits.0 misfits.1 t misfits.2.unmade misfits.2.tells))
 
   -- the report of the job is that of the program
-  pub job_reported : (old new : Option (List ℕ)) (r : Result (Unit {0}) AnswerFault) → ReportsJob f (own_lines text.lines) request old new r →
+  pub job_reported : (old new : Option (List ℕ)) (r : Result (Unit {0}) AnswerFault) → ReportsJob f (own_lines (values_of request.figures) text.lines) request old new r →
       Reports setup bytes request old new r
   job_reported old new (Ok u) tells = (tells.0, fit_report tells.1.certificate tells.0 tells.1.made tells.1.tells, tells.2)
   job_reported old new (Err (answers.Make (NotCleared s k))) tells =
@@ -175,7 +178,7 @@ job_unread f lines request old new r P tells read = absurd (subst (ReportsJob f 
 -- ---- a job that isn't reported whole
 
 pub fit_stopped : (f : FramedData) (lines : ReportedLines) (request : ReportRequest) (c : CertificateData) (old new : Option (List ℕ)) (fault : ReportFault)
-    → IsMadeOf f.job request.cuts c → Prints (IsFitText f c request.form request.origins lines) old new (Err fault)
+    → IsMadeOf f.job request.cuts c → Prints (IsFitText f c request.form request.origins request.cells lines) old new (Err fault)
     → ReportsJob f lines request old new (Err (of_report fault))
 fit_stopped f lines request c old new faults.Memory made tells = tells
 fit_stopped f lines request c old new (faults.Write fault) made tells =
@@ -257,19 +260,27 @@ report_sink (faults.Write fault) old new h = h
 -- ---- on the files that the command line names
 
 -- the request is that of the options
-pub asked : (options : ReportOptions) (shop : Shop) (request : ReportRequest) (source old new : Option (List ℕ)) (outcome : Result (Unit {0}) AnswerFault)
-    → request ≡ request_of options → IfSome source (λ text. Reports (setup_of shop.machine shop.tools) text request old new outcome)
-    → IfSome source (λ text. Reports (setup_of shop.machine shop.tools) text (request_of options) old new outcome)
-asked options shop request source old new outcome is reports =
+pub asked : (figures : FileFigures) (options : ReportOptions) (shop : Shop) (request : ReportRequest) (source old new : Option (List ℕ)) (outcome : Result (Unit {0}) AnswerFault)
+    → request ≡ request_of figures options → IfSome source (λ text. Reports (setup_of shop.machine shop.tools) text request old new outcome)
+    → IfSome source (λ text. Reports (setup_of shop.machine shop.tools) text (request_of figures options) old new outcome)
+asked figures options shop request source old new outcome is reports =
     subst (λ (r : ReportRequest). IfSome source (λ text. Reports (setup_of shop.machine shop.tools) text r old new outcome)) is reports
 
-pub reported_files : (bytes after : FileBytes) (options : ReportOptions) (shop : Shop) (source : Option (List ℕ)) (old new : Option (List ℕ))
+pub reported_files : (bytes after : FileBytes) (figures : FileFigures) (options : ReportOptions) (shop : Shop) (source : Option (List ℕ)) (old new : Option (List ℕ))
     (outcome : Result (Unit {0}) AnswerFault)
+    → AreFiguresOf bytes options figures
     → PlacedResultIs bytes (Some options.machine.now) (Some options.tools.now) options.changes (Ok shop) → KeepsFiles bytes after
-    → source ≡ after (option_map (λ n. n.now) options.program)
-    → IfSome source (λ text. Reports (setup_of shop.machine shop.tools) text (request_of options) old new outcome) → ReportsOn bytes options old new outcome
-reported_files bytes after options shop source old new outcome said keeps is reports =
-    on_placed bytes (Some options.machine.now) (Some options.tools.now) options.changes (setup_of shop.machine shop.tools)
-    (λ setup. IfSome (bytes (option_map (λ n. n.now) options.program)) (λ text. Reports setup text (request_of options) old new outcome))
-    said.0 said.1 (of_file _ source (λ text. Reports (setup_of shop.machine shop.tools) text (request_of options) old new outcome)
-    (is ∙ keeps (option_map (λ n. n.now) options.program)) reports)
+    → source ≡ after (option_map (λ n. n.now) options.program) → is_idle options.cells (file_of shop.machine).stock ≡ false
+    → IfSome source (λ text. Reports (setup_of shop.machine shop.tools) text (request_of figures options) old new outcome) → ReportsOn bytes options old new outcome
+reported_files bytes after figures options shop source old new outcome are said keeps is divides reports = (
+  figures,
+  are,
+  on_placed bytes (Some options.machine.now) (Some options.tools.now) options.changes (setup_of shop.machine shop.tools)
+      (λ setup. (is_idle options.cells setup.machine.stock ≡ false)
+      × IfSome (bytes (option_map (λ n. n.now) options.program)) (λ text. Reports setup text (request_of figures options) old new outcome))
+      said.0 said.1 (
+        divides,
+        of_file _ source (λ text. Reports (setup_of shop.machine shop.tools) text (request_of figures options) old new outcome)
+            (is ∙ keeps (option_map (λ n. n.now) options.program)) reports,
+      ),
+)

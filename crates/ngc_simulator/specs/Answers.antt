@@ -1,8 +1,10 @@
 -- The result of a run of the program.
 use Rattle.std.specs.Prelude.{◌≡◌, ◌⊎◌, ℕ, Bool, true, false, List, [], ◌∷◌, ◌++◌, Option, Some}
-use Rattle.std.specs.Prelude.{Result, Ok, Err, IfSome, option_map, MatchOption, None}
+use Rattle.std.specs.Prelude.{Result, Ok, Err, IfSome, option_map, MatchOption, None, unwrap_or}
 use Rattle.std.specs.Prelude.{if◌then◌else◌}
 use Rattle.std.specs.Io.KnownBytes.{Appends, Keeps}
+use Rattle.ngc_file_figures.specs.Files.{FigureValues, values_of}
+use Rattle.ngc_file_figures.specs.declared.figures.FileFigures.{FileFigures}
 use Rattle.ngc_command_line.specs.declared.options.ListOptions.{ListOptions}
 use Rattle.ngc_command_line.specs.declared.options.AdaptOptions.{AdaptOptions}
 use Rattle.ngc_command_line.specs.declared.options.CertifyOptions.{CertifyOptions}
@@ -37,7 +39,7 @@ use Rattle.ngc_simulator.specs.declared.writing.Writing.{Writing}
 use Rattle.ngc_simulator.specs.Writing.{writing_named}
 use Rattle.ngc_simulator.specs.Lists.{Lists}
 use Rattle.ngc_dialect_names.specs.declared.dialect.Dialect.{Dialect}
-use Rattle.ngc_drawing.specs.declared.view.View.{View}
+use Rattle.ngc_picture_shapes.specs.declared.view.View.{View}
 use Rattle.ngc_simulator.specs.Drawing.{DrawsNamed, DrawsProgram, look_of, view_named}
 use Rattle.ngc_simulator.specs.Showing.{Shows}
 use Rattle.ngc_report.specs.declared.form.Form.{Form}
@@ -55,10 +57,14 @@ use Rattle.ngc_simulator.specs.Lives.{Lives, live_named}
 use Rattle.ngc_simulator.specs.DialectRuns.{LivesDialect, RunsDialect, RunsDialectThrough}
 use Rattle.ngc_simulator.specs.Running.{IsTimeOf, Runs, RunsThrough}
 use Rattle.ngc_canonical.specs.State.{Setup}
-use Rattle.ngc_inputs.specs.Setups.{FileBytes, OnPlaced, OnSetup}
+use Rattle.ngc_inputs.specs.Setups.{AreFiguresIn, FileBytes, OnPlaced, OnSetup}
 use Rattle.ngc_margins.specs.declared.changes.Changes.{Changes}
-use Rattle.ngc_inputs.specs.Shops.{RefusesPlaced, RefusesShop}
+use Rattle.ngc_inputs.specs.Shops.{PlacedResultIs, RefusesPlaced, RefusesShop}
+use Rattle.ngc_inputs.specs.declared.setup.Shop.{Shop}
+use Rattle.ngc_machine_files.specs.Machine.{file_of}
 use Rattle.ngc_simulator.specs.Mistaken.{ReportsPlacedRefusal, ReportsRefusal}
+use Rattle.ngc_simulator.specs.Cells.{ReportsNoMaterial, is_idle}
+use Rattle.ngc_stock_report.specs.Placed.{USUAL_CELLS}
 use Rattle.ngc_program_report.specs.Times.{time_line}
 use Rattle.ngc_simulator.specs.Unreadable.{ReportsUnreadableFile}
 use Rattle.ngc_simulator.specs.AllFaults.{ReportsFaults}
@@ -137,30 +143,47 @@ DrawsFrom bytes options view old new outcome =
 abbrev pub ShowsOn : FileBytes → ShowOptions → Option (List ℕ) → Option (List ℕ) →
     Result (Unit {0}) AnswerFault → Type 0
 ShowsOn bytes options old new outcome =
+    (figures : FigureValues) × AreFiguresIn bytes (Some options.machine.now)
+    (option_map (λ name. name.now) options.tools) figures ×
     OnSetup bytes (Some options.machine.now) (option_map (λ name. name.now) options.tools)
-    (λ setup. Shows options.warnings setup old new outcome)
+    (λ setup. Shows options.warnings figures setup old new outcome)
 
 -- the form that is requested of a report
 abbrev pub requested_form : Bool → Form
 requested_form false = Words
 requested_form true = Json
 
-abbrev pub request_of : ReportOptions → ReportRequest
-request_of options = record {
+-- what is requested of a report, with what the files say besides the machine and its tools
+abbrev pub request_of : FileFigures → ReportOptions → ReportRequest
+request_of figures options = record {
   cuts = options.cuts;
   all = options.all;
   form = requested_form options.json;
   origins = options.changes.origins;
+  figures = figures;
+  cells = unwrap_or options.cells USUAL_CELLS;
   some_cuts = options.some_cuts;
 }
+
+-- what a call's machine file and tool table say besides the machine and its tools
+abbrev pub AreFiguresOf : FileBytes → ReportOptions → FileFigures → Type 0
+AreFiguresOf bytes options figures =
+    AreFiguresIn bytes (Some options.machine.now) (Some options.tools.now) (values_of figures)
+
+-- P of the machine of a report and its tools; it has a block of material where a number of cells is
+-- requested
+abbrev pub OnReportShop : FileBytes → ReportOptions → (Setup → Type 0) → Type 0
+OnReportShop bytes options P =
+    OnPlaced bytes (Some options.machine.now) (Some options.tools.now) options.changes
+    (λ setup. (is_idle options.cells setup.machine.stock ≡ false) × P setup)
 
 abbrev pub ReportsOn : FileBytes → ReportOptions → Option (List ℕ) → Option (List ℕ) →
     Result (Unit {0}) AnswerFault → Type 0
 ReportsOn bytes options old new outcome =
-    OnPlaced bytes (Some options.machine.now) (Some options.tools.now) options.changes
-    (λ setup.
+    (figures : FileFigures) × AreFiguresOf bytes options figures ×
+    OnReportShop bytes options (λ setup.
     IfSome (bytes (option_map (λ name. name.now) options.program))
-    (λ text. Reports setup text (request_of options) old new outcome))
+    (λ text. Reports setup text (request_of figures options) old new outcome))
 
 -- A machine file or tool table that is refused leaves the output unchanged, and so does a file that
 -- isn't read.
@@ -376,8 +399,7 @@ ShowResult bytes options old new outcome =
 abbrev pub UnreadableOn : FileBytes → ReportOptions → Option (List ℕ) → Option (List ℕ) →
     AnswerFault → Type 0
 UnreadableOn bytes options old new fault =
-    OnPlaced bytes (Some options.machine.now) (Some options.tools.now) options.changes
-    (λ setup.
+    OnReportShop bytes options (λ setup.
     IfSome (bytes (option_map (λ name. name.now) options.program)) (λ text.
     ReportsUnreadableFile (requested_form options.json)
     (option_map (λ name. name.now) options.program) text old new fault))
@@ -386,8 +408,7 @@ UnreadableOn bytes options old new fault =
 abbrev pub FaultsOn : FileBytes → ReportOptions → Option (List ℕ) → Option (List ℕ) →
     AnswerFault → Type 0
 FaultsOn bytes options old new fault = (options.all ≡ true) ×
-    OnPlaced bytes (Some options.machine.now) (Some options.tools.now) options.changes
-    (λ setup.
+    OnReportShop bytes options (λ setup.
     IfSome (bytes (option_map (λ name. name.now) options.program)) (λ text.
     ReportsFaults setup (requested_form options.json) text old new fault))
 
@@ -399,31 +420,48 @@ ReportFails bytes options old new fault =
     ((OfExplaining fault × UnreadableOn bytes options old new fault)
     ⊎ FaultsOn bytes options old new fault)
 
+-- the refusal of a machine file or a tool table is reported, and so is a number of cells without a block of
+-- material
+abbrev pub StopsShop : FileBytes → ReportOptions → Option (List ℕ) → Option (List ℕ) → AnswerFault →
+    Type 0
+StopsShop bytes options old new fault =
+    ReportsPlacedRefusal (requested_form options.json) bytes (Some options.machine.now)
+    (Some options.tools.now) options.changes old new fault
+    ⊎ (OnPlaced bytes (Some options.machine.now) (Some options.tools.now) options.changes
+    (λ setup. is_idle options.cells setup.machine.stock ≡ true)
+    × ReportsNoMaterial (requested_form options.json) old new fault)
+
+-- the machine and its tools, with nothing written, or the report in their place
+abbrev pub ReportShopIs : FileBytes → ReportOptions → Option (List ℕ) → Option (List ℕ) →
+    Result Shop AnswerFault → Type 0
+ReportShopIs bytes options old new (Ok shop) =
+    PlacedResultIs bytes (Some options.machine.now) (Some options.tools.now) options.changes (Ok shop)
+    × (new ≡ old) × (is_idle options.cells (file_of shop.machine).stock ≡ false)
+ReportShopIs bytes options old new (Err fault) = StopsShop bytes options old new fault
+
 abbrev pub OwnReportResult : FileBytes → ReportOptions → Option (List ℕ) → Option (List ℕ) →
     Result Done AnswerFault → Type 0
 OwnReportResult bytes options old new (Ok Quietly) = ReportsOn bytes options old new (Ok tt)
 OwnReportResult bytes options old new (Ok (RunThrough time)) = ⊥
 OwnReportResult bytes options old new (Ok (WithNotes notes)) = ⊥
 OwnReportResult bytes options old new (Err fault) =
-    ReportsPlacedRefusal (requested_form options.json) bytes (Some options.machine.now)
-    (Some options.tools.now) options.changes old new fault ⊎ ReportFails bytes options old new fault
+    StopsShop bytes options old new fault ⊎ ReportFails bytes options old new fault
 
--- a control that isn't known leaves the output unchanged, and the refusal of a machine file or a tool
--- table is reported
+-- a control that isn't known leaves the output unchanged, and what else stops a report is reported
 abbrev pub StopsReport : List ℕ → FileBytes → ReportOptions → Option (List ℕ) → Option (List ℕ) →
     AnswerFault → Type 0
 StopsReport control bytes options old new answers.UnknownControl =
     (named_dialect control ≡ None) × Keeps old new
-StopsReport control bytes options old new fault =
-    ReportsPlacedRefusal (requested_form options.json) bytes (Some options.machine.now)
-    (Some options.tools.now) options.changes old new fault
+StopsReport control bytes options old new fault = StopsShop bytes options old new fault
 
 abbrev pub DialectReportsOn : List ℕ → FileBytes → ReportOptions → Option (List ℕ) →
     Option (List ℕ) → Result Done AnswerFault → Type 0
 DialectReportsOn control bytes options old new outcome =
+    (figures : FileFigures) × AreFiguresOf bytes options figures ×
     OnDialect control bytes (Some options.machine.now) (Some options.tools.now) options.changes
     (option_map (λ name. name.now) options.program)
-    (λ d setup source. ReportsDialect d setup source (request_of options) old new outcome)
+    (λ d setup source. (is_idle options.cells setup.machine.stock ≡ false)
+    × ReportsDialect d setup source (request_of figures options) old new outcome)
 
 abbrev pub DialectReportResult : List ℕ → FileBytes → ReportOptions → Option (List ℕ) →
     Option (List ℕ) → Result Done AnswerFault → Type 0

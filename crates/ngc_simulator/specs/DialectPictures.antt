@@ -7,7 +7,7 @@ use Rattle.ngc_certificate_text.specs.ParsedPart.{parsed_certificate}
 use Rattle.ngc_commands.specs.declared.command.Command.{Command}
 use Rattle.ngc_dialect_execution.specs.Program.{meaning_in}
 use Rattle.ngc_dialect_names.specs.declared.dialect.Dialect.{Dialect}
-use Rattle.ngc_drawing.specs.declared.look.Look.{Look}
+use Rattle.ngc_picture_shapes.specs.declared.look.Look.{Look}
 use Rattle.ngc_inputs.specs.Jobs.{IsNoCertificate}
 use Rattle.ngc_inputs.specs.declared.fault.AnswerFault.{AnswerFault}
 use Rattle.ngc_inputs.specs.declared.fault.AnswerFault.TheVariants as answers

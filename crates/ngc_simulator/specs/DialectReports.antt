@@ -1,7 +1,6 @@
 -- The report of a program for another control. Our own.
-use Rattle.std.specs.Prelude.{◌≡◌, ◌==◌, ℕ, List, Option, Some, None, is_some, unwrap_or, IfSome, Result, Ok, Err, Bool}
+use Rattle.std.specs.Prelude.{◌≡◌, ℕ, List, Option, Some, None, is_some, unwrap_or, IfSome, Result, Ok, Err, Bool}
 use Rattle.std.specs.Prelude.{true, false}
-use Rattle.std.specs.List.{list_any}
 use Rattle.std.specs.Io.KnownBytes.{Keeps}
 use Rattle.ngc_canonical.specs.State.{Setup}
 use Rattle.ngc_dialect_execution.specs.Laws.{LeadTo}
@@ -12,13 +11,13 @@ use Rattle.ngc_dialect_execution.specs.declared.run.Wanted.{Wanted}
 use Rattle.ngc_dialect_notes.specs.Notes.{no_notes}
 use Rattle.ngc_dialect_notes.specs.declared.notes.Notes.{Notes}
 use Rattle.ngc_job.specs.Job.{AreCommands}
-use Rattle.ngc_dialect_execution.specs.Text.{first_byte}
+use Rattle.ngc_dialect_execution.specs.Text.{has_deleted}
 use Rattle.ngc_dialect_names.specs.declared.dialect.Dialect.{Dialect}
+use Rattle.ngc_file_figures.specs.Files.{values_of}
 use Rattle.ngc_frames.specs.Changes.{start_frame}
 use Rattle.ngc_inputs.specs.declared.fault.AnswerFault.{AnswerFault}
 use Rattle.ngc_inputs.specs.declared.fault.AnswerFault.TheVariants as answers
 use Rattle.ngc_job.specs.Job.{commands_in}
-use Rattle.ngc_line_reader.specs.Program.{split_lines}
 use Rattle.ngc_program_report.specs.Coordinates.{History, history_of}
 use Rattle.ngc_program_report.specs.Framed.{FramedData, framed_in, history_in}
 use Rattle.ngc_program_report.specs.Reported.{SettingNotes, other_lines}
@@ -28,18 +27,6 @@ use Rattle.ngc_simulator.specs.declared.dialect_reports.NotedJob.{NotedJob}
 use Rattle.ngc_simulator.specs.Reporting.{ReportsJob}
 use Rattle.ngc_simulator.specs.declared.done.Done.{Done}
 use Rattle.ngc_simulator.specs.declared.done.Done.TheVariants.{Quietly, RunThrough, WithNotes}
-
--- the first byte of a line that isn't white space is `/`
-abbrev pub is_slash : Option ℕ → Bool
-is_slash None = false
-is_slash (Some byte) = byte == 47
-
-abbrev pub begins_with_slash : List ℕ → Bool
-begins_with_slash line = is_slash (first_byte line)
-
--- a line of a text begins with `/`
-abbrev pub has_deleted : List ℕ → Bool
-has_deleted source = list_any begins_with_slash (split_lines source)
 
 -- the frames of a program's text at a setting of block delete
 abbrev pub dialect_frames : Dialect → Setup → Bool → List ℕ → History
@@ -93,11 +80,11 @@ abbrev pub ReportsDialect : Dialect → Setup → List ℕ → ReportRequest →
     Option (List ℕ) → Result Done AnswerFault → Type 0
 ReportsDialect d setup source request old new (Ok Quietly) = (f : FramedData) ×
     IsFramedDialect d setup source f ×
-    ReportsJob f (other_lines source (dialect_notes d setup source)) request old new (Ok tt)
+    ReportsJob f (other_lines (values_of request.figures) source (dialect_notes d setup source)) request old new (Ok tt)
 ReportsDialect d setup source request old new (Ok (RunThrough time)) = ⊥
 ReportsDialect d setup source request old new (Ok (WithNotes notes)) =
     NotesRefusal d setup source notes × Keeps old new
 ReportsDialect d setup source request old new (Err answers.Memory) = Keeps old new
 ReportsDialect d setup source request old new (Err fault) = (f : FramedData) ×
     IsFramedDialect d setup source f ×
-    ReportsJob f (other_lines source (dialect_notes d setup source)) request old new (Err fault)
+    ReportsJob f (other_lines (values_of request.figures) source (dialect_notes d setup source)) request old new (Err fault)

@@ -10,6 +10,7 @@ pub mod Unreadable
 pub mod AllFaults
 pub mod Making
 pub mod Mistaken
+pub mod Cells
 pub mod Status
 pub mod Adapting
 pub mod Dialects

@@ -22,6 +22,7 @@ use Rattle.ngc_machine_maker.specs.ShopUnits.{is_rounded}
 use Rattle.ngc_machine_writer.specs.File.{written_text}
 use Rattle.ngc_setup_sheet.specs.Sheets.{warning_remarks}
 use Rattle.ngc_written_machines.specs.Reading.{any_machine}
+use Rattle.ngc_written_machines.specs.Written.{any_figures}
 use Rattle.ngc_simulator.specs.declared.done.Notes.{Notes}
 use Rattle.ngc_inputs.specs.declared.fault.AnswerFault.{AnswerFault}
 use Rattle.ngc_inputs.specs.declared.fault.AnswerFault.TheVariants as answers
@@ -65,7 +66,7 @@ pub record AreChoices (options : MachineOptions) (c : Choices) : Type 0 where
 
 -- the figures of a source, before anything is chosen
 abbrev pub IsGiven : MachineOptions → Option (List ℕ) → Result Figures FigureRefusal → Type 0
-IsGiven options (Some dump) given = given ≡ figures_in dump
+IsGiven options (Some dump) given = given ≡ figures_in (not options.rates) dump
 IsGiven options None given = (o : Options) × AreFigures options o × (given ≡ figures_of o)
 
 abbrev pub with_choices : Choices → Result Figures FigureRefusal → Result Figures FigureRefusal
@@ -92,9 +93,10 @@ IsNotRead text (answers.Machine e) = Refuses e (any_machine text)
 IsNotRead text _ = ⊥
 
 -- the keys of a machine file, followed by the warnings of `ngc show` on this machine without tools,
--- as comments
+-- as comments, in sentences that fit the version of the keys
 abbrev pub with_remarks : List ℕ → MachineFile → List ℕ
-with_remarks keys machine = keys ++ warning_remarks machine []
+with_remarks keys machine =
+    keys ++ warning_remarks machine (record { machine = any_figures keys; tools = [] }) []
 
 -- the machine is the one that the keys describe, and the whole is read as a machine file
 pub record IsMadeText (keys text : List ℕ) : Type 0 where

@@ -2,6 +2,7 @@
 use Rattle.std.specs.Prelude.{◌≡◌, ◌⊎◌, ℕ, List, Option}
 use Rattle.std.specs.Prelude.{Result, Ok, Err, Bool, true, false}
 use Rattle.std.specs.Io.KnownBytes.{Appends, Keeps}
+use Rattle.ngc_file_figures.specs.Files.{values_of}
 use Rattle.ngc_text.specs.Written.{AppendsPrefix}
 use Rattle.ngc_line_reader.specs.ProgramText.{program_of}
 use Rattle.ngc_line_reader.specs.ProgramView.{FaultIs}
@@ -35,7 +36,7 @@ pub record IsJobFit (f : FramedData) (lines : ReportedLines) (request : ReportRe
     (text : List ℕ) : Type 0 where
   pub certificate : CertificateData
   pub made : IsMadeOf f.job request.cuts certificate
-  pub tells : IsFitText f certificate request.form request.origins lines text
+  pub tells : IsFitText f certificate request.form request.origins request.cells lines text
 
 -- the report of one of which command k isn't cleared at a setting
 pub record IsJobMisfit (f : FramedData) (lines : ReportedLines) (request : ReportRequest)
@@ -70,13 +71,13 @@ pub record IsFitReport (setup : Setup) (bytes : List ℕ) (request : ReportReque
   pub certificate : CertificateData
   pub made : IsMadeFor setup bytes request.cuts certificate
   pub off_found : Findings
-  pub off_are : AreFindings setup.machine made.off off_found
+  pub off_are : AreFindings request.cells setup.machine made.off off_found
   pub on_found : Findings
-  pub on_are : AreFindings setup.machine made.on on_found
+  pub on_are : AreFindings request.cells setup.machine made.on on_found
   pub tells : text ≡ fits_text request.form request.origins
       (has_deleted made.means.program.lines) setup made.off made.on certificate off_found on_found
       (frames_of setup made.means.program.lines Off) (frames_of setup made.means.program.lines On)
-      (own_lines made.means.is_program.text.lines)
+      (own_lines (values_of request.figures) made.means.is_program.text.lines)
 
 -- the report of one of which command k isn't cleared at a setting
 pub record IsFirstReport (setup : Setup) (bytes : List ℕ) (request : ReportRequest) (s : Setting)
@@ -87,7 +88,7 @@ pub record IsFirstReport (setup : Setup) (bytes : List ℕ) (request : ReportReq
   pub made : IsMade setup.machine request.cuts off on (Err (NotCleared s k))
   pub tells : text ≡ refusal_text request.form request.origins
       (has_deleted means.program.lines) s setup (commands_of s off on) k
-      (own_lines means.is_program.text.lines) (frames_of setup means.program.lines s)
+      (own_lines (values_of request.figures) means.is_program.text.lines) (frames_of setup means.program.lines s)
 
 -- the report of all commands that aren't cleared, at either setting: at least command k of that
 -- setting, or the start point
@@ -107,7 +108,7 @@ pub record IsAllReport (setup : Setup) (bytes : List ℕ) (request : ReportReque
   pub tells : text ≡ refusals_text request.form request.origins
       (has_deleted means.program.lines) setup off on
       (frames_of setup means.program.lines Off) (frames_of setup means.program.lines On)
-      off_ks on_ks (own_lines means.is_program.text.lines)
+      off_ks on_ks (own_lines (values_of request.figures) means.is_program.text.lines)
 
 abbrev pub IsReportOf : Bool → Setup → List ℕ → ReportRequest → Setting → ℕ → List ℕ → Type 0
 IsReportOf false setup bytes request s k text = IsFirstReport setup bytes request s k text

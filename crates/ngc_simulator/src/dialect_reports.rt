@@ -1,80 +1,28 @@
 //! Reports of programs for other controls.
-ghost use Rattle.std.specs.Prelude.{◌≡◌, ◌∷◌, ◌≤◌, ◌<◌, IfErr, IfOk, MatchResult, Some, length, unwrap_or};
+ghost use Rattle.std.specs.Prelude.{◌≡◌, IfErr, IfOk, MatchResult, Some, unwrap_or};
 ghost use Rattle.ngc_canonical.specs.Interpreter.{setup_of};
-ghost use Rattle.ngc_dialect_execution.specs.Text as spec;
 ghost use Rattle.ngc_inputs.specs.Faults.{FailsByOutput};
 ghost use Rattle.ngc_inputs.specs.Unread.{FailsByInput, SourceFails};
-ghost use Rattle.ngc_line_reader.specs.Program.{split_lines};
 ghost use Rattle.ngc_dialect_notes.specs.Notes.{no_notes};
 ghost use Rattle.ngc_simulator.specs.Answers.{DialectReportResult, report_inputs_in};
 ghost use Rattle.ngc_simulator.specs.DialectReports.{IsNotedJob, ReportsDialect};
-ghost use Rattle.ngc_simulator.specs.DialectReports.{begins_with_slash, has_deleted};
 ghost use Rattle.ngc_simulator.specs.Dialects.{NotesRefusal};
 
 use crate::dialects::{Sent, read_sent_reporting, traced_at};
 use crate::done::{Done, Notes};
 use crate::reporting::report_job;
 use crate::reporting_files::request_of;
-use memchr::memchr;
 use ngc_certificate_text::Setting;
 use ngc_command_line::ReportOptions;
-use ngc_dialect_execution::Wanted;
+use ngc_dialect_execution::{Wanted, has_deleted_lines};
 use ngc_dialect_names::Dialect;
 use ngc_dialect_notes::Notes as ProgramNotes;
+use ngc_file_figures::StoredFigures;
 use ngc_inputs::{AnswerFault, Files, Shop};
 use ngc_job::Job;
 use ngc_program_report::{FramedJob, OtherText, ReportRequest, ReportedText};
 use ngc_text::Sink;
 use std::alloc::Global;
-
-// Returns the first line of a text, and what follows its line feed.
-fn first_line(text: &[u8]) -> (&[u8], &[u8])
-    requires { 1 ≤ length text.now }
-    ensures lines { split_lines text.now ≡ result.0.now ∷ split_lines result.1.now }
-    ensures shorter { length result.1.now < length text.now }
-{
-    match memchr(b'\n', text) {
-        Some(end) => (&text[..end], &text[end + 1..]),
-        None => (text, &text[text.len()..]),
-    }
-}
-
-fn is_blank(byte: u8) -> bool
-    ensures { result ≡ spec.is_blank byte }
-{
-    byte == b' ' || byte == b'\t' || byte == b'\r'
-}
-
-// Returns the first byte of a line that isn't white space.
-fn first_byte(line: &[u8]) -> Option<u8>
-    ensures { result ≡ spec.first_byte line.now }
-{
-    line.iter().copied().find(|byte| !is_blank(*byte))
-}
-
-fn begins_with_slash(line: &[u8]) -> bool
-    ensures { result ≡ begins_with_slash line.now }
-{
-    match first_byte(line) {
-        None => false,
-        Some(byte) => byte == b'/',
-    }
-}
-
-// Returns whether a line of a text begins with `/`.
-fn has_deleted_lines(text: &[u8]) -> bool
-    ensures { result ≡ has_deleted text.now }
-{
-    let mut rest = text;
-    while !rest.is_empty() {
-        let (line, after) = first_line(rest);
-        if begins_with_slash(line) {
-            return true;
-        }
-        rest = after;
-    }
-    false
-}
 
 const NOTES: Wanted = Wanted {
     notes: true,
@@ -115,7 +63,7 @@ fn framed_dialect(
         Err(notes) => return Ok(Err(notes)),
     };
     if !has_deleted_lines(text) {
-        let Shop { machine, tools } = shop;
+        let Shop { machine, tools, .. } = shop;
         let job = Job::from_commands(machine, tools, off.framed.commands, None);
         let framed = FramedJob {
             job,
@@ -134,7 +82,7 @@ fn framed_dialect(
         Ok(on) => on,
         Err(notes) => return Ok(Err(notes)),
     };
-    let Shop { machine, tools } = shop;
+    let Shop { machine, tools, .. } = shop;
     let job = Job::from_commands(
         machine,
         tools,
@@ -153,11 +101,42 @@ fn framed_dialect(
     }))
 }
 
+// Returns the same without its figures, and its figures.
+fn without_figures(alloc: Global, sent: Sent) -> (Sent, StoredFigures)
+    ensures dialect { result.0.dialect ≡ sent.dialect }
+    ensures machine { result.0.shop.machine ≡ sent.shop.machine }
+    ensures tools { result.0.shop.tools ≡ sent.shop.tools }
+    ensures text { result.0.text ≡ sent.text }
+    ensures figures { result.1 ≡ sent.shop.figures }
+{
+    let Sent {
+        dialect,
+        shop,
+        text,
+    } = sent;
+    let Shop {
+        machine,
+        tools,
+        figures,
+    } = shop;
+    let shop = Shop {
+        machine,
+        tools,
+        figures: StoredFigures::none(alloc),
+    };
+    let sent = Sent {
+        dialect,
+        shop,
+        text,
+    };
+    (sent, figures)
+}
+
 // Writes the report of a program, or returns notes on why it is refused.
 fn report_sent<W: Sink>(
     alloc: Global,
     sent: Sent,
-    request: ReportRequest,
+    request: ReportRequest<'_>,
     output: &mut W,
 ) -> Result<Done, AnswerFault>
     ensures reports { ReportsDialect sent.dialect (setup_of sent.shop.machine sent.shop.tools)
@@ -173,6 +152,7 @@ fn report_sent<W: Sink>(
         Ok(noted) => {
             let other = OtherText {
                 text: text.as_slice(),
+                figures: request.figures,
                 off: noted.off,
                 on: noted.on,
             };
@@ -201,5 +181,6 @@ pub(crate) fn report_dialect<F: Files, W: Sink>(
     ensures sink { FailsByOutput result (W.failures output.old) (W.failures output.new) }
 {
     let sent = read_sent_reporting(alloc, control, options, files, output)?;
-    report_sent(alloc, sent, request_of(options), output)
+    let (sent, figures) = without_figures(alloc, sent);
+    report_sent(alloc, sent, request_of(figures.borrowed(), options), output)
 }

@@ -1,22 +1,23 @@
 //! Programs for other controls that are executed in their own language: their files, their commands, and
 //! why they are refused.
 ghost use Rattle.std.specs.Prelude.{◌≡◌, false, IfErr, IfOk, IfSome, IsSome, MatchResult, OnOk, Ok, Some, option_map};
+ghost use Rattle.ngc_file_figures.specs.Files.{stored};
 ghost use Rattle.ngc_canonical.specs.Interpreter.{setup_of};
 ghost use Rattle.ngc_dialect_execution.specs.Program.{meaning_in};
 ghost use Rattle.ngc_dialect_faults.specs.Lines.{fault_line};
 ghost use Rattle.ngc_simulator.specs.Answers.{StopsReport, dialect_inputs, report_inputs_in};
+ghost use Rattle.ngc_simulator.specs.Cells.{is_idle};
 ghost use Rattle.ngc_simulator.specs.DialectReports.{IsTraced, dialect_frames};
 ghost use Rattle.ngc_simulator.specs.Dialects.{IsRead, IsSent, NotesFault, StopsSending};
 ghost use Rattle.ngc_inputs.specs.Faults.{FailsByOutput};
-ghost use Rattle.ngc_inputs.specs.Setups.{KeepsFiles, KeepsNamed};
+ghost use Rattle.ngc_inputs.specs.Setups.{AreFiguresIn, KeepsFiles, KeepsNamed};
 ghost use Rattle.ngc_inputs.specs.Unread.{FailsByInput, ReportsUnread, SourceFails};
 ghost use Rattle.ngc_job.specs.Job.{AreCommands};
 ghost use Rattle.ngc_machine_files.specs.Machine.{file_of};
 ghost use Rattle.ngc_program_report.specs.Framed.{history_in};
 
 use crate::done::Notes;
-use crate::mistaken_files::read_placed_reporting;
-use crate::reporting_files::requested_form;
+use crate::report_shop::read_report_shop;
 use ngc_certificate_text::Setting;
 use ngc_command_line::ReportOptions;
 use ngc_dialect_execution::{
@@ -98,7 +99,7 @@ pub(crate) fn read_sent<F: Files>(
 }
 
 /// Reads the files of a report for a control, as `read_sent` does. If a machine file or a tool table is
-/// refused, its mistake is written.
+/// refused, its mistake is written, and a sentence if a number of cells is requested without material.
 pub(crate) fn read_sent_reporting<F: Files, W: Sink>(
     alloc: Global,
     control: &str,
@@ -109,7 +110,10 @@ pub(crate) fn read_sent_reporting<F: Files, W: Sink>(
     ensures sent { IfOk result (λ sent. IsRead control.now (Some options.now.machine.now)
         (Some options.now.tools.now) options.now.changes
         (option_map (λ n. n.now) options.now.program) (F.bytes files.old) sent
-        × (W.written output.new ≡ W.written output.old)) }
+        × (W.written output.new ≡ W.written output.old)
+        × (is_idle options.now.cells (file_of sent.shop.machine).stock ≡ false)) }
+    ensures figures { IfOk result (λ sent. AreFiguresIn (F.bytes files.old)
+        (Some options.now.machine.now) (Some options.now.tools.now) (stored sent.shop.figures)) }
     ensures stops { IfErr result (StopsReport control.now (F.bytes files.old) options.now
         (W.written output.old) (W.written output.new)) }
     ensures unread { FailsByInput (SourceFails F.R.remaining F.R.failures) (F.bytes files.old)
@@ -120,10 +124,7 @@ pub(crate) fn read_sent_reporting<F: Files, W: Sink>(
     let Some(dialect) = Dialect::named(control) else {
         return Err(AnswerFault::UnknownControl);
     };
-    let form = requested_form(options.json);
-    let (machine, tools) = (options.machine, Some(options.tools));
-    let changes = &options.changes;
-    let shop = read_placed_reporting(alloc, form, machine, tools, changes, files, output)?;
+    let shop = read_report_shop(alloc, options, files, output)?;
     let text = source_bytes(alloc, options.program, files)?;
     Ok(Sent {
         dialect,

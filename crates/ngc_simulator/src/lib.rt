@@ -25,6 +25,7 @@ mod mistaken_files;
 mod place_request;
 mod placing;
 mod program;
+mod report_shop;
 mod reporting;
 mod reporting_files;
 mod running;

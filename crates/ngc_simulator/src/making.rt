@@ -14,11 +14,12 @@ ghost use Rattle.ngc_simulator.specs.Making.{IsNotRead, IsUnmade, Makes, MakesFi
 ghost use Rattle.ngc_simulator.specs.Making.{MakeFails, has_all_figures, has_source};
 ghost use Rattle.ngc_inputs.specs.Unread.{FailsByInput, SourceFails};
 ghost use Rattle.ngc_written_machines.specs.Reading.{any_machine};
+ghost use Rattle.ngc_written_machines.specs.Written.{any_figures};
 
 use crate::done::{Done, Notes};
 use ngc_command_line::MachineOptions;
+use ngc_file_figures::FileFigures;
 use ngc_inputs::{AnswerFault, Files, bytes_of};
-use ngc_machine_files::Machine;
 use ngc_machine_maker::{
     Choices, FigureRefusal, Figures, MachineNumbers, Options, is_rounded, numbers_of, read_grbl,
     write_machine_file, write_notes, write_refusal,
@@ -26,7 +27,7 @@ use ngc_machine_maker::{
 use ngc_machine_writer::write_written_file;
 use ngc_setup_sheet::write_warning_remarks;
 use ngc_text::{Device, Sink, write_all};
-use ngc_written_machines::read_machine;
+use ngc_written_machines::{WrittenMachine, read_file};
 use std::alloc::Global;
 
 fn has_source(options: &MachineOptions<'_>) -> bool
@@ -103,7 +104,7 @@ fn requested_figures(
 {
     let choices = choices_of(options);
     let given = match dump {
-        Some(dump) => read_grbl(dump),
+        Some(dump) => read_grbl(!options.rates, dump),
         None => Figures::from_options(&figure_options(options)),
     };
     match given {
@@ -154,11 +155,13 @@ fn keys_text(
     }
 }
 
-// Returns the machine that a text describes.
-fn machine_in(alloc: Global, text: &[u8]) -> Result<Machine<Global>, AnswerFault>
-    ensures { MatchResult result (λ m. any_machine text.now ≡ Ok (file_of m)) (IsNotRead text.now) }
+// Returns the machine that a text describes, with its figures as they are written.
+fn machine_in(alloc: Global, text: &[u8]) -> Result<WrittenMachine, AnswerFault>
+    ensures machine { MatchResult result (λ m. any_machine text.now ≡ Ok (file_of m.machine))
+        (IsNotRead text.now) }
+    ensures figures { IfOk result (λ m. m.figures ≡ any_figures text.now) }
 {
-    match read_machine(alloc, text) {
+    match read_file(alloc, text) {
         Ok(machine) => Ok(machine),
         Err(fault) => Err(AnswerFault::Machine(fault)),
     }
@@ -167,14 +170,19 @@ fn machine_in(alloc: Global, text: &[u8]) -> Result<Machine<Global>, AnswerFault
 // Returns a text followed by the warnings of a machine, as comments.
 fn with_warnings(
     text: Vec<u8, Global>,
-    machine: &Machine<Global>,
+    machine: &WrittenMachine,
 ) -> Result<Vec<u8, Global>, AnswerFault>
-    ensures text { IfOk result
-        (λ made. made.items ≡ text.items ++ warning_remarks (file_of machine.now) []) }
+    ensures text { IfOk result (λ made. made.items
+        ≡ text.items ++ warning_remarks (file_of machine.now.machine)
+        (record { machine = machine.now.figures; tools = [] }) []) }
     ensures fault { IfErr result (λ fault. fault ≡ AnswerFault.Memory) }
 {
     let mut made = Device::new(text);
-    match write_warning_remarks(machine, &[], &mut made) {
+    let figures = FileFigures {
+        machine: machine.figures,
+        tools: &[],
+    };
+    match write_warning_remarks(&machine.machine, &figures, &[], &mut made) {
         Ok(()) => Ok(made.into_inner()),
         Err(_) => Err(AnswerFault::Memory),
     }

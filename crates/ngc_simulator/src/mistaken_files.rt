@@ -1,5 +1,5 @@
 //! The mistake of a machine file or a tool table that is refused, written before its fault.
-ghost use Rattle.std.specs.Prelude.{◌≡◌, ◌≢◌, IfErr, IsSomeAnd, None, OnErr, OnOk, Some};
+ghost use Rattle.std.specs.Prelude.{◌≡◌, ◌≢◌, IfErr, IfOk, IsSomeAnd, None, OnErr, OnOk, Some};
 ghost use Rattle.std.specs.Prelude.{option_map};
 ghost use Rattle.std.specs.Io.KnownBytes.{Appends};
 ghost use Rattle.ngc_text.specs.Failures.{CountsFailure};
@@ -12,7 +12,8 @@ ghost use Rattle.ngc_tool_mistakes.specs.Mistakes.{mistake_text as tools_mistake
 ghost use Rattle.ngc_inputs.specs.Faults.{FailsByOutput};
 ghost use Rattle.ngc_simulator.specs.Mistaken.{PlacedReportResultIs, ReportResultIs, OfText, ReportsMistake};
 ghost use Rattle.ngc_simulator.specs.Mistaken.{fault_document};
-ghost use Rattle.ngc_inputs.specs.Setups.{KeepsFiles};
+ghost use Rattle.ngc_file_figures.specs.Files.{stored};
+ghost use Rattle.ngc_inputs.specs.Setups.{AreFiguresIn, KeepsFiles};
 ghost use Rattle.ngc_inputs.specs.Unread.{FailsByInput, OfMachine, OfTools, SourceFails};
 ghost use Rattle.ngc_inputs.specs.Unread.{setup_input, shop_inputs, unread_by};
 
@@ -26,7 +27,8 @@ use ngc_text::{InputFault, Sink, WriteFault, write_all};
 use ngc_tool_mistakes::write_mistake as write_tools_mistake;
 use std::alloc::Global;
 
-fn write_fault_document<W: Sink>(number: u16, output: &mut W) -> Result<(), WriteFault>
+/// Writes a document that has the fault's number alone.
+pub(crate) fn write_fault_document<W: Sink>(number: u16, output: &mut W) -> Result<(), WriteFault>
     ensures ok { OnOk result
         (Appends (W.written output.old) (W.written output.new) (fault_document number)) }
     ensures fault { OnErr result
@@ -167,6 +169,8 @@ pub(crate) fn read_shop_reporting<F: Files, W: Sink>(
 ) -> Result<Shop, AnswerFault>
     ensures said { ReportResultIs form (F.bytes files.old) (Some machine.now)
         (option_map (λ n. n.now) tools.entry) (W.written output.old) (W.written output.new) result }
+    ensures figures { IfOk result (λ shop. AreFiguresIn (F.bytes files.old) (Some machine.now)
+        (option_map (λ n. n.now) tools.entry) (stored shop.figures)) }
     ensures keeps { KeepsFiles (F.bytes files.old) (F.bytes files.new) }
     // The first file that isn't read can't be opened, its source fails, or it is too long.
     ensures unread { FailsByInput (SourceFails F.R.remaining F.R.failures) (F.bytes files.old)
@@ -202,6 +206,8 @@ pub(crate) fn read_placed_reporting<F: Files, W: Sink>(
     ensures said { PlacedReportResultIs form (F.bytes files.old) (Some machine.now)
         (option_map (λ n. n.now) tools.entry) changes.now (W.written output.old)
         (W.written output.new) result }
+    ensures figures { IfOk result (λ shop. AreFiguresIn (F.bytes files.old) (Some machine.now)
+        (option_map (λ n. n.now) tools.entry) (stored shop.figures)) }
     ensures keeps { KeepsFiles (F.bytes files.old) (F.bytes files.new) }
     // The first file that isn't read can't be opened, its source fails, or it is too long.
     ensures unread { FailsByInput (SourceFails F.R.remaining F.R.failures) (F.bytes files.old)

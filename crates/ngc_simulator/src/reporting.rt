@@ -29,7 +29,7 @@ fn report_rejection<A: Allocator, W: Sink>(
     program: &Program<A>,
     setting: Setting,
     fault: ProgramFault,
-    request: ReportRequest,
+    request: ReportRequest<'_>,
     output: &mut W,
 ) -> AnswerFault
     // If memory ran out there is no report.
@@ -69,7 +69,7 @@ pub(crate) fn report_job<A: Allocator + Copy, W: Sink>(
     alloc: A,
     text: &ReportedText<'_, A>,
     framed: FramedJob<A>,
-    request: ReportRequest,
+    request: ReportRequest<'_>,
     output: &mut W,
 ) -> Result<(), AnswerFault>
     ensures reports { ReportsJob (framed_in framed) (reported text.now) request
@@ -78,8 +78,7 @@ pub(crate) fn report_job<A: Allocator + Copy, W: Sink>(
 {
     match plans_for(alloc, &framed.job, request.cuts) {
         Ok(plans) => {
-            let (form, origins) = (request.form, &request.origins);
-            report_fit(alloc, text, framed, &plans, form, origins, output)?;
+            report_fit(alloc, text, framed, &plans, &request, output)?;
             Ok(())
         }
         Err(MakeFault::NotCleared { setting, command }) => {
@@ -99,7 +98,7 @@ pub fn report_program<A: Allocator + Copy, R: Source, W: Sink>(
     source: &mut R,
     machine: Machine<A>,
     tools: Tools<A>,
-    request: ReportRequest,
+    request: ReportRequest<'_>,
     output: &mut W,
 ) -> Result<(), AnswerFault>
     // Where the source's bytes are known, the output is the report of their meaning.
@@ -120,6 +119,6 @@ pub fn report_program<A: Allocator + Copy, R: Source, W: Sink>(
             return Err(report_rejection(&program, setting, fault, request, output));
         }
     };
-    let text = ReportedText::Own(&program);
+    let text = ReportedText::Own(&program, request.figures);
     report_job(alloc, &text, framed, request, output)
 }

@@ -8,13 +8,15 @@ ghost use Rattle.ngc_inputs.specs.Unread.{FailsByInput, SourceFails};
 use crate::dialect_reports::report_dialect;
 use crate::done::Done;
 use crate::faults_files::report_all_faults;
-use crate::mistaken_files::read_placed_reporting;
+use crate::report_shop::read_report_shop;
 use crate::reporting::report_program;
 use crate::unread_files::report_unreadable;
 use ngc_command_line::ReportOptions;
-use ngc_inputs::{AnswerFault, Files, open_file};
+use ngc_file_figures::FileFigures;
+use ngc_inputs::{AnswerFault, Files, Shop, open_file};
 use ngc_program_report::ReportRequest;
 use ngc_report::Form;
+use ngc_stock_report::USUAL_CELLS;
 use ngc_text::Sink;
 use std::alloc::Global;
 
@@ -25,22 +27,28 @@ pub(crate) fn requested_form(json: bool) -> Form
     if json { Form::Json } else { Form::Words }
 }
 
-/// Returns what is requested of a report.
-pub(crate) fn request_of(options: &ReportOptions<'_>) -> ReportRequest
-    ensures { result ≡ request_of options.now }
+/// Returns what is requested of a report, with what the files say besides the machine and its tools.
+pub(crate) fn request_of<'a>(
+    figures: FileFigures<'a>,
+    options: &ReportOptions<'_>,
+) -> ReportRequest<'a>
+    ensures { result ≡ request_of figures options.now }
 {
     ReportRequest {
         cuts: options.cuts,
         all: options.all,
         form: requested_form(options.json),
         origins: options.changes.origins,
+        figures,
+        cells: options.cells.unwrap_or(USUAL_CELLS),
     }
 }
 
 // Writes the report of a program in our own language. Its faults are those of a certificate that isn't
-// made. If a machine file or a tool table is refused, its mistake is written. If a named program can't
-// be read, the line at fault is written. If all is requested, all faults of a named program that can't
-// be read or is refused are written.
+// made. If a machine file or a tool table is refused, its mistake is written, and a sentence if a number
+// of cells is requested without material. If a named program can't be read, the line at fault is
+// written. If all is requested, all faults of a named program that can't be read or is refused are
+// written.
 fn report_own<F: Files, W: Sink>(
     alloc: Global,
     options: &ReportOptions<'_>,
@@ -53,21 +61,17 @@ fn report_own<F: Files, W: Sink>(
         (own_report_inputs options.now) (F.failures files.old) (F.failures files.new) result }
     ensures sink { FailsByOutput result (W.failures output.old) (W.failures output.new) }
 {
-    let request = request_of(options);
-    let form = request.form;
-    let (machine, tools) = (options.machine, Some(options.tools));
-    let changes = &options.changes;
-    let shop = read_placed_reporting(alloc, form, machine, tools, changes, files, output)?;
+    let form = requested_form(options.json);
+    let shop = read_report_shop(alloc, options, files, output)?;
     report_all_faults(alloc, options, form, &shop, files, output)?;
     let mut source = open_file(options.program, files)?;
-    let fault = match report_program(
-        alloc,
-        &mut source,
-        shop.machine,
-        shop.tools,
-        request,
-        output,
-    ) {
+    let Shop {
+        machine,
+        tools,
+        figures,
+    } = shop;
+    let request = request_of(figures.borrowed(), options);
+    let fault = match report_program(alloc, &mut source, machine, tools, request, output) {
         Ok(()) => return Ok(Done::Quietly),
         Err(fault) => fault,
     };

@@ -27,13 +27,14 @@ side low high = unsigned_abs (high -ℤ low)
 abbrev pub cells_along : ℕ → ℕ → ℕ
 cells_along half length = div_ceil length (2 * half)
 
-abbrev pub MOST_CELLS : ℕ
-MOST_CELLS = 250000
+-- the number of cells unless another one is requested
+abbrev pub USUAL_CELLS : ℕ
+USUAL_CELLS = 250000
 
--- at most 250,000 of these cells cover the block
-abbrev pub is_covered : ℕ → StockBox → Bool
-is_covered half b =
-    nat_le (cells_along half (side b.low.x b.high.x) * cells_along half (side b.low.y b.high.y)) MOST_CELLS
+-- at most `most` of these cells cover the block
+abbrev pub is_covered : ℕ → ℕ → StockBox → Bool
+is_covered most half b =
+    nat_le (cells_along half (side b.low.x b.high.x) * cells_along half (side b.low.y b.high.y)) most
 
 -- half the width of a cell, which is a multiple of 0.01 mm
 abbrev pub half_of : ℕ → ℕ
@@ -43,12 +44,12 @@ half_of number = 5000 * number
 abbrev pub WIDEST : ℕ
 WIDEST = 200000
 
--- the least width at which the cells aren't too many; none is tried beyond two metres
-pub record IsLeast (b : StockBox) (number : ℕ) : Type 0 where
+-- the least width at which at most `most` cells cover the block; none is tried beyond two metres
+pub record IsLeast (most : ℕ) (b : StockBox) (number : ℕ) : Type 0 where
   pub some : 0 < number
-  pub most : number ≤ WIDEST
-  pub covered : number < WIDEST → IsTrue (is_covered (half_of number) b)
-  pub least : (k : ℕ) → 0 < k → k < number → ¬ (IsTrue (is_covered (half_of k) b))
+  pub within : number ≤ WIDEST
+  pub covered : number < WIDEST → IsTrue (is_covered most (half_of number) b)
+  pub least : (k : ℕ) → 0 < k → k < number → ¬ (IsTrue (is_covered most (half_of k) b))
 
 -- the block in the machine, with its system's origin and the half width of its cells
 abbrev pub placed : Point3 → StockBox → ℕ → Stock
@@ -64,10 +65,10 @@ placed origin b half =
       height = side b.low.z b.high.z;
     }
 
--- a machine's block of material, in the machine
-pub record IsPlaced (m : MachineFile) (s : Stock) : Type 0 where
+-- a machine's block of material, in the machine, in at most `most` cells
+pub record IsPlaced (most : ℕ) (m : MachineFile) (s : Stock) : Type 0 where
   pub block : StockBox
   pub is_block : m.stock ≡ Some block
   pub number : ℕ
-  pub width : IsLeast block number
+  pub width : IsLeast most block number
   pub stock : s ≡ placed (origin_at m block.system) block (half_of number)

@@ -1,6 +1,6 @@
 -- What the traverses and the feeds of a program may touch of a machine's material, and how deep its feeds
 -- cut. Our own.
-use Rattle.std.specs.Prelude.{◌≡◌, ◌⊎◌, List, [], Option, Some, None, IsTrue}
+use Rattle.std.specs.Prelude.{◌≡◌, ◌⊎◌, ℕ, List, [], Option, Some, None, IsTrue}
 use Rattle.ngc_machine_files.specs.Machine.{MachineFile}
 use Rattle.ngc_commands.specs.declared.command.Command.{Command}
 use Rattle.ngc_commands.specs.Reached.{at_start}
@@ -22,24 +22,25 @@ pub record WalkData : Type 0 where
   pub feeds : List Found
   pub cuts : List Cut
 
--- some of the cells, or the end of a motion, is more than two metres from the machine's zero
+-- some of the cells, or the end of a motion, is more than two metres from the machine's zero; or the cells are
+-- more than 4,000,000, which `--cells` doesn't allow
 abbrev pub IsFar : Stock → List Command → Type 0
 IsFar s commands = ¬ (IsGrid s.grid) ⊎ ¬ (IsTrue (are_reached commands))
 
-pub record IsFarFrom (m : MachineFile) (commands : List Command) : Type 0 where
+pub record IsFarFrom (most : ℕ) (m : MachineFile) (commands : List Command) : Type 0 where
   pub stock : Stock
-  pub placed : IsPlaced m stock
+  pub placed : IsPlaced most m stock
   pub far : IsFar stock commands
 
--- what a walk over the commands finds in the uncut material
-pub record IsWalk (m : MachineFile) (commands : List Command) (w : WalkData) : Type 0 where
-  pub placed : IsPlaced m w.stock
+-- what a walk over the commands finds in the uncut material, in at most `most` cells
+pub record IsWalk (most : ℕ) (m : MachineFile) (commands : List Command) (w : WalkData) : Type 0 where
+  pub placed : IsPlaced most m w.stock
   pub grid : IsGrid w.stock.grid
   pub near : IsTrue (are_reached commands)
   pub found : AreFound w.stock (at_start m) (uncut w.stock) 0 commands w.found w.feeds
   pub cuts : AreCuts w.stock (at_start m) (uncut w.stock) 0 commands w.found [] w.cuts
 
 -- no walk without a block of material, and none where it or a motion is far
-abbrev pub IsWalked : MachineFile → List Command → Option WalkData → Type 0
-IsWalked m commands None = (m.stock ≡ None) ⊎ IsFarFrom m commands
-IsWalked m commands (Some w) = IsWalk m commands w
+abbrev pub IsWalked : ℕ → MachineFile → List Command → Option WalkData → Type 0
+IsWalked most m commands None = (m.stock ≡ None) ⊎ IsFarFrom most m commands
+IsWalked most m commands (Some w) = IsWalk most m commands w

@@ -3,7 +3,7 @@ ghost use Rattle.ngc_stock_report.specs.Silent.{DeepestReport, SilentFeeds, Sile
 
 /// States that if a walk over a program's commands finds no traverse, no straight traverse meets material
 /// that the feeds before it have left, for each part of the tool, smaller by a margin and raised by a
-/// tolerance.
+/// tolerance. So it is for every number of cells, here and below; the margin is that of the cells.
 pub fn silent_report()
     ensures { SilentReport }
 {}

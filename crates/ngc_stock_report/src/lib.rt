@@ -10,5 +10,6 @@ mod placed;
 mod walked;
 mod written;
 
+pub use cells::USUAL_CELLS;
 pub use walked::{Walk, find_walk};
 pub use written::write_material;

@@ -39,7 +39,7 @@ pub(crate) fn origin_at<A: Allocator>(machine: &Machine<A>, system: u32) -> Poin
 }
 
 fn sum(origin: Nm, low: Nm) -> i64
-    requires origin { unsigned_abs origin ≤ 1000000000 }
+    requires origin { unsigned_abs origin ≤ 4000000000 }
     requires low { unsigned_abs low ≤ 1000000000 }
     ensures { result ≡ origin +ℤ low }
 {
@@ -78,22 +78,23 @@ fn placed(origin: &Point3, block: &StockBox, half: u32) -> Stock
     }
 }
 
-fn placed_in<A: Allocator>(machine: &Machine<A>, block: &StockBox) -> Stock
+fn placed_in<A: Allocator>(most: u32, machine: &Machine<A>, block: &StockBox) -> Stock
     requires { IsStock block.now }
-    ensures { (file_of machine.now).stock ≡ Some block.now → IsPlaced (file_of machine.now) result }
+    ensures { (file_of machine.now).stock ≡ Some block.now → IsPlaced most (file_of machine.now) result }
 {
     let origin = origin_at(machine, block.system);
-    let number = least_width(block);
+    let number = least_width(most, block);
     placed(&origin, block, half_of(number))
 }
 
-/// Returns a machine's block of material, in the machine, or `None` if the machine has none.
-pub(crate) fn stock_in<A: Allocator>(machine: &Machine<A>) -> Option<Stock>
+/// Returns a machine's block of material, in the machine, in at most `most` cells, or `None` if the
+/// machine has none.
+pub(crate) fn stock_in<A: Allocator>(most: u32, machine: &Machine<A>) -> Option<Stock>
     ensures none { IfNone result ((file_of machine.now).stock ≡ None) }
-    ensures some { IfSome result (IsPlaced (file_of machine.now)) }
+    ensures some { IfSome result (IsPlaced most (file_of machine.now)) }
 {
     match &machine.stock {
-        Some(block) => Some(placed_in(machine, block)),
+        Some(block) => Some(placed_in(most, machine, block)),
         None => None,
     }
 }

@@ -34,19 +34,21 @@ impl<A: Allocator> Model for Walk<A> {
 
 /// Returns the straight traverses of a program that may touch the material of its machine, and the
 /// straight feeds whose shank or holder may, and the deepest straight feed of each tool: `commands` are
-/// its commands at a setting of block delete.
+/// its commands at a setting of block delete, and the material is divided into at most `most` cells.
 /// It returns `None` if the machine has no block of material, or if some of it, or the end of a motion,
-/// is more than two metres from the machine's zero.
+/// is more than two metres from the machine's zero. It does so too if the cells are more than 4,000,000,
+/// which they aren't where `most` isn't.
 ///
 /// It fails if memory is refused.
 pub fn find_walk<A: Allocator + Copy, B: Allocator>(
     alloc: A,
+    most: u32,
     machine: &Machine<B>,
     commands: &[Command],
 ) -> Result<Option<Walk<A>>, AllocError>
-    ensures { IfOk result (IsWalked (file_of machine.now) commands.now) }
+    ensures { IfOk result (IsWalked most (file_of machine.now) commands.now) }
 {
-    let Some(stock) = stock_in(machine) else {
+    let Some(stock) = stock_in(most, machine) else {
         return Ok(None);
     };
     if !is_grid(&stock.grid) {

@@ -90,6 +90,7 @@ points step travel places = record {
   start = start step places;
   home28 = home (start step places) places.home28;
   home30 = home (start step places) places.home30;
+  far = true;
 }
 
 -- an origin is zero, unless the file says otherwise

@@ -112,6 +112,7 @@ figures_of h scale = record {
   ticks = h.control.ticks;
   ring = ring h.control;
   arc_feed = turns_by_place h.control;
+  far = true;
   grbl = false;
   zero = record { x = ends.Low; y = ends.Low; z = ends.Low };
   start = record { x = no_length; y = no_length; z = no_length };

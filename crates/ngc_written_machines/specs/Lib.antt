@@ -5,3 +5,4 @@ pub mod Figures
 pub mod Refusals
 pub mod Machines
 pub mod Reading
+pub mod Written

@@ -8,7 +8,7 @@ use Rattle.ngc_quantities.specs.declared.range.Range.{Range}
 use Rattle.ngc_motor_scale.specs.Scales.{IsMotorScale}
 use Rattle.ngc_motor_scale.specs.declared.scale.MotorScale.{MotorScale}
 use Rattle.ngc_machine_figures.specs.declared.sheet.AxesSheet.{AxesSheet}
-use Rattle.ngc_machine_files.specs.Ranges.{PLACE_LIMIT}
+use Rattle.ngc_machine_files.specs.Ranges.{TRAVEL_LIMIT}
 use Rattle.ngc_machine_files.specs.declared.machine_contents.Coordinates.{Coordinates}
 use Rattle.ngc_machine_maker.specs.declared.figures.PerAxis.{PerAxis}
 
@@ -41,7 +41,7 @@ abbrev pub moved_down : ℕ → ℤ → ℤ
 moved_down step c = c -ℤ int_rem_euclid c (pos step)
 
 abbrev pub is_far : Range → Bool
-is_far r = not (is_within PLACE_LIMIT r.low && is_within PLACE_LIMIT r.high)
+is_far r = not (is_within TRAVEL_LIMIT r.low && is_within TRAVEL_LIMIT r.high)
 
 -- Where a motor's step isn't the grid's, the ends of its axis' travel move inwards to whole steps of
 -- the motor. An end that is out of range stays, and is refused.

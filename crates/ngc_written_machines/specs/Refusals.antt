@@ -9,6 +9,7 @@ use Rattle.ngc_written_machines.specs.declared.refusal.WrittenRefusal.TheVariant
 abbrev pub figure_fault : FigureRefusal → FileFault
 figure_fault figures.Step = faults.Step
 figure_fault (figures.Travel axis) = faults.Travel
+figure_fault (figures.FarTravel axis) = faults.Travel
 figure_fault _ = faults.Rates
 
 abbrev pub fault_of : WrittenRefusal → FileFault

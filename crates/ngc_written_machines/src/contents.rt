@@ -147,6 +147,7 @@ fn points(step: u32, travel: &PerAxis<Range>, places: &PlaceSheet) -> MachinePoi
         start,
         home28: home(start, places.home28),
         home30: home(start, places.home30),
+        far: true,
     }
 }
 

@@ -166,6 +166,7 @@ pub(crate) fn figures_of(head: &HeadSheet, scale: &MotorScale) -> Figures
         ticks: head.control.ticks,
         ring: ring(&head.control),
         arc_feed: turns_by_place(&head.control),
+        far: true,
         grbl: false,
         zero: PerAxis {
             x: End::Low,

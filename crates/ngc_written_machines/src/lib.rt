@@ -8,7 +8,8 @@ mod machine;
 mod motors;
 mod reading;
 mod refusal;
+mod written;
 
-pub use machine::written_machine;
-pub use reading::read_machine;
+pub use machine::{WrittenMachine, written_machine};
+pub use reading::{read_file, read_machine};
 pub use refusal::{WrittenFault, WrittenRefusal};

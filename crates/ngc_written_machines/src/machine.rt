@@ -1,5 +1,5 @@
 //! The machine of a file of version 3.
-ghost use Rattle.std.specs.Prelude.{◌≡◌, IfOk};
+ghost use Rattle.std.specs.Prelude.{◌≡◌, IfOk, Some};
 ghost use Rattle.toml.specs.View.{view};
 ghost use Rattle.ngc_machine_files.specs.Machine.{file_of};
 ghost use Rattle.ngc_machine_figures.specs.Files.{values_of as sheet_values};
@@ -7,11 +7,14 @@ ghost use Rattle.ngc_machine_maker.specs.InFile.{AreInFile};
 ghost use Rattle.ngc_motor_scale.specs.Scales.{IsMotorScale};
 ghost use Rattle.ngc_written_machines.specs.Machines as spec;
 ghost use Rattle.ngc_written_machines.specs.Motors.{AreScales};
+ghost use Rattle.ngc_written_machines.specs.Written.{tree_figures, written_figures as figures_of_head};
 
 use crate::contents::contents_of;
 use crate::figures::{figures_of, travel_length};
 use crate::motors::grid_of;
 use crate::refusal::{WrittenFault, WrittenRefusal};
+use crate::written::written_figures;
+use ngc_file_figures::MachineFigures;
 use ngc_machine_figures::{
     AxesSheet, AxisName, AxisSheet, HeadSheet, Sheet, SheetFault, read_sheet,
 };
@@ -20,6 +23,14 @@ use ngc_machine_maker::{MachineNumbers, PerAxis, numbers_of};
 use ngc_motor_scale::{MotorScale, scale_of};
 use std::alloc::Global;
 use toml::Value;
+
+/// A machine, and the figures of its file as they are written.
+#[derive(Drop)]
+pub struct WrittenMachine {
+    pub machine: Machine<Global>,
+    /// `None` unless the file has version 3.
+    pub figures: Option<MachineFigures>,
+}
 
 fn motor_of(name: AxisName, axis: &AxisSheet) -> Result<MotorScale, WrittenRefusal>
     ensures value { result ≡ spec.motor_of name axis.now }
@@ -105,14 +116,27 @@ fn machine_by(alloc: Global, sheet: &Sheet) -> Result<Machine<Global>, WrittenFa
     }
 }
 
+fn file_by(alloc: Global, sheet: &Sheet) -> Result<WrittenMachine, WrittenFault>
+    ensures machine { spec.WrittenResultIs (λ w. file_of w.machine) result
+        (spec.machine_by (sheet_values sheet.now)) }
+    ensures figures { IfOk result
+        (λ w. w.figures ≡ Some (figures_of_head (sheet_values sheet.now).head)) }
+{
+    let machine = machine_by(alloc, sheet)?;
+    let figures = Some(written_figures(&sheet.head));
+    Ok(WrittenMachine { machine, figures })
+}
+
 /// Returns the machine that a file of version 3 describes, by the file's tree, or the first mistake
 /// of the file.
 #[tactic(auto, unfolding(crate::specs::Machines::written_machine))]
-pub fn written_machine(alloc: Global, tree: &Value) -> Result<Machine<Global>, WrittenFault>
-    ensures { spec.WrittenResultIs file_of result (spec.written_machine (view tree.now)) }
+pub fn written_machine(alloc: Global, tree: &Value) -> Result<WrittenMachine, WrittenFault>
+    ensures machine { spec.WrittenResultIs (λ w. file_of w.machine) result
+        (spec.written_machine (view tree.now)) }
+    ensures figures { IfOk result (λ w. w.figures ≡ tree_figures (view tree.now)) }
 {
     match read_sheet(alloc, tree) {
-        Ok(sheet) => machine_by(alloc, &sheet),
+        Ok(sheet) => file_by(alloc, &sheet),
         Err(SheetFault::Refused(refusal)) => {
             Err(WrittenFault::Refused(WrittenRefusal::Sheet(refusal)))
         }

@@ -8,6 +8,9 @@ use ngc_machine_maker::PerAxis;
 use ngc_motor_scale::MotorScale;
 use ngc_quantities::Range;
 
+/// The greatest distance of a travel's end from zero, in nanometres.
+const TRAVEL_LIMIT: u64 = 3_999_000_000;
+
 fn is_finer(a: &MotorScale, b: &MotorScale) -> bool
     ensures { result ≡ spec.is_finer a.now b.now }
 {
@@ -42,13 +45,13 @@ pub(crate) fn steps_of(own: &PerAxis<MotorScale>) -> Coordinates
 fn is_far(travel: Range) -> bool
     ensures { result ≡ spec.is_far travel }
 {
-    !(travel.low.unsigned_abs() <= 1_000_000_000 && travel.high.unsigned_abs() <= 1_000_000_000)
+    !(travel.low.unsigned_abs() <= TRAVEL_LIMIT && travel.high.unsigned_abs() <= TRAVEL_LIMIT)
 }
 
 // Returns the next multiple of a step from the low end of a travel up.
 fn moved_up(step: u32, end: i64) -> i64
     requires step { 0 < step }
-    requires near { unsigned_abs end ≤ 1000000000 }
+    requires near { unsigned_abs end ≤ 3999000000 }
     ensures { result ≡ spec.moved_up step end }
 {
     end + (-end).rem_euclid(i64::from(step))
@@ -57,7 +60,7 @@ fn moved_up(step: u32, end: i64) -> i64
 // Returns the next multiple of a step from the high end of a travel down.
 fn moved_down(step: u32, end: i64) -> i64
     requires step { 0 < step }
-    requires near { unsigned_abs end ≤ 1000000000 }
+    requires near { unsigned_abs end ≤ 3999000000 }
     ensures { result ≡ spec.moved_down step end }
 {
     end - end.rem_euclid(i64::from(step))

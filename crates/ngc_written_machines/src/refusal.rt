@@ -37,7 +37,7 @@ fn figure_fault(refusal: FigureRefusal) -> FileFault
 {
     match refusal {
         FigureRefusal::Step => FileFault::Step,
-        FigureRefusal::Travel(_) => FileFault::Travel,
+        FigureRefusal::Travel(_) | FigureRefusal::FarTravel(_) => FileFault::Travel,
         _ => FileFault::Rates,
     }
 }

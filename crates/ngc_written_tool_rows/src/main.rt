@@ -1,9 +1,11 @@
 //! Prints the tools of tables, or why they are refused. Each table of standard input is between a line
 //! `file NAME` and a line `end`; a line that begins with `##` between tables is a comment. A tool is
 //! printed as its number, its offset, where its tip is, its parts from the tip up, each with its length
-//! and its radius, and its name. Lengths are in nm.
+//! and its radius, and its name. Then each tool of which the table says more has a line with its cutter
+//! and its limits. Lengths are in nm, feeds in nm per minute, speeds of the spindle in millionths of rpm.
 #![tactic(auto)]
 
+use ngc_file_figures::{Limits, ToolLimits};
 use ngc_machine_files::{FileFault, Tool};
 use ngc_text::Device;
 use ngc_tool_mistakes::write_mistake;
@@ -25,6 +27,36 @@ fn tool_line(alloc: Global, tool: &Tool) -> Result<String, AllocError> {
     Ok(line)
 }
 
+fn add_limits(
+    alloc: Global,
+    line: &mut String,
+    name: &str,
+    limits: &Option<Limits>,
+) -> Result<(), AllocError> {
+    if let Some(limits) = limits {
+        let (least, greatest) = (limits.least, limits.greatest);
+        line.push_str(format!(in alloc; " {name} {least} to {greatest}")?.as_str())?;
+    }
+    Ok(())
+}
+
+// Returns a line for what is said of a tool besides its body, or an empty text if nothing is.
+fn limits_line(alloc: Global, limits: &ToolLimits) -> Result<String, AllocError> {
+    let mut said = String::new(alloc);
+    if let Some(cutter) = limits.cutter {
+        let name = cutter.name();
+        said.push_str(format!(in alloc; " cutter {name}")?.as_str())?;
+    }
+    add_limits(alloc, &mut said, "speed", &limits.speed)?;
+    add_limits(alloc, &mut said, "feed", &limits.feed)?;
+    add_limits(alloc, &mut said, "plunge", &limits.plunge)?;
+    if said.is_empty() {
+        return Ok(said);
+    }
+    let number = limits.number;
+    format!(in alloc; "  T{number}{said}\n")
+}
+
 // Returns the fault's number, and what is written of a table's mistake.
 fn refused(alloc: Global, name: &str, text: &str, fault: FileFault) -> io::Result<String> {
     let mut sink = Device::new(Vec::new(alloc));
@@ -39,14 +71,18 @@ fn refused(alloc: Global, name: &str, text: &str, fault: FileFault) -> io::Resul
 
 // Returns what is printed of a table.
 fn shown(alloc: Global, name: &str, text: &str) -> io::Result<String> {
-    let tools = match read_tools(alloc, text.as_bytes()) {
-        Ok(tools) => tools,
+    let table = match read_tools(alloc, text.as_bytes()) {
+        Ok(table) => table,
         Err(fault) => return refused(alloc, name, text, fault),
     };
+    let tools = &table.tools;
     let count = tools.tools().len();
     let mut lines = format!(in alloc; "{name}: {count} tools\n")?;
     for tool in tools.tools() {
         lines.push_str(tool_line(alloc, tool)?.as_str())?;
+    }
+    for limits in table.limits.as_slice() {
+        lines.push_str(limits_line(alloc, limits)?.as_str())?;
     }
     Ok(lines)
 }

@@ -1,5 +1,6 @@
 pub mod Kinds
 pub mod Holders
+pub mod Limits
 pub mod Shapes
 pub mod Repeats
 pub mod Tables

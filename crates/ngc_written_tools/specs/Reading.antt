@@ -1,6 +1,7 @@
 -- A tool table of version 1, 2 or 3. Our own.
-use Rattle.std.specs.Prelude.{ℕ, ◌≡◌, List, Option, Some, None, Result, Ok, Err, if◌then◌else◌}
+use Rattle.std.specs.Prelude.{ℕ, ◌≡◌, List, [], map, Option, Some, None, Result, Ok, Err, if◌then◌else◌}
 use Rattle.toml.specs.Data.{Data}
+use Rattle.ngc_file_figures.specs.declared.limits.ToolLimits.{ToolLimits}
 use Rattle.ngc_machine_figures.specs.declared.refusal.FileRefusal.{FileRefusal}
 use Rattle.ngc_machine_figures.specs.Version.{is_written}
 use Rattle.ngc_machine_files.specs.ToolText.{checked_table, tool_table}
@@ -9,6 +10,7 @@ use Rattle.ngc_machine_files.specs.declared.fault.FileFault.{FileFault}
 use Rattle.ngc_machine_files.specs.declared.fault.FileFault.TheVariants as faults
 use Rattle.ngc_machine_files.specs.declared.tools.Tool.{Tool}
 use Rattle.ngc_written_tools.specs.Entries.{contents_of}
+use Rattle.ngc_written_tools.specs.Limits.{limits_by}
 use Rattle.ngc_written_tools.specs.Refusals.{fault_of}
 use Rattle.ngc_written_tools.specs.Tables.{sheets_of}
 use Rattle.ngc_written_tools.specs.declared.refusal.ToolsFault.{ToolsFault}
@@ -35,6 +37,14 @@ tools_by tools = refused_as refusals.Range (checked_table (Some (contents_of too
 -- the tools that a table of version 3 describes, or its first mistake
 unfoldable pub written_tools : Data → Result (List Tool) ToolsRefusal
 written_tools tree = refused_as refusals.Key (sheets_of tree) >>= tools_by
+
+-- what a table of version 3 says of each tool besides its body; nothing where it is refused
+abbrev pub limits_found : Result (List MeasuredTool) FileRefusal → List ToolLimits
+limits_found (Ok tools) = map limits_by tools
+limits_found (Err refusal) = []
+
+abbrev pub written_limits : Data → List ToolLimits
+written_limits tree = limits_found (sheets_of tree)
 
 -- ---- the result of a call
 
@@ -70,3 +80,12 @@ tools_in bytes (Some tree) = if is_written tree then written_table tree else too
 -- the tools that a table of any version describes, or why it is refused
 unfoldable pub any_tools : List ℕ → Result (List Tool) FileFault
 any_tools bytes = tools_in bytes (tree_of bytes)
+
+abbrev pub limits_in : Option Data → List ToolLimits
+limits_in None = []
+limits_in (Some tree) = if is_written tree then written_limits tree else []
+
+-- what a table of any version says of its tools besides their bodies: a table of version 1 or 2 says
+-- nothing
+unfoldable pub any_limits : List ℕ → List ToolLimits
+any_limits bytes = limits_in (tree_of bytes)

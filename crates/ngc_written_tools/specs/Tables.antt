@@ -13,8 +13,10 @@ use Rattle.ngc_machine_figures.specs.Kinds.{name_value}
 use Rattle.ngc_machine_figures.specs.Reading.{◌>>=◌, required, optional}
 use Rattle.ngc_written_tools.specs.Holders.{holder_at}
 use Rattle.ngc_written_tools.specs.Kinds.{size_value, offset_value, number_value}
+use Rattle.ngc_written_tools.specs.Limits.{limits_at}
 use Rattle.ngc_written_tools.specs.Repeats.{checked_numbers}
 use Rattle.ngc_written_tools.specs.Shapes.{refuse, measured}
+use Rattle.ngc_written_tools.specs.declared.sheet.LimitSheet.{LimitSheet}
 use Rattle.ngc_written_tools.specs.declared.sheet.MeasuredTool.{MeasuredTool}
 use Rattle.ngc_written_tools.specs.declared.sheet.ToolSheet.{ToolSheet}
 use Rattle.ngc_written_tools.specs.declared.table.TheConstants.{TABLE_KEYS}
@@ -23,11 +25,12 @@ abbrev pub tool_keys : ℕ → List Key
 tool_keys n =
     Tool (keys.Number n) ∷ Tool (keys.Name n) ∷ Tool (keys.Diameter n) ∷ Tool (keys.Length n)
     ∷ Tool (keys.Stickout n) ∷ Tool (keys.Flute n) ∷ Tool (keys.Shank n) ∷ Tool (keys.Offset n)
-    ∷ Tool (keys.Holder n) ∷ []
+    ∷ Tool (keys.Holder n) ∷ Tool (keys.Cutter n) ∷ Tool (keys.Speed n) ∷ Tool (keys.Feed n)
+    ∷ Tool (keys.Plunge n) ∷ []
 
--- what else is written of a tool with this name
-unfoldable pub sheet_with : ℕ → Option (List ℕ) → Data → Result ToolSheet FileRefusal
-sheet_with n name section = do
+-- what else is written of a tool with this name and these limits
+unfoldable pub sheet_with : ℕ → Option (List ℕ) → LimitSheet → Data → Result ToolSheet FileRefusal
+sheet_with n name limits section = do
   number ← required number_value (Tool (keys.Number n)) section
   diameter ← required size_value (Tool (keys.Diameter n)) section
   length ← optional size_value (Tool (keys.Length n)) section
@@ -44,6 +47,7 @@ sheet_with n name section = do
     flute = flute;
     shank = shank;
     offset = offset;
+    limits = limits;
   })
 
 -- the tool with number n in the table's order, from 0
@@ -51,7 +55,8 @@ unfoldable pub tool_of : ℕ → Data → Result MeasuredTool FileRefusal
 tool_of n section = do
   known ← only_known (Tool (keys.Tool n)) (tool_keys n) section
   name ← optional name_value (Tool (keys.Name n)) section
-  sheet ← sheet_with n name section
+  limits ← limits_at n section
+  sheet ← sheet_with n name limits section
   holder ← holder_at n section
   measured n sheet holder
 

@@ -13,6 +13,7 @@
 mod entries;
 mod holder;
 mod kinds;
+mod limits;
 mod numbers;
 mod reading;
 mod refusal;
@@ -20,5 +21,5 @@ mod shape;
 mod sheet;
 mod table;
 
-pub use reading::{read_tools, written_tools};
+pub use reading::{ToolTable, read_tools, written_tools};
 pub use refusal::{ToolsFault, ToolsRefusal};

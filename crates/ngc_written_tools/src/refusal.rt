@@ -31,7 +31,8 @@ fn tool_fault(wrong: ToolWrong) -> FileFault
         | ToolWrong::NoHolder
         | ToolWrong::NoPart
         | ToolWrong::NoLength
-        | ToolWrong::LoneShank => FileFault::Document,
+        | ToolWrong::LoneShank
+        | ToolWrong::NoCutter => FileFault::Document,
         _ => FileFault::Tools,
     }
 }

@@ -1,5 +1,6 @@
 //! What is written in a tool table. `None` is a key that the table doesn't have.
 
+use ngc_file_figures::{Cutter, Limits};
 use ngc_machine_files::Name;
 
 /// A length from 1 nm to 1,000 mm.
@@ -35,6 +36,18 @@ pub struct HolderSheet {
     pub third: Option<PartSheet>,
 }
 
+/// The cutter of a tool, and limits of which reports warn.
+#[derive(Clone, Copy)]
+pub struct LimitSheet {
+    pub cutter: Option<Cutter>,
+    /// The speeds of the spindle, in millionths of a turn per minute.
+    pub speed: Option<Limits>,
+    /// The feeds, in nanometres per minute.
+    pub feed: Option<Limits>,
+    /// The feeds straight down, in nanometres per minute.
+    pub plunge: Option<Limits>,
+}
+
 /// What is written of a tool but for its holder.
 #[derive(Clone, Copy)]
 pub struct ToolSheet {
@@ -51,6 +64,7 @@ pub struct ToolSheet {
     pub shank: Option<Size>,
     /// What G43 adds to Z.
     pub offset: Option<Offset>,
+    pub limits: LimitSheet,
 }
 
 /// How far a tool reaches.

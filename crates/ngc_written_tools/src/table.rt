@@ -5,9 +5,10 @@ ghost use Rattle.ngc_machine_figures.specs.Reading.{ok_map};
 ghost use Rattle.ngc_written_tools.specs.Tables as spec;
 
 use crate::holder::holder_at;
+use crate::limits::limits_at;
 use crate::numbers::check_numbers;
 use crate::shape::measured;
-use crate::sheet::{MeasuredTool, ToolSheet};
+use crate::sheet::{LimitSheet, MeasuredTool, ToolSheet};
 use ngc_machine_figures::{
     FileRefusal, Key, Numbered, ToolKey, ToolWrong, Wrong, each, only_known, optional, required,
 };
@@ -19,7 +20,7 @@ use toml::Value;
 pub const TABLE_KEYS: [Key; 2] = [Key::Version, Key::Tool(ToolKey::Tools)];
 
 // Returns the keys of a tool, in the order of the format's example.
-fn tool_keys(tool: u16) -> [Key; 9]
+fn tool_keys(tool: u16) -> [Key; 13]
     ensures { result ≡ spec.tool_keys tool }
 {
     [
@@ -32,12 +33,21 @@ fn tool_keys(tool: u16) -> [Key; 9]
         Key::Tool(ToolKey::Shank(tool)),
         Key::Tool(ToolKey::Offset(tool)),
         Key::Tool(ToolKey::Holder(tool)),
+        Key::Tool(ToolKey::Cutter(tool)),
+        Key::Tool(ToolKey::Speed(tool)),
+        Key::Tool(ToolKey::Feed(tool)),
+        Key::Tool(ToolKey::Plunge(tool)),
     ]
 }
 
 #[tactic(auto, unfolding(crate::specs::Tables::sheet_with))]
-fn sheet_with(tool: u16, name: Option<Name>, table: &Value) -> Result<ToolSheet, FileRefusal>
-    ensures { result ≡ spec.sheet_with tool name (view table.now) }
+fn sheet_with(
+    tool: u16,
+    name: Option<Name>,
+    limits: LimitSheet,
+    table: &Value,
+) -> Result<ToolSheet, FileRefusal>
+    ensures { result ≡ spec.sheet_with tool name limits (view table.now) }
 {
     let number = required(Key::Tool(ToolKey::Number(tool)), table)?;
     let diameter = required(Key::Tool(ToolKey::Diameter(tool)), table)?;
@@ -55,6 +65,7 @@ fn sheet_with(tool: u16, name: Option<Name>, table: &Value) -> Result<ToolSheet,
         flute,
         shank,
         offset,
+        limits,
     })
 }
 
@@ -64,7 +75,8 @@ fn tool_of(tool: u16, table: &Value) -> Result<MeasuredTool, FileRefusal>
 {
     only_known(Key::Tool(ToolKey::Tool(tool)), &tool_keys(tool), table)?;
     let name = optional(Key::Tool(ToolKey::Name(tool)), table)?;
-    let sheet = sheet_with(tool, name, table)?;
+    let limits = limits_at(tool, table)?;
+    let sheet = sheet_with(tool, name, limits, table)?;
     let holder = holder_at(tool, table)?;
     measured(tool, &sheet, &holder)
 }

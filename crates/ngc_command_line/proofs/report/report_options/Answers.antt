@@ -12,5 +12,6 @@ returns c = record {
   all = c.flag_is_set.ensures;
   json = c.flag_is_set-2.ensures;
   changes = c.requires.changes;
+  cells = c.cells_of.ensures;
   dialect = c.get_str-2.ensures ∙ first_value-rows (found_of c.args.found.now) (codes "dialect");
 }

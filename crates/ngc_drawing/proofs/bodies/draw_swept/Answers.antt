@@ -2,10 +2,10 @@ use Rattle.std.proofs.Common.{◌+◌, List, drop, get_or, rules, Some, None, su
 use Rattle.std.proofs.lemmas.List.{at_drop_all, get_or_default}
 use Rattle.ngc_machine_files.specs.Machine.{file_of}
 use Rattle.ngc_drawing.specs.Bodies.{swept, swept_from}
-use Rattle.ngc_drawing.specs.Draws.{Draws}
-use Rattle.ngc_drawing.specs.declared.shape.Shape.{Shape}
+use Rattle.ngc_picture_shapes.specs.Draws.{Draws}
+use Rattle.ngc_picture_shapes.specs.declared.shape.Shape.{Shape}
 use Rattle.ngc_drawing.specs.declared.sweep.Sweep.{Sweep}
-use Rattle.ngc_drawing.proofs.ShapeProgress.{went, stopped, last}
+use Rattle.ngc_picture_shapes.proofs.ShapeProgress.{went, stopped, last}
 use Rattle.ngc_drawing.proofs.Sweeps.{next_sweep, no_sweep}
 use Rattle.ngc_drawing.proofs.bodies.draw_swept.Goals as goal
 

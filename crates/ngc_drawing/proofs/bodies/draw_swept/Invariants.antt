@@ -1,7 +1,7 @@
 use Rattle.std.proofs.Common.{◌≡◌, drop, None}
 use Rattle.ngc_machine_files.specs.Machine.{file_of}
 use Rattle.ngc_drawing.specs.Bodies.{swept_from}
-use Rattle.ngc_drawing.proofs.ShapeProgress.{Ahead}
+use Rattle.ngc_picture_shapes.proofs.ShapeProgress.{Ahead}
 use Rattle.ngc_drawing.proofs.bodies.draw_swept.Given as goal
 
 abbrev pub invariant-loop-sweep : goal.invariant-loop-sweep

@@ -1,6 +1,6 @@
 use Rattle.std.proofs.Common.{◌≡◌, drop}
 use Rattle.ngc_drawing.specs.Holes.{holes_from, holes}
-use Rattle.ngc_drawing.proofs.ShapeProgress.{Ahead}
+use Rattle.ngc_picture_shapes.proofs.ShapeProgress.{Ahead}
 use Rattle.ngc_drawing.proofs.holes.draw_holes.Given as goal
 
 abbrev pub invariant-loop-command : goal.invariant-loop-command

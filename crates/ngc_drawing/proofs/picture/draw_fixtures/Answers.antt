@@ -3,7 +3,7 @@ use Rattle.std.proofs.lemmas.List.Elements.{All-get_or}
 use Rattle.ngc_machine_files.specs.Ranges.{IsFixture}
 use Rattle.ngc_drawing.specs.Labels.{lines_at}
 use Rattle.ngc_drawing.specs.Pictures.{fixture, fixtures_from}
-use Rattle.ngc_drawing.proofs.ShapeProgress.{went, stopped}
+use Rattle.ngc_picture_shapes.proofs.ShapeProgress.{went, stopped}
 use Rattle.ngc_drawing.proofs.BoxSteps.{next_fixture}
 use Rattle.ngc_drawing.proofs.picture.draw_fixtures.Goals as goal
 

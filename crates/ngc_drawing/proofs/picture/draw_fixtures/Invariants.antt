@@ -1,6 +1,6 @@
 use Rattle.std.proofs.Common.{◌≡◌, drop}
 use Rattle.ngc_drawing.specs.Pictures.{fixtures_from}
-use Rattle.ngc_drawing.proofs.ShapeProgress.{Ahead}
+use Rattle.ngc_picture_shapes.proofs.ShapeProgress.{Ahead}
 use Rattle.ngc_drawing.proofs.picture.draw_fixtures.Given as goal
 
 abbrev pub invariant-loop-i : goal.invariant-loop-i

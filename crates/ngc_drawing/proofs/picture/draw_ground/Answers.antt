@@ -1,13 +1,13 @@
 use Rattle.std.proofs.Common.{List, ◌++◌, refl}
 use Rattle.ngc_drawing.specs.Bodies.{swept_from}
 use Rattle.ngc_drawing.specs.Pictures.{opening, fixtures_from}
-use Rattle.ngc_drawing.specs.Sheets.{unit_of}
+use Rattle.ngc_picture_shapes.specs.Sheets.{unit_of}
 use Rattle.ngc_machine_files.specs.Machine.{file_of}
 use Rattle.std.proofs.Common.{None, drop, subst, sym}
 use Rattle.std.specs.List.{All}
 use Rattle.ngc_machine_files.specs.Ranges.{IsFixture}
-use Rattle.ngc_drawing.specs.declared.shape.Shape.{Shape}
-use Rattle.ngc_drawing.proofs.ShapeProgress.{Ahead, begun, went, stopped, last}
+use Rattle.ngc_picture_shapes.specs.declared.shape.Shape.{Shape}
+use Rattle.ngc_picture_shapes.proofs.ShapeProgress.{Ahead, begun, went, stopped, last}
 use Rattle.ngc_drawing.proofs.picture.draw_ground.Goals as goal
 
 pub returns-in-Err-clause-drawn : goal.returns-in-Err-clause-drawn

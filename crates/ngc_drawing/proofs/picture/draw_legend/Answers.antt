@@ -1,8 +1,8 @@
 use Rattle.std.proofs.Common.{[], ◌∷◌, ◌++◌, refl}
-use Rattle.ngc_drawing.proofs.ShapeProgress.{begun, went, stopped, last}
+use Rattle.ngc_picture_shapes.proofs.ShapeProgress.{begun, went, stopped, last}
 use Rattle.ngc_drawing.specs.Pictures.{scaled, tool_rows, refusal_row}
-use Rattle.ngc_drawing.specs.Sheets.{unit_of}
-use Rattle.ngc_drawing.specs.declared.shape.Shape.TheVariants as shapes
+use Rattle.ngc_picture_shapes.specs.Sheets.{unit_of}
+use Rattle.ngc_picture_shapes.specs.declared.shape.Shape.TheVariants as shapes
 use Rattle.ngc_drawing.proofs.picture.draw_legend.Goals as goal
 
 pub returns-in-Err-clause-drawn : goal.returns-in-Err-clause-drawn

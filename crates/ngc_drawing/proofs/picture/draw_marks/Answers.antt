@@ -1,6 +1,6 @@
 use Rattle.std.proofs.Common.{◌++◌, refl}
 use Rattle.ngc_machine_files.specs.Machine.{file_of}
-use Rattle.ngc_drawing.proofs.ShapeProgress.{both, cut_short}
+use Rattle.ngc_picture_shapes.proofs.ShapeProgress.{both, cut_short}
 use Rattle.ngc_drawing.specs.Pictures.{places, origin}
 use Rattle.ngc_drawing.proofs.picture.draw_marks.Goals as goal
 

@@ -1,7 +1,7 @@
 use Rattle.std.proofs.Common.{◌++◌, refl}
-use Rattle.ngc_drawing.proofs.ShapeProgress.{both, cut_short}
+use Rattle.ngc_picture_shapes.proofs.ShapeProgress.{both, cut_short}
 use Rattle.ngc_drawing.specs.Holes.{holes}
-use Rattle.ngc_drawing.specs.Strokes.{strokes}
+use Rattle.ngc_picture_shapes.specs.Strokes.{strokes}
 use Rattle.ngc_drawing.proofs.picture.draw_path.Goals as goal
 
 pub returns-in-Err-clause-drawn : goal.returns-in-Err-clause-drawn

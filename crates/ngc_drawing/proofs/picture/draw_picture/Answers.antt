@@ -1,10 +1,10 @@
 use Rattle.std.proofs.Common.{List, [], ◌∷◌, ◌++◌, refl}
 use Rattle.ngc_drawing.specs.Pictures.{ground, path, marked, refused, scaled, tool_rows, refusal_row}
-use Rattle.ngc_drawing.specs.Sheets.{unit_of}
+use Rattle.ngc_picture_shapes.specs.Sheets.{unit_of}
 use Rattle.ngc_machine_files.specs.Machine.{file_of}
-use Rattle.ngc_drawing.specs.declared.shape.Shape.{Shape}
-use Rattle.ngc_drawing.specs.declared.shape.Shape.TheVariants as shapes
-use Rattle.ngc_drawing.proofs.ShapeProgress.{Ahead, begun, went, stopped, last}
+use Rattle.ngc_picture_shapes.specs.declared.shape.Shape.{Shape}
+use Rattle.ngc_picture_shapes.specs.declared.shape.Shape.TheVariants as shapes
+use Rattle.ngc_picture_shapes.proofs.ShapeProgress.{Ahead, begun, went, stopped, last}
 use Rattle.ngc_drawing.proofs.picture.draw_picture.Goals as goal
 
 pub returns-in-Err-clause-drawn : goal.returns-in-Err-clause-drawn

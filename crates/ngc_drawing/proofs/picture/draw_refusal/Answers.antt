@@ -1,8 +1,8 @@
 use Rattle.std.proofs.Common.{◌++◌, drop, refl}
 use Rattle.ngc_machine_files.specs.Machine.{file_of}
-use Rattle.ngc_drawing.proofs.ShapeProgress.{both, cut_short}
+use Rattle.ngc_picture_shapes.proofs.ShapeProgress.{both, cut_short}
 use Rattle.ngc_drawing.specs.Pictures.{refused_fixture, first_outline, first_refused}
-use Rattle.ngc_drawing.specs.Tools.{eye_of}
+use Rattle.ngc_picture_shapes.specs.Tools.{eye_of}
 use Rattle.ngc_drawing.proofs.picture.draw_refusal.Goals as goal
 
 pub returns-in-Err-clause-drawn : goal.returns-in-Err-clause-drawn

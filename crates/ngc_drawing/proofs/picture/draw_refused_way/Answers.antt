@@ -1,12 +1,12 @@
 use Rattle.std.proofs.Common.{[], ◌∷◌, None, List, refl}
 use Rattle.ngc_commands.specs.Movement.{end_of}
-use Rattle.ngc_drawing.proofs.ShapeProgress.{both, cut_short}
+use Rattle.ngc_picture_shapes.proofs.ShapeProgress.{both, cut_short}
 use Rattle.ngc_drawing.specs.Pictures.{refused_way}
-use Rattle.ngc_drawing.specs.Strokes.{stroke}
-use Rattle.ngc_drawing.specs.Views.{tip_spot}
-use Rattle.ngc_drawing.specs.declared.shape.Ink.TheVariants as inks
-use Rattle.ngc_drawing.specs.declared.shape.Shape.{Shape}
-use Rattle.ngc_drawing.specs.declared.shape.Shape.TheVariants as shapes
+use Rattle.ngc_picture_shapes.specs.Strokes.{stroke}
+use Rattle.ngc_picture_shapes.specs.Views.{tip_spot}
+use Rattle.ngc_picture_shapes.specs.declared.shape.Ink.TheVariants as inks
+use Rattle.ngc_picture_shapes.specs.declared.shape.Shape.{Shape}
+use Rattle.ngc_picture_shapes.specs.declared.shape.Shape.TheVariants as shapes
 use Rattle.ngc_drawing.proofs.picture.draw_refused_way.Goals as goal
 
 pub returns-in-Err-clause-drawn : goal.returns-in-Err-clause-drawn

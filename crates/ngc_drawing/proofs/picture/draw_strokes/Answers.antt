@@ -1,9 +1,9 @@
 use Rattle.std.proofs.Common.{◌+◌, List, drop, rules, subst, sym}
 use Rattle.std.proofs.lemmas.List.{at_drop_all}
-use Rattle.ngc_drawing.specs.Draws.{Draws}
-use Rattle.ngc_drawing.specs.Strokes.{strokes_of, strokes_from, strokes, after}
-use Rattle.ngc_drawing.specs.declared.shape.Shape.{Shape}
-use Rattle.ngc_drawing.proofs.ShapeProgress.{went, stopped, last}
+use Rattle.ngc_picture_shapes.specs.Draws.{Draws}
+use Rattle.ngc_picture_shapes.specs.Strokes.{strokes_of, strokes_from, strokes, after}
+use Rattle.ngc_picture_shapes.specs.declared.shape.Shape.{Shape}
+use Rattle.ngc_picture_shapes.proofs.ShapeProgress.{went, stopped, last}
 use Rattle.ngc_drawing.proofs.BoxSteps.{next_command}
 use Rattle.ngc_drawing.proofs.picture.draw_strokes.Goals as goal
 

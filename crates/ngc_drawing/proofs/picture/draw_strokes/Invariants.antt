@@ -1,6 +1,6 @@
 use Rattle.std.proofs.Common.{◌≡◌, drop}
-use Rattle.ngc_drawing.specs.Strokes.{strokes_from, strokes}
-use Rattle.ngc_drawing.proofs.ShapeProgress.{Ahead}
+use Rattle.ngc_picture_shapes.specs.Strokes.{strokes_from, strokes}
+use Rattle.ngc_picture_shapes.proofs.ShapeProgress.{Ahead}
 use Rattle.ngc_drawing.proofs.picture.draw_strokes.Given as goal
 
 abbrev pub invariant-loop-command : goal.invariant-loop-command

@@ -1,9 +1,9 @@
 use Rattle.std.proofs.Common.{List, [], ◌∷◌, ◌++◌, refl}
 use Rattle.ngc_drawing.specs.Pictures.{parts, tool_row}
-use Rattle.ngc_drawing.specs.Tools.{number_of, name_of}
-use Rattle.ngc_drawing.specs.declared.shape.Shape.{Shape}
-use Rattle.ngc_drawing.specs.declared.shape.Shape.TheVariants as shapes
-use Rattle.ngc_drawing.proofs.ShapeProgress.{begun, went, stopped, last}
+use Rattle.ngc_picture_shapes.specs.Tools.{number_of, name_of}
+use Rattle.ngc_picture_shapes.specs.declared.shape.Shape.{Shape}
+use Rattle.ngc_picture_shapes.specs.declared.shape.Shape.TheVariants as shapes
+use Rattle.ngc_picture_shapes.proofs.ShapeProgress.{begun, went, stopped, last}
 use Rattle.ngc_drawing.proofs.picture.draw_tool.Goals as goal
 
 pub returns-in-Err-clause-drawn : goal.returns-in-Err-clause-drawn

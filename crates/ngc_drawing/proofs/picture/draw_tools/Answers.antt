@@ -1,6 +1,6 @@
 use Rattle.std.proofs.Common.{◌+◌, drop, rules}
 use Rattle.ngc_drawing.specs.Pictures.{tool_row, tool_rows}
-use Rattle.ngc_drawing.proofs.ShapeProgress.{went, stopped}
+use Rattle.ngc_picture_shapes.proofs.ShapeProgress.{went, stopped}
 use Rattle.ngc_drawing.proofs.BoxSteps.{next_tool}
 use Rattle.ngc_drawing.proofs.picture.draw_tools.Goals as goal
 

@@ -1,6 +1,6 @@
 use Rattle.std.proofs.Common.{◌≡◌, drop}
 use Rattle.ngc_drawing.specs.Pictures.{tool_rows}
-use Rattle.ngc_drawing.proofs.ShapeProgress.{Ahead}
+use Rattle.ngc_picture_shapes.proofs.ShapeProgress.{Ahead}
 use Rattle.ngc_drawing.proofs.picture.draw_tools.Given as goal
 
 abbrev pub invariant-loop-rank : goal.invariant-loop-rank

@@ -7,8 +7,8 @@ use Rattle.ngc_text.specs.Collected.{WritesPrefix}
 use Rattle.ngc_certificate_text.proofs.CollectedTexts.{all_written, beginning_written}
 use Rattle.ngc_drawing.proofs.WholePicture.{from_start}
 use Rattle.ngc_drawing.specs.Pictures.{picture_of}
-use Rattle.ngc_drawing.specs.Sheets.{unit_of}
-use Rattle.ngc_drawing.specs.Spelling.{shapes_text}
+use Rattle.ngc_picture_shapes.specs.Sheets.{unit_of}
+use Rattle.ngc_picture_shapes.specs.Spelling.{shapes_text}
 use Rattle.ngc_machine_files.specs.Machine.{file_of}
 use Rattle.ngc_drawing.proofs.picture.write_picture.Goals as goal
 

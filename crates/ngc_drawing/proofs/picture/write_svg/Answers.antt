@@ -3,7 +3,7 @@ use Rattle.std.specs.Io.KnownBytes.{Appends}
 use Rattle.ngc_text.specs.Written.{AppendsPrefix}
 use Rattle.ngc_machine_files.specs.Machine.{file_of}
 use Rattle.ngc_drawing.specs.Pictures.{picture_text}
-use Rattle.ngc_drawing.proofs.ShapeProgress.{appends_none}
+use Rattle.ngc_picture_shapes.proofs.ShapeProgress.{appends_none}
 use Rattle.ngc_drawing.proofs.WholePicture.{of_commands}
 use Rattle.ngc_drawing.proofs.picture.write_svg.Goals as goal
 

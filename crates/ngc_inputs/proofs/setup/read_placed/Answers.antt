@@ -1,3 +1,7 @@
+use Rattle.std.proofs.Common.{subst, sym}
+use Rattle.ngc_file_figures.specs.Files.{stored}
+use Rattle.ngc_file_figures.specs.declared.figures.StoredFigures.{StoredFigures}
+use Rattle.ngc_inputs.specs.Setups.{AreFiguresIn}
 use Rattle.std.specs.Prelude.{option_map}
 use Rattle.ngc_inputs.proofs.SetupLaws.{changes_refused, shop_placed, shop_refused}
 use Rattle.ngc_inputs.proofs.setup.read_placed.Goals as goal
@@ -16,3 +20,8 @@ pub returns-in-Err-clause-said : goal.returns-in-Err-clause-said
 returns-in-Err-clause-said g c =
     shop_refused (g.F.Files.bytes c.args.files.now) (option_map (λ n. n.now) c.args.machine) (option_map (λ n. n.now) c.args.tools) c.args.changes.now
     c.in-Err.fault c.in-Err.ensures.said
+
+pub returns-in-Ok-with_changes-clause-figures : goal.returns-in-Ok-with_changes-clause-figures
+returns-in-Ok-with_changes-clause-figures g c =
+    subst (λ (f : StoredFigures). AreFiguresIn (g.F.Files.bytes c.args.files.now) (option_map (λ n. n.now) c.args.machine)
+    (option_map (λ n. n.now) c.args.tools) (stored f)) (sym c.in-Ok-with_changes.ensures.figures) c.in-Ok.ensures.figures

@@ -56,6 +56,11 @@ unfolding refusal_text
 returns-in-Travel g c =
     rw (c.in-Travel.is, ← c.axis_name-in-Travel.ensures) c.say_named-in-Travel.ensures
 
+pub returns-in-FarTravel : goal.returns-in-FarTravel
+unfolding refusal_text
+returns-in-FarTravel g c =
+    rw (c.in-FarTravel.is, ← c.axis_name-in-FarTravel.ensures) c.say_named-in-FarTravel.ensures
+
 pub returns-in-Outside : goal.returns-in-Outside
 unfolding refusal_text
 returns-in-Outside g c =
@@ -80,6 +85,11 @@ pub returns-in-Digits : goal.returns-in-Digits
 unfolding refusal_text
 returns-in-Digits g c =
     rw c.in-Digits.is c.say_value-in-Digits.ensures
+
+pub returns-in-FarPlace : goal.returns-in-FarPlace
+unfolding refusal_text
+returns-in-FarPlace g c =
+    rw c.in-FarPlace.is c.say_far_place.ensures
 
 pub returns-in-Place : goal.returns-in-Place
 unfolding refusal_text

@@ -4,7 +4,7 @@ use Rattle.std.proofs.lemmas.Int.{ints}
 use Rattle.ngc_machine_maker.proofs.UnitLaws.{short_travel}
 use Rattle.ngc_machine_maker.proofs.shop_units.errors.Goals as goal
 
-kept : (z : ℤ) → unsigned_abs z ≤ 1000000000 → to_z w64 (of_z w64 z) ≡ z
+kept : (z : ℤ) → unsigned_abs z ≤ 3999000000 → to_z w64 (of_z w64 z) ≡ z
 kept z near = omega (arith, ints)
 
 pub error_over-requires-clause-scale : goal.error_over-requires-clause-scale

@@ -7,4 +7,4 @@ pub returns : goal.returns
 unfolding place
 returns c =
     let none = no_bytes (length c.loop-rest.rest.now) (sym c.loop-rest-test.false ∙ c.is_empty.ensures) in
-    sym (place_end c.args.inches c.args.stored c.loop-rest.at c.loop-rest.rest.now none) ∙ c.loop-rest.invariant.value
+    sym (place_end c.args.form c.args.stored c.loop-rest.at c.loop-rest.rest.now none) ∙ c.loop-rest.invariant.value

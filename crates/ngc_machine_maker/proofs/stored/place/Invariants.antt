@@ -6,7 +6,7 @@ use Rattle.ngc_machine_maker.proofs.stored.place.Given as goal
 
 abbrev pub invariant-loop-rest : goal.invariant-loop-rest
 invariant-loop-rest l = record {
-  value : place_from l.inches l.stored l.at (lines_of l.rest) ≡ place_from l.inches l.stored 1 (lines_of l.fn.text);
+  value : place_from l.form l.stored l.at (lines_of l.rest) ≡ place_from l.form l.stored 1 (lines_of l.fn.text);
   at : l.at + length l.rest ≤ length l.fn.text + 1;
 }
 

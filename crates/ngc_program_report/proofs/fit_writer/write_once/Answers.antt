@@ -35,6 +35,6 @@ returns g c =
     (history_of c.args.fit.now.history.now.start c.args.fit.now.history.now.changes.items) (reported c.args.text.now)
     (file_of c.machine-machine.result.now) c.args.accepted.now.machine (tools_of c.tools-tools.result.now) c.args.accepted.now.tools
     c.commands.result.now c.args.accepted.now.off c.machine-machine.ensures.value c.tools-tools.ensures c.commands.ensures in
-    let shop = shop_as c.args.form (file_of c.machine-machine.result.now) c.args.accepted.now.machine
+    let shop = shop_as c.args.form (reported c.args.text.now).figures (file_of c.machine-machine.result.now) c.args.accepted.now.machine
     (tools_of c.tools-tools.result.now) c.args.accepted.now.tools c.machine-machine.ensures.value c.tools-tools.ensures in
     then _ _ (appends_as _ _ _ _ off c.in_ok-write_setting.ensures.ok) c.in_ok-write_setting.ensures.counts (writes_as c.write_fit_end.ensures shop)

@@ -6,7 +6,7 @@ use Rattle.ngc_frames.proofs.CollectedTexts.{both, collects_as, first_stopped}
 use Rattle.ngc_machine_files.specs.Machine.{file_of}
 use Rattle.ngc_report.specs.Forms.{report_text}
 use Rattle.ngc_report.specs.Reports.{scene_lines}
-use Rattle.ngc_report.specs.Scenes.{scene_at}
+use Rattle.ngc_findings.specs.Scenes.{scene_at}
 use Rattle.ngc_program_report.specs.Coordinates.{coordinates_text, refused_path}
 use Rattle.ngc_program_report.proofs.refusal_writer.collect_refusal.Goals as goal
 

@@ -2,7 +2,7 @@
 use Rattle.std.proofs.Common.{◌≡◌, ◌++◌, flat_map, take}
 use Rattle.ngc_frames.specs.Walks.{WalksOver}
 use Rattle.ngc_machine_files.specs.Machine.{file_of}
-use Rattle.ngc_report.specs.Scenes.{StandsAfter}
+use Rattle.ngc_findings.specs.Scenes.{StandsAfter}
 use Rattle.ngc_text.specs.Collected.{WritesPrefix}
 use Rattle.ngc_program_report.specs.Coordinates.{history_of}
 use Rattle.ngc_program_report.specs.Texts.{command_refusal}

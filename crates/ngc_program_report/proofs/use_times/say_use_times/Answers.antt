@@ -1,5 +1,5 @@
 use Rattle.std.proofs.Common.{ap, ap₂, refl, ◌∙◌}
-use Rattle.ngc_report.specs.Uses.{uses_left}
+use Rattle.ngc_findings.specs.Uses.{uses_left}
 use Rattle.ngc_sentences.proofs.Said.{all_left, less_left}
 use Rattle.ngc_program_report.specs.Times.{ProgramTimeData, ticks_counted, use_times}
 use Rattle.ngc_program_report.proofs.UseTimeLaws.{next_time, time_said}

@@ -1,5 +1,5 @@
 use Rattle.std.proofs.Common.{length}
-use Rattle.ngc_report.specs.Uses.{uses_left}
+use Rattle.ngc_findings.specs.Uses.{uses_left}
 use Rattle.ngc_sentences.proofs.Said.{IsLeft}
 use Rattle.ngc_program_report.specs.Times.{use_times, uses_text}
 use Rattle.ngc_program_report.proofs.use_times.say_use_times.Given as goal

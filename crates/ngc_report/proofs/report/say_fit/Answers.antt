@@ -1,8 +1,8 @@
 use Rattle.std.proofs.Common.{[], ◌∷◌, ◌++◌}
 use Rattle.ngc_machine_files.specs.Machine.{file_of}
-use Rattle.ngc_report.specs.Extents.{fit_extent}
+use Rattle.ngc_findings.specs.Extents.{fit_extent}
 use Rattle.ngc_report.specs.Reports.{alongs, fit_line, use_lines}
-use Rattle.ngc_report.specs.Uses.{tool_uses}
+use Rattle.ngc_findings.specs.Uses.{tool_uses}
 use Rattle.ngc_report.proofs.Sentences.{then_lines}
 use Rattle.ngc_report.proofs.report.say_fit.Goals as goal
 

@@ -1,8 +1,8 @@
 use Rattle.std.proofs.Common.{[], ◌∷◌, ◌++◌}
 use Rattle.ngc_machine_files.specs.Machine.{file_of}
-use Rattle.ngc_report.specs.Extents.{extent}
+use Rattle.ngc_findings.specs.Extents.{extent}
 use Rattle.ngc_report.specs.Reports.{alongs, cause_lines}
-use Rattle.ngc_report.specs.declared.line.Line.TheVariants.{Refused}
+use Rattle.ngc_findings.specs.declared.line.Line.TheVariants.{Refused}
 use Rattle.ngc_report.proofs.Sentences.{then_lines}
 use Rattle.ngc_report.proofs.report.say_refusal.Goals as goal
 

@@ -3,11 +3,11 @@ use Rattle.std.proofs.lemmas.List.Concat.{flat_map-append}
 use Rattle.ngc_machine_files.specs.Machine.{file_of}
 use Rattle.ngc_sentences.proofs.Said.{all_left, less_left}
 use Rattle.ngc_report.specs.Forms.{report_text, spelled}
-use Rattle.ngc_report.specs.Nearing.{nearest}
+use Rattle.ngc_findings.specs.Nearing.{nearest}
 use Rattle.ngc_report.specs.Reports.{near_line, use_lines}
-use Rattle.ngc_report.specs.Uses.{uses_left}
-use Rattle.ngc_report.specs.declared.line.Line.{Line}
-use Rattle.ngc_report.specs.declared.line.Line.TheVariants as lines
+use Rattle.ngc_findings.specs.Uses.{uses_left}
+use Rattle.ngc_findings.specs.declared.line.Line.{Line}
+use Rattle.ngc_findings.specs.declared.line.Line.TheVariants as lines
 use Rattle.ngc_report.proofs.Cuts.{next_use}
 use Rattle.ngc_report.proofs.report.say_uses.Goals as goal
 

@@ -3,7 +3,7 @@ use Rattle.ngc_machine_files.specs.Machine.{file_of}
 use Rattle.ngc_sentences.proofs.Said.{IsLeft}
 use Rattle.ngc_report.specs.Forms.{report_text}
 use Rattle.ngc_report.specs.Reports.{use_lines}
-use Rattle.ngc_report.specs.Uses.{tool_uses, uses_left}
+use Rattle.ngc_findings.specs.Uses.{tool_uses, uses_left}
 use Rattle.ngc_report.proofs.report.say_uses.Given as goal
 
 abbrev pub invariant-loop-one : goal.invariant-loop-one

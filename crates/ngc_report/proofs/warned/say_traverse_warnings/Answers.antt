@@ -1,6 +1,6 @@
 use Rattle.ngc_machine_files.specs.Machine.{file_of}
-use Rattle.ngc_report.specs.Warnings.{warned}
-use Rattle.ngc_report.specs.declared.warnings.Concern.TheVariants.{LowAcross, LowHome}
+use Rattle.ngc_findings.specs.Warnings.{warned}
+use Rattle.ngc_findings.specs.declared.warnings.Concern.TheVariants.{LowAcross, LowHome}
 use Rattle.ngc_report.proofs.Sentences.{then_lines}
 use Rattle.ngc_report.proofs.warned.say_traverse_warnings.Goals as goal
 

@@ -13,5 +13,5 @@ returns g c =
     let ts = c.args.tools.now in
     let reach = c.of-reach.ensures.value in
     says_as (then (then (rw (c.as_slice.ensures.value, c.machine_lines-lines.ensures, reach) at c.say_lines.ensures)
-    (says_as c.say_fixtures.ensures (ap (λ r. lines_text (fixtures_from m r 0 m.fixtures)) reach))) c.say_table.ensures)
-    (three (machine_lines m (reach_of ts)) (fixtures_from m (reach_of ts) 0 m.fixtures) (table_lines ts))
+    (says_as c.say_fixtures.ensures (ap (λ r. lines_text (fixtures_from m c.args.figures.now.machine r 0 m.fixtures)) reach))) c.say_table.ensures)
+    (three (machine_lines m c.args.figures.now.machine (reach_of ts)) (fixtures_from m c.args.figures.now.machine (reach_of ts) 0 m.fixtures) (table_lines c.args.figures.now.tools.now ts))

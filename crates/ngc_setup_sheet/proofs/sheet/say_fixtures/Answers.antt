@@ -10,7 +10,7 @@ loop-i-init g c = all_left _ _ _ refl
 pub loop-i-preserved : goal.loop-i-preserved
 loop-i-preserved g c =
     less_left _ _
-    (next_fixture_text (file_of c.args.machine.now) c.args.reach.now (file_of c.args.machine.now).fixtures c.loop-i.i c.fixture-item.result
+    (next_fixture_text (file_of c.args.machine.now) c.args.written.now c.args.reach.now (file_of c.args.machine.now).fixtures c.loop-i.i c.fixture-item.result
     (rw c.as_slice-fixture-items.ensures.value at c.loop-i-test.true)
     (rw c.as_slice-fixture-items.ensures.value at c.fixture-item.is)) c.loop-i.invariant
     (rw (c.as_slice.ensures.value, c.fixture_lines-lines.ensures) at c.say_lines.ensures)

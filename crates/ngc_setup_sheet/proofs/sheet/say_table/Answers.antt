@@ -10,4 +10,4 @@ returns g c =
     let unset = c.are_unset-unset.result in
     rw (← c.are_unset-unset.ensures)
     (says_as (then c.say_tools.ensures (rw (c.as_slice.ensures.value, c.lines_after_tools-lines.ensures) at c.say_lines.ensures))
-    (sym (both (flat_map (tool_lines unset) c.args.tools.now) (warned unset warnings.Unset))))
+    (sym (both (flat_map (tool_lines unset c.args.table.now) c.args.tools.now) (warned unset warnings.Unset))))

@@ -10,3 +10,11 @@ returns-in-Part g c =
 pub returns-in-AnyWay : goal.returns-in-AnyWay
 unfolding figure_text
 returns-in-AnyWay g c = rw c.in-AnyWay.is c.say-in-AnyWay.ensures
+
+pub returns-in-Turning : goal.returns-in-Turning
+unfolding figure_text
+returns-in-Turning g c = rw c.in-Turning.is (then c.say_limits.ensures c.say-in-Turning.ensures)
+
+pub returns-in-Feeds : goal.returns-in-Feeds
+unfolding figure_text
+returns-in-Feeds g c = rw c.in-Feeds.is (then c.say_limits-in-Feeds.ensures c.say-in-Feeds.ensures)

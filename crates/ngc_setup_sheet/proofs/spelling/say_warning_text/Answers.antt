@@ -24,3 +24,11 @@ returns-in-Origin g c = rw (c.in-Origin.is, ← c.system_name.ensures) c.say-in-
 
 pub returns-in-Travel : goal.returns-in-Travel
 returns-in-Travel g c = rw c.in-Travel.is (says_as c.say-in-Travel.ensures c.short_travel.ensures)
+
+pub returns-in-WrittenTurn : goal.returns-in-WrittenTurn
+unfolding warning_text
+returns-in-WrittenTurn g c = rw c.in-WrittenTurn.is c.say-in-WrittenTurn.ensures
+
+pub returns-in-WrittenArcs : goal.returns-in-WrittenArcs
+unfolding warning_text
+returns-in-WrittenArcs g c = rw c.in-WrittenArcs.is c.say-in-WrittenArcs.ensures

@@ -14,5 +14,5 @@ returns g c =
     let ts = c.args.tools.now in
     let reach = c.of-reach.ensures.value in
     says_as (then (then (rw (c.as_slice.ensures.value, c.machine_lines-lines.ensures, reach) at c.say_warning_lines.ensures)
-    (says_as c.warn_of_fixtures.ensures (ap (λ r. lines_text (chosen c.args.style (fixtures_from m r 0 m.fixtures))) reach))) c.warn_of_table.ensures)
-    (three_chosen c.args.style (machine_lines m (reach_of ts)) (fixtures_from m (reach_of ts) 0 m.fixtures) (table_lines ts))
+    (says_as c.warn_of_fixtures.ensures (ap (λ r. lines_text (chosen c.args.style (fixtures_from m c.args.figures.now.machine r 0 m.fixtures))) reach))) c.warn_of_table.ensures)
+    (three_chosen c.args.style (machine_lines m c.args.figures.now.machine (reach_of ts)) (fixtures_from m c.args.figures.now.machine (reach_of ts) 0 m.fixtures) (table_lines c.args.figures.now.tools.now ts))

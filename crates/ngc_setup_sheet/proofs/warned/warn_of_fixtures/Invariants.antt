@@ -10,5 +10,5 @@ abbrev pub invariant-loop-i : goal.invariant-loop-i
 invariant-loop-i g l =
     IsLeft (g.W.Sink.written l.initial.output) (g.W.Sink.written l.output) (g.W.Sink.failures l.initial.output) (g.W.Sink.failures l.output)
     l.initial.page l.page
-    (lines_text (chosen l.style (fixtures_from (file_of l.machine) l.reach l.i (drop l.i l.machine.fixtures.items))))
-    (lines_text (chosen l.style (fixtures_from (file_of l.machine) l.reach 0 l.machine.fixtures.items)))
+    (lines_text (chosen l.style (fixtures_from (file_of l.machine) l.written l.reach l.i (drop l.i l.machine.fixtures.items))))
+    (lines_text (chosen l.style (fixtures_from (file_of l.machine) l.written l.reach 0 l.machine.fixtures.items)))

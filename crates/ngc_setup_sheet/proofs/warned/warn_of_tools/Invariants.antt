@@ -9,5 +9,5 @@ abbrev pub invariant-loop-tool : goal.invariant-loop-tool
 invariant-loop-tool g l =
     IsLeft (g.W.Sink.written l.initial.output) (g.W.Sink.written l.output) (g.W.Sink.failures l.initial.output) (g.W.Sink.failures l.output)
     l.initial.page l.page
-    (lines_text (chosen l.style (flat_map (tool_lines l.unset) (drop l.tool-index l.tools))))
-    (lines_text (chosen l.style (flat_map (tool_lines l.unset) l.tools)))
+    (lines_text (chosen l.style (flat_map (tool_lines l.unset l.table) (drop l.tool-index l.tools))))
+    (lines_text (chosen l.style (flat_map (tool_lines l.unset l.table) l.tools)))

@@ -1,7 +1,7 @@
 use Rattle.std.proofs.Common.{ℕ, List, Option, Some, Result, ap, inl, subst}
 use Rattle.std.specs.Prelude.{option_map}
 use Rattle.ngc_canonical.specs.Interpreter.{setup_of}
-use Rattle.ngc_drawing.specs.declared.look.Look.{Look}
+use Rattle.ngc_picture_shapes.specs.declared.look.Look.{Look}
 use Rattle.ngc_report.proofs.Converted.{turned}
 use Rattle.ngc_inputs.proofs.JobLaws.{keeps_same}
 use Rattle.ngc_inputs.proofs.UnreadLaws.{reported_before, unread_told}

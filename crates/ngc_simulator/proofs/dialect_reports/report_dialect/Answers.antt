@@ -1,15 +1,16 @@
-use Rattle.std.proofs.Common.{ℕ, List, Option, Some, inl, subst}
+use Rattle.std.proofs.Common.{◌≡◌, ◌∙◌, false, ℕ, List, Option, Some, ap, inl, subst, sym}
 use Rattle.std.specs.Prelude.{option_map}
 use Rattle.ngc_canonical.specs.Interpreter.{setup_of}
-use Rattle.ngc_inputs.specs.Setups.{FileBytes}
+use Rattle.ngc_file_figures.specs.Files.{stored}
+use Rattle.ngc_inputs.specs.Setups.{AreFiguresIn, FileBytes}
 use Rattle.ngc_inputs.specs.Unread.{SourceFails}
 use Rattle.ngc_inputs.proofs.UnreadLaws.{unread_told}
-use Rattle.ngc_program_report.specs.declared.request.ReportRequest.{ReportRequest}
 use Rattle.ngc_report.proofs.Converted.{turned}
 use Rattle.ngc_simulator.specs.Answers.{DialectReportResult, report_inputs_in, request_of}
+use Rattle.ngc_simulator.specs.Cells.{is_idle}
 use Rattle.ngc_simulator.specs.DialectReports.{ReportsDialect}
 use Rattle.ngc_simulator.proofs.DialectLaws.{all_were_read, on_read}
-use Rattle.ngc_simulator.proofs.DialectReportLaws.{dialect_reported, report_read}
+use Rattle.ngc_simulator.proofs.DialectReportLaws.{dialect_reported, report_asked, report_read}
 use Rattle.ngc_simulator.proofs.dialect_reports.report_dialect.Goals as goal
 
 pub returns-in_err-sent-clause-comes : goal.returns-in_err-sent-clause-comes
@@ -31,19 +32,27 @@ returns-clause-comes g c =
     let tools : Option (List ℕ) = Some c.args.options.now.tools.now in
     let bytes : FileBytes = g.F.Files.bytes c.args.files.now in
     let sent = c.in_ok-sent.sent in
-    let setup = setup_of sent.shop.machine sent.shop.tools in
+    let moved = c.without_figures.ensures in
+    let figures = c.borrowed.result in
     let outcome = c.report_sent.result in
-    let reports = subst (λ (r : ReportRequest). ReportsDialect sent.dialect setup sent.text.items r (g.W.Sink.written c.read_sent_reporting.new.output) new outcome)
-    c.request_of.ensures c.report_sent.ensures.reports in
-    dialect_reported c.args.control.now bytes c.args.options.now old new outcome
-    (on_read c.args.control.now machine tools c.args.options.now.changes (option_map (λ n. n.now) c.args.options.now.program) bytes sent
-    (λ d s source. ReportsDialect d s source (request_of c.args.options.now) old new outcome) c.in_ok-sent.ensures.sent.0
-    (subst (λ (o : Option (List ℕ)). ReportsDialect sent.dialect setup sent.text.items (request_of c.args.options.now) o new outcome)
-    c.in_ok-sent.ensures.sent.1 reports))
+    let reports = report_asked sent c.without_figures.result.0 figures c.args.options.now c.request_of.result (g.W.Sink.written c.read_sent_reporting.new.output) new outcome
+    moved.dialect moved.machine moved.tools moved.text c.request_of.ensures c.report_sent.ensures.reports in
+    let are = subst (AreFiguresIn bytes machine tools) (sym (c.borrowed.ensures ∙ ap stored moved.figures)) c.in_ok-sent.ensures.figures in
+    dialect_reported c.args.control.now bytes c.args.options.now old new outcome (
+      figures,
+      are,
+      on_read c.args.control.now machine tools c.args.options.now.changes (option_map (λ n. n.now) c.args.options.now.program) bytes sent
+          (λ d s source. (is_idle c.args.options.now.cells s.machine.stock ≡ false)
+          × ReportsDialect d s source (request_of figures c.args.options.now) old new outcome) c.in_ok-sent.ensures.sent.0 (
+            c.in_ok-sent.ensures.sent.2,
+            subst (λ (o : Option (List ℕ)). ReportsDialect sent.dialect (setup_of sent.shop.machine sent.shop.tools) sent.text.items (request_of figures c.args.options.now) o new outcome)
+                c.in_ok-sent.ensures.sent.1 reports,
+          ),
+    )
 
 pub returns-clause-unread : goal.returns-clause-unread
 returns-clause-unread g c =
-    let sent = c.in_ok-sent.sent in
+    let moved = c.without_figures.result.0 in
     all_were_read (SourceFails g.F.R.Source.remaining g.F.R.Source.failures) (g.F.Files.bytes c.args.files.now)
     (report_inputs_in (Some c.args.control.now) c.args.options.now) _ _ c.report_sent.result c.in_ok-sent.ensures.unread
-    (report_read sent.dialect (setup_of sent.shop.machine sent.shop.tools) sent.text.items c.request_of.result _ _ c.report_sent.result c.report_sent.ensures.reports)
+    (report_read moved.dialect (setup_of moved.shop.machine moved.shop.tools) moved.text.items c.request_of.result _ _ c.report_sent.result c.report_sent.ensures.reports)

@@ -6,10 +6,8 @@ use Rattle.ngc_inputs.specs.declared.fault.AnswerFault.TheVariants as answers
 use Rattle.ngc_inputs.proofs.JobLaws.{keeps_same}
 use Rattle.ngc_inputs.proofs.UnreadLaws.{placed_read, reported_before, told_behind, unread_told}
 use Rattle.ngc_report.proofs.Converted.{turned}
-use Rattle.ngc_report.specs.declared.form.Form.{Form}
 use Rattle.std.specs.Prelude.{IfErr}
 use Rattle.ngc_simulator.specs.Answers.{StopsReport, report_inputs_in, source_input}
-use Rattle.ngc_simulator.specs.Mistaken.{ReportsPlacedRefusal}
 use Rattle.ngc_simulator.proofs.DialectReportLaws.{stops_report}
 use Rattle.ngc_simulator.proofs.dialects.read_sent_reporting.Goals as goal
 
@@ -17,20 +15,18 @@ pub returns-in_err-shop-clause-stops : goal.returns-in_err-shop-clause-stops
 returns-in_err-shop-clause-stops g c =
     let bytes = g.F.Files.bytes c.args.files.now in
     let old = g.W.Sink.written c.args.output.now in
-    let new = g.W.Sink.written c.read_placed_reporting.new.output in
+    let new = g.W.Sink.written c.read_report_shop.new.output in
     let fault = c.in_err-shop.field-0.0 in
     turned _ fault (λ r. IfErr r (StopsReport c.args.control.now bytes c.args.options.now old new)) c.from_residual.ensures.1
-    (stops_report c.args.control.now bytes c.args.options.now old new fault
-    (subst (λ (f : Form). ReportsPlacedRefusal f bytes (Some c.args.options.now.machine.now) (Some c.args.options.now.tools.now) c.args.options.now.changes old new fault)
-    c.requested_form-form.ensures c.in_err-shop.ensures.said))
+    (stops_report c.args.control.now bytes c.args.options.now old new fault c.in_err-shop.ensures.said)
 
 pub returns-in_err-text-clause-stops : goal.returns-in_err-text-clause-stops
 returns-in_err-text-clause-stops g c =
     let bytes = g.F.Files.bytes c.args.files.now in
     let old = g.W.Sink.written c.args.output.now in
-    let new = g.W.Sink.written c.read_placed_reporting.new.output in
+    let new = g.W.Sink.written c.read_report_shop.new.output in
     turned _ (answers.Input c.in_err-text.field-0.0) (λ r. IfErr r (StopsReport c.args.control.now bytes c.args.options.now old new)) c.from_residual-in_err-text.ensures.1
-    (tt, inl (subst (λ (o : Option (List ℕ)). Keeps o new) c.in_ok-shop.ensures.said.1 (keeps_same new)))
+    (inl (tt, inl (subst (λ (o : Option (List ℕ)). Keeps o new) c.in_ok-shop.ensures.said.1 (keeps_same new))))
 
 pub returns-in_err-shop-clause-unread : goal.returns-in_err-shop-clause-unread
 returns-in_err-shop-clause-unread g c =
@@ -45,8 +41,8 @@ returns-in_err-text-clause-unread g c =
     let program = option_map (λ n. n.now) c.args.options.now.program in
     unread_told (SourceFails g.F.R.Source.remaining g.F.R.Source.failures) (g.F.Files.bytes c.args.files.now)
     (report_inputs_in (Some c.args.control.now) c.args.options.now) _ _ _ (answers.Input c.in_err-text.field-0.0) c.from_residual-in_err-text.ensures.1
-    (told_behind (SourceFails g.F.R.Source.remaining g.F.R.Source.failures) (g.F.Files.bytes c.args.files.now) (g.F.Files.bytes c.read_placed_reporting.new.files)
+    (told_behind (SourceFails g.F.R.Source.remaining g.F.R.Source.failures) (g.F.Files.bytes c.args.files.now) (g.F.Files.bytes c.read_report_shop.new.files)
     (shop_inputs (Some c.args.options.now.machine.now) (Some c.args.options.now.tools.now)) OfSource program [] _ _ _ (Some c.in_err-text.field-0.0)
     (placed_read (g.F.Files.bytes c.args.files.now) (Some c.args.options.now.machine.now) (Some c.args.options.now.tools.now) c.args.options.now.changes
     c.in_ok-shop.shop c.in_ok-shop.ensures.said.0)
-    (c.read_placed_reporting.ensures.keeps program) c.in_ok-shop.ensures.unread (inl c.in_err-text.ensures.unread))
+    (c.read_report_shop.ensures.keeps program) c.in_ok-shop.ensures.unread (inl c.in_err-text.ensures.unread))

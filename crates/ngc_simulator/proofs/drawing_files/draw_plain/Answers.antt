@@ -2,7 +2,7 @@ use Rattle.std.proofs.Common.{◌∷◌, Some, Ok, Err, ap, ◌∙◌, inl, inr,
 use Rattle.std.specs.Prelude.{option_map}
 use Rattle.ngc_inputs.specs.declared.fault.AnswerFault.TheVariants as answers
 use Rattle.ngc_canonical.specs.Interpreter.{setup_of}
-use Rattle.ngc_drawing.specs.declared.look.Look.{Look}
+use Rattle.ngc_picture_shapes.specs.declared.look.Look.{Look}
 use Rattle.ngc_simulator.specs.Drawing.{DrawsProgram}
 use Rattle.ngc_simulator.specs.Answers.{OwnDrawResult, certificate_inputs, own_draw_inputs, program_input}
 use Rattle.ngc_inputs.specs.Faults.{OfDrawing}

@@ -5,7 +5,7 @@ use Rattle.ngc_certificate_text.specs.Contents.{certificate_data}
 use Rattle.ngc_line_reader.specs.ProgramText.{program_of}
 use Rattle.ngc_inputs.specs.declared.fault.AnswerFault.TheVariants as answers
 use Rattle.ngc_canonical.specs.Interpreter.{setup_of}
-use Rattle.ngc_drawing.specs.declared.look.Look.{Look}
+use Rattle.ngc_picture_shapes.specs.declared.look.Look.{Look}
 use Rattle.ngc_simulator.specs.Drawing.{DrawsNamed}
 use Rattle.ngc_simulator.specs.Answers.{OwnDrawResult, certificate_inputs, own_draw_inputs, program_input}
 use Rattle.ngc_inputs.specs.Faults.{OfDrawing}

@@ -1,3 +1,4 @@
+use Rattle.ngc_file_figures.specs.Files.{values_of}
 use Rattle.ngc_canonical.specs.Interpreter.{setup_of}
 use Rattle.ngc_certificate_text.specs.declared.piece.Setting.TheVariants.{Off, On}
 use Rattle.ngc_inputs.proofs.JobLaws.{if_known}
@@ -24,8 +25,8 @@ returns-clause-reports g c =
 
 pub returns-clause-source : goal.returns-clause-source
 returns-clause-source g c =
-    job_unread (framed_in c.in-Ok.framed) (own_lines (text_in c.in_ok-program.program).lines) c.args.request _ _ c.report_job.result _ c.report_job.ensures.reports
+    job_unread (framed_in c.in-Ok.framed) (own_lines (values_of c.args.request.figures) (text_in c.in_ok-program.program).lines) c.args.request _ _ c.report_job.result _ c.report_job.ensures.reports
 
 pub returns-clause-faults : goal.returns-clause-faults
 returns-clause-faults g c =
-    job_faults (framed_in c.in-Ok.framed) (own_lines (text_in c.in_ok-program.program).lines) c.args.request _ _ c.report_job.result c.report_job.ensures.reports
+    job_faults (framed_in c.in-Ok.framed) (own_lines (values_of c.args.request.figures) (text_in c.in_ok-program.program).lines) c.args.request _ _ c.report_job.result c.report_job.ensures.reports

@@ -3,11 +3,11 @@ use Rattle.ngc_canonical.specs.Interpreter.{setup_of}
 use Rattle.ngc_report.specs.declared.form.Form.{Form}
 use Rattle.std.specs.Io.KnownBytes.{Keeps}
 use Rattle.ngc_report.proofs.Converted.{turned}
+use Rattle.ngc_inputs.specs.Setups.{AreFiguresIn}
 use Rattle.ngc_inputs.proofs.JobLaws.{keeps_same}
 use Rattle.ngc_simulator.proofs.ReportLaws.{asked, reported_files}
 use Rattle.ngc_simulator.specs.Answers.{OwnReportResult, ReportsOn, program_input, request_of, own_report_inputs}
 use Rattle.ngc_simulator.specs.AllFaults.{ReportsFaults}
-use Rattle.ngc_simulator.specs.Mistaken.{ReportsPlacedRefusal}
 use Rattle.ngc_simulator.specs.Reporting.{Reports}
 use Rattle.ngc_inputs.specs.Unread.{OfProgram, SourceFails, shop_inputs, unread_by}
 use Rattle.ngc_inputs.specs.declared.fault.AnswerFault.{AnswerFault}
@@ -21,10 +21,7 @@ pub returns-in_err-shop-clause-comes : goal.returns-in_err-shop-clause-comes
 returns-in_err-shop-clause-comes g c =
     turned _ c.in_err-shop.field-0.0
     (OwnReportResult (g.F.Files.bytes c.args.files.now) c.args.options.now (g.W.Sink.written c.args.output.now)
-    (g.W.Sink.written c.read_placed_reporting.new.output)) c.from_residual.ensures.1
-    (inl (subst (λ (f : Form). ReportsPlacedRefusal f (g.F.Files.bytes c.args.files.now) (Some c.args.options.now.machine.now) (Some c.args.options.now.tools.now) c.args.options.now.changes
-    (g.W.Sink.written c.args.output.now) (g.W.Sink.written c.read_placed_reporting.new.output) c.in_err-shop.field-0.0)
-    (ap (λ r. r.form) c.request_of-request.ensures) c.in_err-shop.ensures.said))
+    (g.W.Sink.written c.read_report_shop.new.output)) c.from_residual.ensures.1 (inl c.in_err-shop.ensures.said)
 
 pub returns-in_err-report_all_faults-clause-comes : goal.returns-in_err-report_all_faults-clause-comes
 returns-in_err-report_all_faults-clause-comes g c =
@@ -33,28 +30,30 @@ returns-in_err-report_all_faults-clause-comes g c =
     turned _ fault (OwnReportResult (g.F.Files.bytes c.args.files.now) c.args.options.now (g.W.Sink.written c.args.output.now) new)
     c.from_residual-in_err-report_all_faults.ensures.1
     (subst (λ (o : Option (List ℕ)). OwnReportResult (g.F.Files.bytes c.args.files.now) c.args.options.now o new (Err fault)) c.in_ok-shop.ensures.said.1
-    (faults_comes (g.F.Files.bytes c.args.files.now) (g.F.Files.bytes c.read_placed_reporting.new.files) c.args.options.now c.in_ok-shop.shop
-    (g.F.Files.bytes c.read_placed_reporting.new.files (option_map (λ n. n.now) c.args.options.now.program)) (g.W.Sink.written c.read_placed_reporting.new.output)
-    c.in_ok-shop.ensures.said.0 c.read_placed_reporting.ensures.keeps refl new fault c.in_err-report_all_faults.ensures.all
-    (subst (λ (f : Form). IfSome (g.F.Files.bytes c.read_placed_reporting.new.files (option_map (λ n. n.now) c.args.options.now.program))
-    (λ text. ReportsFaults (setup_of c.in_ok-shop.shop.machine c.in_ok-shop.shop.tools) f text (g.W.Sink.written c.read_placed_reporting.new.output) new fault))
-    (ap (λ r. r.form) c.request_of-request.ensures) c.in_err-report_all_faults.ensures.told)))
+    (faults_comes (g.F.Files.bytes c.args.files.now) (g.F.Files.bytes c.read_report_shop.new.files) c.args.options.now c.in_ok-shop.shop
+    (g.F.Files.bytes c.read_report_shop.new.files (option_map (λ n. n.now) c.args.options.now.program)) (g.W.Sink.written c.read_report_shop.new.output)
+    c.in_ok-shop.ensures.said.0 c.read_report_shop.ensures.keeps refl c.in_ok-shop.ensures.said.2 new fault c.in_err-report_all_faults.ensures.all
+    (subst (λ (f : Form). IfSome (g.F.Files.bytes c.read_report_shop.new.files (option_map (λ n. n.now) c.args.options.now.program))
+    (λ text. ReportsFaults (setup_of c.in_ok-shop.shop.machine c.in_ok-shop.shop.tools) f text (g.W.Sink.written c.read_report_shop.new.output) new fault))
+    c.requested_form-form.ensures c.in_err-report_all_faults.ensures.told)))
 
 pub returns-in_err-source-clause-comes : goal.returns-in_err-source-clause-comes
 returns-in_err-source-clause-comes g c =
     let fault = answers.Input c.in_err-source.field-0.0 in
     turned _ fault (OwnReportResult (g.F.Files.bytes c.args.files.now) c.args.options.now (g.W.Sink.written c.args.output.now)
     (g.W.Sink.written c.report_all_faults.new.output)) c.from_residual-in_err-source.ensures.1
-    (inl (tt, inl (subst (λ (o : Option (List ℕ)). Keeps o (g.W.Sink.written c.report_all_faults.new.output)) (c.in_ok-report_all_faults.ensures.silent ∙ c.in_ok-shop.ensures.said.1) (keeps_same _))))
+    (inl (inl (tt, inl (subst (λ (o : Option (List ℕ)). Keeps o (g.W.Sink.written c.report_all_faults.new.output)) (c.in_ok-report_all_faults.ensures.silent ∙ c.in_ok-shop.ensures.said.1) (keeps_same _)))))
 
 pub returns-in-Ok-clause-comes : goal.returns-in-Ok-clause-comes
 returns-in-Ok-clause-comes g c =
     let new = g.W.Sink.written c.report_program.new.output in
     subst (λ (o : Option (List ℕ)). ReportsOn (g.F.Files.bytes c.args.files.now) c.args.options.now o new (Ok tt)) (c.in_ok-report_all_faults.ensures.silent ∙ c.in_ok-shop.ensures.said.1)
-    (reported_files (g.F.Files.bytes c.args.files.now) (g.F.Files.bytes c.report_all_faults.new.files) c.args.options.now c.in_ok-shop.shop _
+    (reported_files (g.F.Files.bytes c.args.files.now) (g.F.Files.bytes c.report_all_faults.new.files) c.borrowed.result c.args.options.now c.in_ok-shop.shop _
     (g.W.Sink.written c.report_all_faults.new.output) new (Ok tt)
-    c.in_ok-shop.ensures.said.0 (λ n. c.report_all_faults.ensures.keeps n ∙ c.read_placed_reporting.ensures.keeps n) c.in_ok-source.ensures.bytes
-    (asked c.args.options.now c.in_ok-shop.shop c.request_of-request.result _ _ _ (Ok tt) c.request_of-request.ensures c.in-Ok.ensures.reports))
+    (subst (AreFiguresIn (g.F.Files.bytes c.args.files.now) (Some c.args.options.now.machine.now) (Some c.args.options.now.tools.now))
+    (sym c.borrowed.ensures) c.in_ok-shop.ensures.figures)
+    c.in_ok-shop.ensures.said.0 (λ n. c.report_all_faults.ensures.keeps n ∙ c.read_report_shop.ensures.keeps n) c.in_ok-source.ensures.bytes
+    c.in_ok-shop.ensures.said.2 (asked c.borrowed.result c.args.options.now c.in_ok-shop.shop c.request_of-request.result _ _ _ (Ok tt) c.request_of-request.ensures c.in-Ok.ensures.reports))
 
 pub returns-in-None-clause-comes : goal.returns-in-None-clause-comes
 returns-in-None-clause-comes g c =
@@ -63,8 +62,11 @@ returns-in-None-clause-comes g c =
     subst (λ (o : Option (List ℕ)). OwnReportResult (g.F.Files.bytes c.args.files.now) c.args.options.now o new (Err fault)) (c.in_ok-report_all_faults.ensures.silent ∙ c.in_ok-shop.ensures.said.1)
     (reported_comes (g.F.Files.bytes c.args.files.now) (g.F.Files.bytes c.report_all_faults.new.files) c.args.options.now c.in_ok-shop.shop _
     (g.W.Sink.written c.report_all_faults.new.output)
-    c.in_ok-shop.ensures.said.0 (λ n. c.report_all_faults.ensures.keeps n ∙ c.read_placed_reporting.ensures.keeps n) c.in_ok-source.ensures.bytes new fault c.in-Err.ensures.faults
-    (asked c.args.options.now c.in_ok-shop.shop c.request_of-request.result _ _ _ (Err fault) c.request_of-request.ensures c.in-Err.ensures.reports))
+    c.in_ok-shop.ensures.said.0 (λ n. c.report_all_faults.ensures.keeps n ∙ c.read_report_shop.ensures.keeps n) c.in_ok-source.ensures.bytes
+    c.in_ok-shop.ensures.said.2 c.borrowed.result new fault
+    (subst (AreFiguresIn (g.F.Files.bytes c.args.files.now) (Some c.args.options.now.machine.now) (Some c.args.options.now.tools.now))
+    (sym c.borrowed.ensures) c.in_ok-shop.ensures.figures) c.in-Err.ensures.faults
+    (asked c.borrowed.result c.args.options.now c.in_ok-shop.shop c.request_of-request.result _ _ _ (Err fault) c.request_of-request.ensures c.in-Err.ensures.reports))
 
 pub returns-clause-comes : goal.returns-clause-comes
 returns-clause-comes g c =
@@ -73,8 +75,11 @@ returns-clause-comes g c =
     subst (λ (o : Option (List ℕ)). OwnReportResult (g.F.Files.bytes c.args.files.now) c.args.options.now o new (Err fault)) (c.in_ok-report_all_faults.ensures.silent ∙ c.in_ok-shop.ensures.said.1)
     (reported_comes (g.F.Files.bytes c.args.files.now) (g.F.Files.bytes c.report_all_faults.new.files) c.args.options.now c.in_ok-shop.shop _
     (g.W.Sink.written c.report_all_faults.new.output)
-    c.in_ok-shop.ensures.said.0 (λ n. c.report_all_faults.ensures.keeps n ∙ c.read_placed_reporting.ensures.keeps n) c.in_ok-source.ensures.bytes new fault c.in-Err.ensures.faults
-    (asked c.args.options.now c.in_ok-shop.shop c.request_of-request.result _ _ _ (Err fault) c.request_of-request.ensures c.in-Err.ensures.reports))
+    c.in_ok-shop.ensures.said.0 (λ n. c.report_all_faults.ensures.keeps n ∙ c.read_report_shop.ensures.keeps n) c.in_ok-source.ensures.bytes
+    c.in_ok-shop.ensures.said.2 c.borrowed.result new fault
+    (subst (AreFiguresIn (g.F.Files.bytes c.args.files.now) (Some c.args.options.now.machine.now) (Some c.args.options.now.tools.now))
+    (sym c.borrowed.ensures) c.in_ok-shop.ensures.figures) c.in-Err.ensures.faults
+    (asked c.borrowed.result c.args.options.now c.in_ok-shop.shop c.request_of-request.result _ _ _ (Err fault) c.request_of-request.ensures c.in-Err.ensures.reports))
 
 pub returns-in-Read-clause-comes : goal.returns-in-Read-clause-comes
 returns-in-Read-clause-comes g c =
@@ -83,19 +88,19 @@ returns-in-Read-clause-comes g c =
     let answer = c.report_unreadable-told.result in
     let mid = g.W.Sink.written c.report_program.new.output in
     let new = g.W.Sink.written c.report_unreadable-told.new.output in
-    let reports = asked c.args.options.now shop c.request_of-request.result _ _ mid
+    let reports = asked c.borrowed.result c.args.options.now shop c.request_of-request.result _ _ mid
     (Err c.in-Err.fault) c.request_of-request.ensures c.in-Err.ensures.reports in
     subst (λ (o : Option (List ℕ)). OwnReportResult (g.F.Files.bytes c.args.files.now) c.args.options.now o new (Err answer)) (c.in_ok-report_all_faults.ensures.silent ∙ c.in_ok-shop.ensures.said.1)
     (told_comes (g.F.Files.bytes c.args.files.now) (g.F.Files.bytes c.report_all_faults.new.files) c.args.options.now shop
     (g.F.R.Source.remaining c.in_ok-source.source)
-    (g.W.Sink.written c.report_all_faults.new.output) c.in_ok-shop.ensures.said.0 (λ n. c.report_all_faults.ensures.keeps n ∙ c.read_placed_reporting.ensures.keeps n) c.in_ok-source.ensures.bytes
-    (g.F.Files.bytes c.open_file.new.files) name mid new c.in-Read.fault answer c.report_unreadable-told.ensures.faults
+    (g.W.Sink.written c.report_all_faults.new.output) c.in_ok-shop.ensures.said.0 (λ n. c.report_all_faults.ensures.keeps n ∙ c.read_report_shop.ensures.keeps n) c.in_ok-source.ensures.bytes
+    c.in_ok-shop.ensures.said.2 c.borrowed.result (g.F.Files.bytes c.open_file.new.files) name mid new c.in-Read.fault answer c.report_unreadable-told.ensures.faults
     (ap (option_map (λ n. n.now)) c.in-Some.is) (c.in_ok-source.ensures.keeps (subst IsSome (sym c.in-Some.is) refl))
     (subst (λ (f : AnswerFault). IfSome (g.F.R.Source.remaining c.in_ok-source.source)
-    (λ text. Reports (setup_of shop.machine shop.tools) text (request_of c.args.options.now) (g.W.Sink.written c.report_all_faults.new.output) mid (Err f)))
+    (λ text. Reports (setup_of shop.machine shop.tools) text (request_of c.borrowed.result c.args.options.now) (g.W.Sink.written c.report_all_faults.new.output) mid (Err f)))
     c.in-Read.is reports)
     (subst (λ (f : Form). TellsKnown f (Some name) (g.F.Files.bytes c.open_file.new.files (Some name)) mid new c.in-Read.fault answer)
-    (ap (λ r. r.form) c.request_of-request.ensures)
+    c.requested_form-form.ensures
     c.report_unreadable-told.ensures.tells))
 
 pub returns-in_err-shop-clause-unread : goal.returns-in_err-shop-clause-unread
@@ -111,12 +116,12 @@ returns-in_err-report_all_faults-clause-unread g c =
     let program = option_map (λ n. n.now) c.args.options.now.program in
     unread_told (SourceFails g.F.R.Source.remaining g.F.R.Source.failures) (g.F.Files.bytes c.args.files.now) (own_report_inputs c.args.options.now) _ _ _
     c.in_err-report_all_faults.field-0.0 c.from_residual-in_err-report_all_faults.ensures.1
-    (told_behind (SourceFails g.F.R.Source.remaining g.F.R.Source.failures) (g.F.Files.bytes c.args.files.now) (g.F.Files.bytes c.read_placed_reporting.new.files)
+    (told_behind (SourceFails g.F.R.Source.remaining g.F.R.Source.failures) (g.F.Files.bytes c.args.files.now) (g.F.Files.bytes c.read_report_shop.new.files)
     (shop_inputs (Some c.args.options.now.machine.now) (Some c.args.options.now.tools.now)) OfProgram program [] _ _ _
     (unread_by c.in_err-report_all_faults.field-0.0)
     (placed_read (g.F.Files.bytes c.args.files.now) (Some c.args.options.now.machine.now)
     (Some c.args.options.now.tools.now) c.args.options.now.changes c.in_ok-shop.shop c.in_ok-shop.ensures.said.0)
-    (c.read_placed_reporting.ensures.keeps program) c.in_ok-shop.ensures.unread c.in_err-report_all_faults.ensures.unread)
+    (c.read_report_shop.ensures.keeps program) c.in_ok-shop.ensures.unread c.in_err-report_all_faults.ensures.unread)
 
 pub returns-in_err-source-clause-unread : goal.returns-in_err-source-clause-unread
 returns-in_err-source-clause-unread g c =
@@ -138,7 +143,7 @@ returns-in-None-clause-unread g c =
     (λ is. record {
       opened = c.in_ok-source.source;
       left = c.report_program.new.source;
-      gave = c.in_ok-source.ensures.bytes ∙ (λ (n : Option (List ℕ)). c.report_all_faults.ensures.keeps n ∙ c.read_placed_reporting.ensures.keeps n) (option_map (λ n. n.now) c.args.options.now.program);
+      gave = c.in_ok-source.ensures.bytes ∙ (λ (n : Option (List ℕ)). c.report_all_faults.ensures.keeps n ∙ c.read_report_shop.ensures.keeps n) (option_map (λ n. n.now) c.args.options.now.program);
       fails = c.in-Err.ensures.source (ap Err is);
     })
 
@@ -152,7 +157,7 @@ returns-clause-unread g c =
     (λ is. record {
       opened = c.in_ok-source.source;
       left = c.report_program.new.source;
-      gave = c.in_ok-source.ensures.bytes ∙ (λ (n : Option (List ℕ)). c.report_all_faults.ensures.keeps n ∙ c.read_placed_reporting.ensures.keeps n) (option_map (λ n. n.now) c.args.options.now.program);
+      gave = c.in_ok-source.ensures.bytes ∙ (λ (n : Option (List ℕ)). c.report_all_faults.ensures.keeps n ∙ c.read_report_shop.ensures.keeps n) (option_map (λ n. n.now) c.args.options.now.program);
       fails = c.in-Err.ensures.source (ap Err is);
     })
 
@@ -166,7 +171,7 @@ returns-in-Read-clause-unread g c =
     (option_map (λ n. n.now) c.args.options.now.program) name _ _ _ c.report_unreadable-told.result named
     (placed_read (g.F.Files.bytes c.args.files.now) (Some c.args.options.now.machine.now)
     (Some c.args.options.now.tools.now) c.args.options.now.changes c.in_ok-shop.shop c.in_ok-shop.ensures.said.0)
-    (keeps_later (Some name) ∙ (λ (n : Option (List ℕ)). c.report_all_faults.ensures.keeps n ∙ c.read_placed_reporting.ensures.keeps n) (Some name)) (c.in_ok-source.ensures.counts ∙ (c.in_ok-report_all_faults.ensures.unread ∙ c.in_ok-shop.ensures.unread))
+    (keeps_later (Some name) ∙ (λ (n : Option (List ℕ)). c.report_all_faults.ensures.keeps n ∙ c.read_report_shop.ensures.keeps n) (Some name)) (c.in_ok-source.ensures.counts ∙ (c.in_ok-report_all_faults.ensures.unread ∙ c.in_ok-shop.ensures.unread))
     (c.report_unreadable-told.ensures.unread (λ is. record {
       opened = c.in_ok-source.source;
       left = c.report_program.new.source;

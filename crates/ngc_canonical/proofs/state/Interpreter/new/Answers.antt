@@ -7,6 +7,7 @@ returns g c =
     rw (
       c.start.ensures,
       c.new-2.ensures,
+      c.reach_of.ensures,
       fun_ext c.in-Ok.ensures.zero,
       c.zero.ensures,
       c.zero-2.ensures,

@@ -1,6 +1,0 @@
-use Rattle.std.proofs.lemmas.List.{append_assoc}
-use Rattle.ngc_drawing.proofs.spelling.add_body.Goals as goal
-
-pub returns : goal.returns
-returns c =
-    rw (c.add_area.ensures.text, c.add_text.ensures) (simp append_assoc)

@@ -1,6 +1,0 @@
-use Rattle.std.proofs.lemmas.List.{append_assoc}
-use Rattle.ngc_drawing.proofs.spelling.add_fault_line.Goals as goal
-
-pub returns : goal.returns
-returns c =
-    rw (c.add_text-3.ensures, c.add_number-2.ensures.text, c.add_text-2.ensures, c.add_number.ensures.text, c.add_text.ensures) (simp append_assoc)

@@ -1,0 +1,12 @@
+pub mod Extents
+pub mod Rooms
+pub mod Gaps
+pub mod Nearing
+pub mod Ways
+pub mod Uses
+pub mod Margins
+pub mod Scenes
+pub mod Shifts
+pub mod Clearings
+pub mod ToolStates
+pub mod Warnings

@@ -1,0 +1,2 @@
+-- The breaches over commands, one command further.
+pub mod BreachSteps

@@ -1,0 +1,8 @@
+//! The rates of a machine as speeds and accelerations, in metric units.
+#![tactic(auto)]
+
+mod speeds;
+
+pub use speeds::{
+    acceleration, arc_acceleration, gain, millimetres_a_minute, pull, speed, steps_a_millimetre,
+};

@@ -1,0 +1,106 @@
+//! A machine's rates as speeds and accelerations.
+ghost use Rattle.std.specs.Prelude.{◌≡◌, ◌≤◌, ◌<◌, ◌*◌, ◌^◌, unsigned_abs};
+ghost use Rattle.ngc_fixed_length.specs.Length.{IsStep};
+ghost use Rattle.ngc_machine_files.specs.Machine.{file_of};
+ghost use Rattle.ngc_machine_speeds.specs.Speeds.{rounded, step_speed, speed, gain};
+ghost use Rattle.ngc_machine_speeds.specs.Speeds.{millimetres_a_minute, acceleration};
+ghost use Rattle.ngc_machine_speeds.specs.Speeds.{diagonal_turns, pull, arc_acceleration, steps_a_millimetre};
+
+use ngc_fixed_length::Nm;
+use ngc_machine_files::{ArcFeed, Machine};
+use std::alloc::Allocator;
+
+/// Returns a number in a unit, rounded to the nearest, halves upwards.
+fn rounded(number: u128, unit: u128) -> u128
+    requires number { number < 2 ^ 120 }
+    requires some { 0 < unit }
+    requires unit { unit < 2 ^ 120 }
+    ensures { result ≡ rounded number unit }
+{
+    (2 * number + unit) / (2 * unit)
+}
+
+fn size_of(step: Nm) -> u64
+    requires { IsStep step }
+    ensures value { result ≡ unsigned_abs step }
+    ensures least { 1 ≤ result }
+    ensures greatest { result ≤ 50000 }
+{
+    step.nanometres().unsigned_abs()
+}
+
+/// Returns the speed of one step per tick, in nanometres per second.
+fn step_speed<A: Allocator>(machine: &Machine<A>) -> u64
+    ensures value { result ≡ step_speed (file_of machine.now) }
+    ensures bound { result ≤ 50000000000 }
+{
+    size_of(machine.step) * u64::from(machine.ticks_per_second)
+}
+
+/// Returns the speed of a rate, in millionths of a nanometre per second.
+pub fn speed<A: Allocator>(machine: &Machine<A>, rate: u32) -> u64
+    requires { rate ≤ 1000000 }
+    ensures value { result ≡ speed (file_of machine.now) rate }
+    ensures bound { result ≤ 50000000000000000 }
+{
+    u64::from(rate) * step_speed(machine)
+}
+
+/// Returns an acceleration in steps per tick, per tick, as nanometres per second squared.
+pub fn gain<A: Allocator>(machine: &Machine<A>, steps: u64) -> u128
+    requires { steps ≤ 1000000000000 }
+    ensures value { result ≡ gain (file_of machine.now) steps }
+    ensures bound { result ≤ 50000000000000000000000000000 }
+{
+    u128::from(steps) * (u128::from(step_speed(machine)) * u128::from(machine.ticks_per_second))
+}
+
+/// Returns the steps per millimetre, in thousandths.
+pub fn steps_a_millimetre<A: Allocator>(machine: &Machine<A>) -> u128
+    ensures { result ≡ steps_a_millimetre (file_of machine.now) }
+{
+    rounded(1_000_000_000, u128::from(size_of(machine.step)))
+}
+
+/// Returns the speed of a rate, in thousandths of a millimetre per minute.
+pub fn millimetres_a_minute<A: Allocator>(machine: &Machine<A>, rate: u32) -> u128
+    requires { rate ≤ 1000000 }
+    ensures { result ≡ millimetres_a_minute (file_of machine.now) rate }
+{
+    rounded(60 * u128::from(speed(machine, rate)), 1_000_000_000)
+}
+
+/// Returns the acceleration along the path, in thousandths of a millimetre per second squared.
+pub fn acceleration<A: Allocator>(machine: &Machine<A>) -> u128
+    ensures { result ≡ acceleration (file_of machine.now) (file_of machine.now).change }
+{
+    rounded(gain(machine, u64::from(machine.change)), 1_000_000_000)
+}
+
+/// Returns the greatest acceleration towards the centre of an arc that is aimed at, in turns.
+fn diagonal_turns(arc_feed: &ArcFeed) -> u128
+    ensures value { result ≡ diagonal_turns arc_feed.now }
+    ensures bound { result ≤ 2 }
+{
+    match arc_feed {
+        ArcFeed::Off | ArcFeed::Feed => 2,
+        ArcFeed::FeedAndTurn => 1,
+    }
+}
+
+/// Returns the greatest acceleration towards the centre of an arc that is aimed at, in millionths of
+/// a millionth of a nanometre per second squared.
+pub fn pull<A: Allocator>(machine: &Machine<A>) -> u128
+    ensures value { result ≡ pull (file_of machine.now) }
+    ensures bound { result ≤ 100000000000000000000000000000 }
+{
+    diagonal_turns(&machine.arc_feed) * gain(machine, machine.turn)
+}
+
+/// Returns the greatest acceleration towards the centre of an arc that is aimed at, in thousandths
+/// of a millimetre per second squared.
+pub fn arc_acceleration<A: Allocator>(machine: &Machine<A>) -> u128
+    ensures { result ≡ arc_acceleration (file_of machine.now) }
+{
+    rounded(pull(machine), 1_000_000_000_000_000)
+}

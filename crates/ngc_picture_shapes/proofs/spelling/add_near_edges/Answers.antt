@@ -1,0 +1,22 @@
+use Rattle.std.proofs.Common.{◌≡◌, arith, to_z, of_z}
+use Rattle.std.specs.Int.{w64}
+use Rattle.std.proofs.lemmas.Int.{ints}
+use Rattle.std.proofs.lemmas.List.{append_assoc}
+use Rattle.ngc_picture_shapes.proofs.spelling.add_near_edges.Goals as goal
+
+pub returns : goal.returns
+returns c =
+    let v0 : to_z w64 (of_z w64 c.args.block.now.near.up) ≡ c.args.block.now.near.up = omega (arith, ints) in
+    rw (
+      c.add_down.ensures.text,
+      v0,
+      c.add_text-5.ensures,
+      c.add_spot-4.ensures.text,
+      c.add_text-4.ensures,
+      c.add_spot-3.ensures.text,
+      c.add_text-3.ensures,
+      c.add_spot-2.ensures.text,
+      c.add_text-2.ensures,
+      c.add_spot.ensures.text,
+      c.add_text.ensures,
+    ) (simp append_assoc)

@@ -1,0 +1,15 @@
+-- One text after the other.
+use Rattle.std.proofs.lemmas.List.{append_assoc}
+use Rattle.ngc_picture_shapes.proofs.spelling.add_origin.Goals as goal
+
+pub returns-clause-text : goal.returns-clause-text
+returns-clause-text c =
+    rw (
+      c.add_text-4.ensures,
+      c.add_text-3.ensures,
+      c.moved.ensures.text,
+      c.add_system.ensures.text,
+      c.add_text-2.ensures,
+      c.add_lines.ensures.text,
+      c.add_text.ensures,
+    ) (simp append_assoc)

@@ -1,0 +1,11 @@
+use Rattle.std.proofs.Common.{◌≡◌, arith, to_z, of_z}
+use Rattle.std.specs.Int.{w64}
+use Rattle.std.proofs.lemmas.Int.{ints}
+use Rattle.std.proofs.lemmas.List.{append_assoc}
+use Rattle.ngc_picture_shapes.proofs.spelling.add_part.Goals as goal
+
+pub returns : goal.returns
+returns c =
+    let v0 : to_z w64 (of_z w64 c.args.diameter) ≡ c.args.diameter = omega (arith, ints) in
+    let v1 : to_z w64 (of_z w64 c.args.long) ≡ c.args.long = omega (arith, ints) in
+    rw (c.add_length-2.ensures.text, v1, c.add_text-2.ensures, c.add_length.ensures.text, v0, c.add_text.ensures) (simp append_assoc)

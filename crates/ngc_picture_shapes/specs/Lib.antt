@@ -1,0 +1,10 @@
+pub mod Views
+pub mod Tools
+pub mod Arcs
+pub mod Units
+pub mod Helices
+pub mod Ways
+pub mod Strokes
+pub mod Spelling
+pub mod Draws
+pub mod Sheets

@@ -1,6 +1,0 @@
-use Rattle.std.proofs.Common.{◌≡◌, None, drop}
-use Rattle.ngc_report.specs.ToolStates.{area}
-use Rattle.ngc_report.proofs.tool_state.area.Given as goal
-
-abbrev pub invariant-loop-command : goal.invariant-loop-command
-invariant-loop-command l = area l.step l.found (drop l.command-index l.commands) ≡ area l.step None l.commands

@@ -1,6 +1,0 @@
-use Rattle.std.proofs.Common.{◌≡◌, drop}
-use Rattle.ngc_report.specs.Uses.{changes}
-use Rattle.ngc_report.proofs.uses.next_change.Given as goal
-
-abbrev pub invariant-loop-i : goal.invariant-loop-i
-invariant-loop-i l = changes l.commands ≡ changes (drop l.i l.commands)

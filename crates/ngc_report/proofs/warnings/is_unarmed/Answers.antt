@@ -1,4 +1,0 @@
-use Rattle.ngc_report.proofs.warnings.is_unarmed.Goals as goal
-
-pub returns-in-None : goal.returns-in-None
-returns-in-None g c = rw (c.in-None.is, c.leaves.ensures, c.to_grid.ensures.value, c.reach.ensures)
