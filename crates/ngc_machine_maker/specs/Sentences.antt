@@ -11,6 +11,7 @@ use Rattle.ngc_machine_maker.specs.declared.refusal.FigureRefusal.{FigureRefusal
 use Rattle.ngc_machine_maker.specs.declared.refusal.FigureRefusal.TheVariants as refusals
 use Rattle.ngc_machine_maker.specs.declared.refusal.Stop.{Stop}
 use Rattle.ngc_machine_maker.specs.declared.refusal.Stop.TheVariants as stops
+use Rattle.ngc_machine_maker.specs.declared.refusal.Stored.{Stored}
 use Rattle.ngc_machine_maker.specs.Stored.{stored_text}
 
 unfoldable pub axis_text : Axis → List ℕ
@@ -47,6 +48,12 @@ field_text (fields.Stop stop) = codes "--" ++ stop_text stop
 unfoldable pub value_text : ℕ → ℕ → List ℕ → List ℕ
 value_text number at mistake = codes "line " ++ decimal at ++ codes ": the value of $"
     ++ decimal number ++ mistake
+
+-- what a place in a dump must be
+unfoldable pub place_text : Stored → ℕ → List ℕ → List ℕ
+place_text stored at limit = codes "line " ++ decimal at ++ codes ": the place of "
+    ++ stored_text stored ++ codes " is not X, Y and Z, each at most " ++ limit
+    ++ codes " from zero: correct it"
 
 -- ---- motors that differ
 
@@ -87,10 +94,8 @@ refusal_text (refusals.Negative number at) = value_text number at
     (codes " is below zero, and this setting can't be: write it without the minus sign")
 refusal_text (refusals.Digits number at) = value_text number at
     (codes " has too many digits: write it as Grbl does, with at most three decimals")
-refusal_text (refusals.Place stored at) = codes "line " ++ decimal at ++ codes ": the place of "
-    ++ stored_text stored ++ codes " is not X, Y and Z, each at most 1000 mm from zero: correct it"
-refusal_text (refusals.FarPlace stored at) = codes "line " ++ decimal at ++ codes ": the place of "
-    ++ stored_text stored ++ codes " is not X, Y and Z, each at most 4000 mm from zero: correct it"
+refusal_text (refusals.Place stored at) = place_text stored at (codes "1000 mm")
+refusal_text (refusals.FarPlace stored at) = place_text stored at (codes "4000 mm")
 refusal_text (refusals.UnequalSteps motors) = unequal_text motors
 
 -- a sentence on a line of its own

@@ -1,7 +1,6 @@
 //! The travel, and the places at which all axes stop.
 ghost use Rattle.std.specs.Prelude.{◌≡◌, ◌*◌, ◌≤◌, ◌≤ℤ◌, pos, IfOk, unsigned_abs};
-ghost use Rattle.ngc_machine_maker.specs.Places.{length_in, travel_limit, travel_of, travel_refusal};
-ghost use Rattle.ngc_machine_maker.specs.Places.{travels_of};
+ghost use Rattle.ngc_machine_maker.specs.Places.{length_in, travel_limit, travel_of, travels_of};
 ghost use Rattle.ngc_machine_maker.specs.Places.{stop_of, stops_of, stops_by, coordinate};
 ghost use Rattle.ngc_machine_maker.specs.Places.{low_of, high_of, place_of, lows_of, highs_of};
 ghost use Rattle.ngc_machine_maker.specs.Ranges.{IsScale, IsTravel, AreTravels, IsStop, AreStops};
@@ -27,16 +26,6 @@ fn travel_limit(far: bool) -> u32
     if far { 3_999_000_000 } else { 1_000_000_000 }
 }
 
-fn travel_refusal(far: bool, axis: Axis) -> FigureRefusal
-    ensures { result ≡ travel_refusal far axis }
-{
-    if far {
-        FigureRefusal::FarTravel(axis)
-    } else {
-        FigureRefusal::Travel(axis)
-    }
-}
-
 fn travel_of(scale: &Scale, far: bool, length: Length, axis: Axis) -> Result<u32, FigureRefusal>
     requires { IsScale scale.now }
     ensures value { result ≡ travel_of scale.now far length axis }
@@ -45,7 +34,11 @@ fn travel_of(scale: &Scale, far: bool, length: Length, axis: Axis) -> Result<u32
 {
     let steps = steps_within(scale, length);
     if steps == 0 || length.nanometres > travel_limit(far) {
-        return Err(travel_refusal(far, axis));
+        return Err(if far {
+            FigureRefusal::FarTravel(axis)
+        } else {
+            FigureRefusal::Travel(axis)
+        });
     }
     Ok(steps)
 }

@@ -127,22 +127,20 @@ fn say_value<W: Sink>(
     say!(page, output; b"line ", Part::Number(at as u128), b": the value of $", Part::Number(u128::from(number)), Part::Text(mistake));
 }
 
-#[tactic(auto, unfolding(crate::specs::Sentences::refusal_text))]
-fn say_place<W: Sink>(stored: Stored, at: usize, page: &mut Page, output: &mut W)
+// Says what a place in a dump must be; `limit` says how far from zero it may be.
+#[tactic(auto, unfolding(crate::specs::Sentences::place_text))]
+fn say_place<W: Sink>(
+    stored: Stored,
+    at: usize,
+    limit: &'static [u8],
+    page: &mut Page,
+    output: &mut W,
+)
     ensures { Says (W.written output.old) (W.written output.new)
         (W.failures output.old) (W.failures output.new) page.old page.new
-        (refusal_text (refusals.Place stored at)) }
+        (spec.place_text stored at limit.now) }
 {
-    say!(page, output; b"line ", Part::Number(at as u128), b": the place of ", Part::Text(stored_name(stored)), b" is not X, Y and Z, each at most 1000 mm from zero: correct it");
-}
-
-#[tactic(auto, unfolding(crate::specs::Sentences::refusal_text))]
-fn say_far_place<W: Sink>(stored: Stored, at: usize, page: &mut Page, output: &mut W)
-    ensures { Says (W.written output.old) (W.written output.new)
-        (W.failures output.old) (W.failures output.new) page.old page.new
-        (refusal_text (refusals.FarPlace stored at)) }
-{
-    say!(page, output; b"line ", Part::Number(at as u128), b": the place of ", Part::Text(stored_name(stored)), b" is not X, Y and Z, each at most 4000 mm from zero: correct it");
+    say!(page, output; b"line ", Part::Number(at as u128), b": the place of ", Part::Text(stored_name(stored)), b" is not X, Y and Z, each at most ", Part::Text(limit), b" from zero: correct it");
 }
 
 #[tactic(auto, unfolding(crate::specs::Sentences::unequal_text))]
@@ -236,8 +234,8 @@ fn say_refusal<W: Sink>(refusal: FigureRefusal, page: &mut Page, output: &mut W)
             page,
             output,
         ),
-        FigureRefusal::Place(stored, at) => say_place(stored, at, page, output),
-        FigureRefusal::FarPlace(stored, at) => say_far_place(stored, at, page, output),
+        FigureRefusal::Place(stored, at) => say_place(stored, at, b"1000 mm", page, output),
+        FigureRefusal::FarPlace(stored, at) => say_place(stored, at, b"4000 mm", page, output),
         FigureRefusal::UnequalSteps(motors) => say_unequal(&motors, page, output),
     }
 }

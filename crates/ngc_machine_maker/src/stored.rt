@@ -24,18 +24,12 @@ pub(crate) fn stored_name(stored: Stored) -> &'static [u8]
     }
 }
 
-fn place_limit(far: bool) -> u64
-    ensures value { result ≡ spec.place_limit far }
-    ensures range { result ≤ 4000000000 }
-{
-    if far { 4_000_000_000 } else { 1_000_000_000 }
-}
-
 fn near(far: bool, nanometres: u64) -> Option<u64>
     ensures value { result ≡ spec.near far nanometres }
     ensures range { IfSome result (λ n. n ≤ 4000000000) }
 {
-    if nanometres <= place_limit(far) {
+    let limit = if far { 4_000_000_000 } else { 1_000_000_000 };
+    if nanometres <= limit {
         Some(nanometres)
     } else {
         None
@@ -103,16 +97,6 @@ fn is_at(stored: Stored, line: &[u8]) -> bool
     place_name(line) == stored_name(stored)
 }
 
-fn place_refusal(far: bool, stored: Stored, at: usize) -> FigureRefusal
-    ensures { result ≡ spec.place_refusal far stored at }
-{
-    if far {
-        FigureRefusal::FarPlace(stored, at)
-    } else {
-        FigureRefusal::Place(stored, at)
-    }
-}
-
 fn stored_by(
     far: bool,
     stored: Stored,
@@ -122,7 +106,8 @@ fn stored_by(
     ensures { result ≡ spec.stored_by far stored at place }
 {
     match place {
-        None => Err(place_refusal(far, stored, at)),
+        None if far => Err(FigureRefusal::FarPlace(stored, at)),
+        None => Err(FigureRefusal::Place(stored, at)),
         Some(place) => Ok(Some(place)),
     }
 }

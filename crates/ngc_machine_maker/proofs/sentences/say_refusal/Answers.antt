@@ -89,7 +89,7 @@ returns-in-Digits g c =
 pub returns-in-FarPlace : goal.returns-in-FarPlace
 unfolding refusal_text
 returns-in-FarPlace g c =
-    rw c.in-FarPlace.is c.say_far_place.ensures
+    rw c.in-FarPlace.is c.say_place-in-FarPlace.ensures
 
 pub returns-in-Place : goal.returns-in-Place
 unfolding refusal_text
