@@ -243,8 +243,7 @@ fn tool_text(wrong: ToolWrong) -> &'static [u8]
             b"it is longer than what sticks out of the holder: write a shorter one",
         ToolWrong::ManyParts =>
             b"cutter, shank and holder have over four parts: join parts of the holder",
-        ToolWrong::NoCutter =>
-            b"it isn't a cutter: write \"flat\", \"ball\", \"vee\" or \"drill\"",
+        ToolWrong::NoCutter => b"it isn't a cutter: write \"flat\", \"ball\", \"vee\" or \"drill\"",
     }
 }
 
