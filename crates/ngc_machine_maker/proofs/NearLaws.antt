@@ -13,12 +13,13 @@ use Rattle.ngc_machine_maker.specs.declared.figures.PerAxis.{PerAxis}
 use Rattle.ngc_machine_maker.specs.declared.numbers.MachineNumbers.{MachineNumbers}
 use Rattle.ngc_machine_maker.specs.declared.numbers.Steps.{Steps}
 use Rattle.ngc_machine_maker.specs.declared.refusal.FigureRefusal.{FigureRefusal}
+use Rattle.ngc_machine_maker.specs.declared.refusal.Stop.TheVariants as stops
 use Rattle.ngc_machine_maker.specs.declared.scale.Scale.{Scale}
 use Rattle.ngc_machine_maker.specs.Formulas.{and_then, rates_of, scale_of}
 use Rattle.ngc_machine_maker.specs.InFile.{AreNear, IsNear}
 use Rattle.ngc_machine_maker.specs.NearNumbers.{NearNumbers}
 use Rattle.ngc_machine_maker.specs.Numbers.{numbers_by, numbers_of, placed, ring_of}
-use Rattle.ngc_machine_maker.specs.Places.{high_of, length_in, low_of, travel_limit, travel_of, travel_refusal, travels_of}
+use Rattle.ngc_machine_maker.specs.Places.{high_of, length_in, low_of, stops_by, stops_of, travel_limit, travel_of, travel_refusal, travels_of}
 use Rattle.ngc_machine_maker.proofs.SafeLaws.{steps_within}
 
 -- what a chain of results is made of
@@ -75,9 +76,9 @@ near_travels scale lengths travel h =
 near_steps : (scale : Scale) (f : Figures) (steps : Steps) → f.far ≡ false → placed scale f ≡ Ok steps → AreShort scale steps.travel
 near_steps scale f steps is h =
     let travel = bound (travels_of scale f.far f.travel) _ steps h in
-    let start = bound _ _ steps travel.2 in
-    let home28 = bound _ _ steps start.2 in
-    let home30 = bound _ _ steps home28.2 in
+    let start = bound (stops_of scale travel.0 f.travel stops.Start f.start) _ steps travel.2 in
+    let home28 = bound (stops_by scale travel.0 f.travel stops.Home28 start.0 f.home28) _ steps start.2 in
+    let home30 = bound (stops_by scale travel.0 f.travel stops.Home30 start.0 f.home30) _ steps home28.2 in
     let short = near_travels scale f.travel travel.0 (subst (λ (far : Bool). travels_of scale far f.travel ≡ Ok travel.0) is travel.1) in
     subst (λ (s : Steps). AreShort scale s.travel) (same _ steps home30.2) short
 

@@ -44,9 +44,9 @@ pub record AreStepsWithin (scale : Scale) (steps : Steps) : Type 0 where
   pub home30 : AreStops steps.travel steps.home30
 
 -- both ends of a travel are within 1,000 mm of zero, as in a file with rates
-pub record IsNear (low high : ℤ) : Type 0 where
-  pub low : unsigned_abs low ≤ 1000000000
-  pub high : unsigned_abs high ≤ 1000000000
+pub record IsNear (least greatest : ℤ) : Type 0 where
+  pub low : unsigned_abs least ≤ 1000000000
+  pub high : unsigned_abs greatest ≤ 1000000000
 
 pub record AreNear (n : MachineNumbers) : Type 0 where
   pub x : IsNear n.low.x n.high.x
