@@ -46,9 +46,10 @@ along : (reach : CoordinateRange) (distance : Distance) (before : ℤ) (given : 
     IsPresentOrNamed before (repeat_on_axis distance j before given)
 along reach Absolute before None j n least most first last = inl refl
 along reach Incremental before None j n least most first last = inl refl
-along reach Absolute before (Some l) j n least most first last = inr (within_reach reach _ (leb-true _ _ first))
+along reach Absolute before (Some l) j n least most first last = inr (within_reach reach (repeat_on_axis Absolute 1 before (Some l)) (leb-true _ _ first))
 along reach Incremental before (Some l) j n least most first last =
-    inr (between before l j n least most (within_reach reach _ (leb-true _ _ first)) (within_reach reach _ (leb-true _ _ last)))
+    inr (between before l j n least most (within_reach reach (repeat_on_axis Incremental 1 before (Some l)) (leb-true _ _ first))
+    (within_reach reach (repeat_on_axis Incremental n before (Some l)) (leb-true _ _ last)))
 
 -- the coordinates that the words of a cycle in range give
 pub record AreCoordinates (c : Cycle) (s : Start) : Type 0 where
@@ -64,8 +65,8 @@ coordinates c s h =
     let least : is_repeat_in_range c s 1 ≡ true = and_right _ _ some in
     let heights = and_left _ _ some in
     record {
-      retract = within_reach s.reach _ (leb-true _ _ (and_left _ _ heights));
-      bottom = within_reach s.reach _ (leb-true _ _ (and_right _ _ heights));
+      retract = within_reach s.reach (retract_of c s) (leb-true _ _ (and_left _ _ heights));
+      bottom = within_reach s.reach (bottom_of c s) (leb-true _ _ (and_right _ _ heights));
       u = λ j p q. along s.reach c.distance (place_before c s).u c.u j (repeats_of c.repeats) p q (and_left _ _ least) (and_left _ _ most);
       v = λ j p q. along s.reach c.distance (place_before c s).v c.v j (repeats_of c.repeats) p q (and_right _ _ least) (and_right _ _ most);
     }

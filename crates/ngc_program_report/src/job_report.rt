@@ -274,14 +274,14 @@ fn report_all<A: Allocator + Copy, W: Sink>(
     framed: &FramedJob<A>,
     setting: Setting,
     command: u32,
-    request: ReportRequest<'_>,
+    request: &ReportRequest<'_>,
     output: &mut W,
 ) -> Result<(), ReportFault>
-    requires made { IsMade framed.now.job.machine request.cuts framed.now.job.off
+    requires made { IsMade framed.now.job.machine request.now.cuts framed.now.job.off
         (commands_in true framed.now.job) (Err (MakeFault.NotCleared setting command)) }
     ensures tells { Prints
-        (IsRefusalsText (framed_in framed.now) request.cuts setting command request.form
-        request.origins (reported text.now))
+        (IsRefusalsText (framed_in framed.now) request.now.cuts setting command request.now.form
+        request.now.origins (reported text.now))
         (W.written output.old) (W.written output.new) result }
     ensures counts { FailsByWriting result (W.failures output.old) (W.failures output.new) }
 {
@@ -331,13 +331,13 @@ pub fn report_refusal<A: Allocator + Copy, W: Sink>(
     framed: &FramedJob<A>,
     setting: Setting,
     command: u32,
-    request: ReportRequest<'_>,
+    request: &ReportRequest<'_>,
     output: &mut W,
 ) -> Result<(), ReportFault>
-    requires made { IsMade framed.now.job.machine request.cuts framed.now.job.off
+    requires made { IsMade framed.now.job.machine request.now.cuts framed.now.job.off
         (commands_in true framed.now.job) (Err (MakeFault.NotCleared setting command)) }
     ensures tells { Prints
-        (IsRefusalText request.all (framed_in framed.now) request setting command
+        (IsRefusalText request.now.all (framed_in framed.now) request.now setting command
         (reported text.now))
         (W.written output.old) (W.written output.new) result }
     ensures counts { FailsByWriting result (W.failures output.old) (W.failures output.new) }
@@ -351,7 +351,7 @@ pub fn report_refusal<A: Allocator + Copy, W: Sink>(
         setting,
         command,
         framed.frames(setting),
-        &request,
+        request,
         output,
     )?;
     Ok(())

@@ -82,7 +82,7 @@ pub(crate) fn report_job<A: Allocator + Copy, W: Sink>(
             Ok(())
         }
         Err(MakeFault::NotCleared { setting, command }) => {
-            report_refusal(alloc, text, &framed, setting, command, request, output)?;
+            report_refusal(alloc, text, &framed, setting, command, &request, output)?;
             Err(AnswerFault::Make(MakeFault::NotCleared { setting, command }))
         }
         Err(MakeFault::Memory) => Err(AnswerFault::Make(MakeFault::Memory)),

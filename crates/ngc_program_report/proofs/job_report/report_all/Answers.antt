@@ -19,7 +19,7 @@ returns-in_err-write_all_once-clause-tells g c =
     let lines = reported c.args.text.now in
     let f = c.args.framed.now in
     let j = f.job in
-    let cuts = c.args.request.cuts in
+    let cuts = c.args.request.now.cuts in
     let file = file_of c.machine.result.now in
     let table = tools_of c.tools.result.now in
     let off = c.commands.result.now in
@@ -31,11 +31,11 @@ returns-in_err-write_all_once-clause-tells g c =
     let begins = subst (λ (l : List ℕ). IsStartClear j.machine → OffBegins (is_some j.on) c.args.setting c.args.command l)
     (sym c.as_slice.ensures.value) c.in-Ok.ensures.begins in
     turned _ (faults.Write c.in_err-write_all_once.field-0.0)
-    (λ r. Prints (IsRefusalsText (framed_in f) cuts c.args.setting c.args.command c.args.request.form c.args.request.origins lines) (g.W.Sink.written c.args.output.now)
+    (λ r. Prints (IsRefusalsText (framed_in f) cuts c.args.setting c.args.command c.args.request.now.form c.args.request.now.origins lines) (g.W.Sink.written c.args.output.now)
     (g.W.Sink.written c.write_all_once.new.output) r)
     c.from_residual.ensures.1 (
-      refusals_text c.args.request.form c.args.request.origins false (record { machine = file; tools = table }) off off h on_h ks ks lines,
-      all_text (framed_in f) cuts c.args.setting c.args.command c.args.request.form c.args.request.origins lines false file table off off h on_h ks ks (sym none) c.machine.ensures.value c.tools.ensures
+      refusals_text c.args.request.now.form c.args.request.now.origins false (record { machine = file; tools = table }) off off h on_h ks ks lines,
+      all_text (framed_in f) cuts c.args.setting c.args.command c.args.request.now.form c.args.request.now.origins lines false file table off off h on_h ks ks (sym none) c.machine.ensures.value c.tools.ensures
           c.commands.ensures (c.commands.ensures ∙ sym (alike j.off j.on none)) are begins (are_alike j cuts ks none are)
           (λ start. once_begins (is_some j.on) c.args.setting c.args.command ks none (begins start)) refl refl,
       c.in_err-write_all_once.ensures.fault,
@@ -46,7 +46,7 @@ returns-then-not-has_deleted_lines-clause-tells g c =
     let lines = reported c.args.text.now in
     let f = c.args.framed.now in
     let j = f.job in
-    let cuts = c.args.request.cuts in
+    let cuts = c.args.request.now.cuts in
     let file = file_of c.machine.result.now in
     let table = tools_of c.tools.result.now in
     let off = c.commands.result.now in
@@ -57,8 +57,8 @@ returns-then-not-has_deleted_lines-clause-tells g c =
     let are = subst (λ (l : List ℕ). AreUncleared j.machine cuts j.off l) (sym c.as_slice.ensures.value) c.in-Ok.ensures.are in
     let begins = subst (λ (l : List ℕ). IsStartClear j.machine → OffBegins (is_some j.on) c.args.setting c.args.command l)
     (sym c.as_slice.ensures.value) c.in-Ok.ensures.begins in (
-      refusals_text c.args.request.form c.args.request.origins false (record { machine = file; tools = table }) off off h on_h ks ks lines,
-      all_text (framed_in f) cuts c.args.setting c.args.command c.args.request.form c.args.request.origins lines false file table off off h on_h ks ks (sym none) c.machine.ensures.value c.tools.ensures
+      refusals_text c.args.request.now.form c.args.request.now.origins false (record { machine = file; tools = table }) off off h on_h ks ks lines,
+      all_text (framed_in f) cuts c.args.setting c.args.command c.args.request.now.form c.args.request.now.origins lines false file table off off h on_h ks ks (sym none) c.machine.ensures.value c.tools.ensures
           c.commands.ensures (c.commands.ensures ∙ sym (alike j.off j.on none)) are begins (are_alike j cuts ks none are)
           (λ start. once_begins (is_some j.on) c.args.setting c.args.command ks none (begins start)) refl refl,
       c.in_ok-write_all_once.ensures.ok,
@@ -69,7 +69,7 @@ returns-in_err-write_all_both-clause-tells g c =
     let lines = reported c.args.text.now in
     let f = c.args.framed.now in
     let j = f.job in
-    let cuts = c.args.request.cuts in
+    let cuts = c.args.request.now.cuts in
     let file = file_of c.machine.result.now in
     let table = tools_of c.tools.result.now in
     let off = c.commands.result.now in
@@ -88,11 +88,11 @@ returns-in_err-write_all_both-clause-tells g c =
     let on_begins = subst (λ (l : List ℕ). IsStartClear j.machine → OnBegins c.args.setting c.args.command l) (sym c.as_slice-on_indices.ensures.value)
     c.in-Ok-on_uncleared.ensures.begins in
     turned _ (faults.Write c.in_err-write_all_both.field-0.0)
-    (λ r. Prints (IsRefusalsText (framed_in f) cuts c.args.setting c.args.command c.args.request.form c.args.request.origins lines) (g.W.Sink.written c.args.output.now)
+    (λ r. Prints (IsRefusalsText (framed_in f) cuts c.args.setting c.args.command c.args.request.now.form c.args.request.now.origins lines) (g.W.Sink.written c.args.output.now)
     (g.W.Sink.written c.write_all_both.new.output) r)
     c.from_residual-in_err-write_all_both.ensures.1 (
-      refusals_text c.args.request.form c.args.request.origins true (record { machine = file; tools = table }) off on off_h on_h off_ks on_ks lines,
-      all_text (framed_in f) cuts c.args.setting c.args.command c.args.request.form c.args.request.origins lines true file table off on off_h on_h off_ks on_ks some c.machine.ensures.value c.tools.ensures
+      refusals_text c.args.request.now.form c.args.request.now.origins true (record { machine = file; tools = table }) off on off_h on_h off_ks on_ks lines,
+      all_text (framed_in f) cuts c.args.setting c.args.command c.args.request.now.form c.args.request.now.origins lines true file table off on off_h on_h off_ks on_ks some c.machine.ensures.value c.tools.ensures
           c.commands.ensures c.commands-2.ensures off_are off_begins on_are on_begins refl on_is,
       c.in_err-write_all_both.ensures.fault,
     )
@@ -102,7 +102,7 @@ returns-clause-tells g c =
     let lines = reported c.args.text.now in
     let f = c.args.framed.now in
     let j = f.job in
-    let cuts = c.args.request.cuts in
+    let cuts = c.args.request.now.cuts in
     let file = file_of c.machine.result.now in
     let table = tools_of c.tools.result.now in
     let off = c.commands.result.now in
@@ -120,8 +120,8 @@ returns-clause-tells g c =
     c.in-Ok-on_uncleared.ensures.are in
     let on_begins = subst (λ (l : List ℕ). IsStartClear j.machine → OnBegins c.args.setting c.args.command l) (sym c.as_slice-on_indices.ensures.value)
     c.in-Ok-on_uncleared.ensures.begins in (
-      refusals_text c.args.request.form c.args.request.origins true (record { machine = file; tools = table }) off on off_h on_h off_ks on_ks lines,
-      all_text (framed_in f) cuts c.args.setting c.args.command c.args.request.form c.args.request.origins lines true file table off on off_h on_h off_ks on_ks some c.machine.ensures.value c.tools.ensures
+      refusals_text c.args.request.now.form c.args.request.now.origins true (record { machine = file; tools = table }) off on off_h on_h off_ks on_ks lines,
+      all_text (framed_in f) cuts c.args.setting c.args.command c.args.request.now.form c.args.request.now.origins lines true file table off on off_h on_h off_ks on_ks some c.machine.ensures.value c.tools.ensures
           c.commands.ensures c.commands-2.ensures off_are off_begins on_are on_begins refl on_is,
       c.in_ok-write_all_both.ensures.ok,
     )

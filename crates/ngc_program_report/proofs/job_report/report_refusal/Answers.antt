@@ -15,12 +15,12 @@ returns-in_err-report_first-clause-tells g c =
     let old = g.W.Sink.written c.args.output.now in
     let new = g.W.Sink.written c.report_first.new.output in
     turned _ (faults.Write fault)
-    (λ r. Prints (IsRefusalText c.args.request.all (framed_in c.args.framed.now) c.args.request c.args.setting c.args.command lines) old new r)
+    (λ r. Prints (IsRefusalText c.args.request.now.all (framed_in c.args.framed.now) c.args.request.now c.args.setting c.args.command lines) old new r)
     c.from_residual.ensures.1
-    (subst (λ (all : Bool). Prints (IsRefusalText all (framed_in c.args.framed.now) c.args.request c.args.setting c.args.command lines) old new (Err (faults.Write fault)))
+    (subst (λ (all : Bool). Prints (IsRefusalText all (framed_in c.args.framed.now) c.args.request.now c.args.setting c.args.command lines) old new (Err (faults.Write fault)))
     (sym c.if-request.false) (
-      first_text j c.args.request.form c.args.request.origins c.args.setting c.args.command lines (history_in c.frames.result.now),
-      ap (first_text j c.args.request.form c.args.request.origins c.args.setting c.args.command lines)
+      first_text j c.args.request.now.form c.args.request.now.origins c.args.setting c.args.command lines (history_in c.frames.result.now),
+      ap (first_text j c.args.request.now.form c.args.request.now.origins c.args.setting c.args.command lines)
           (frames_as c.args.framed.now c.args.setting c.frames.result.now c.frames.ensures),
       c.in_err-report_first.ensures.fault,
     ))
@@ -29,7 +29,7 @@ pub returns-then-request-clause-tells : goal.returns-then-request-clause-tells
 returns-then-request-clause-tells g c =
     let j = c.args.framed.now.job in
     let lines = reported c.args.text.now in
-    subst (λ (all : Bool). Prints (IsRefusalText all (framed_in c.args.framed.now) c.args.request c.args.setting c.args.command lines) (g.W.Sink.written c.args.output.now)
+    subst (λ (all : Bool). Prints (IsRefusalText all (framed_in c.args.framed.now) c.args.request.now c.args.setting c.args.command lines) (g.W.Sink.written c.args.output.now)
     (g.W.Sink.written c.report_all.new.output) c.report_all.result) (sym c.if-request.true)
     c.report_all.ensures.tells
 
@@ -37,10 +37,10 @@ pub returns-clause-tells : goal.returns-clause-tells
 returns-clause-tells g c =
     let j = c.args.framed.now.job in
     let lines = reported c.args.text.now in
-    subst (λ (all : Bool). Prints (IsRefusalText all (framed_in c.args.framed.now) c.args.request c.args.setting c.args.command lines) (g.W.Sink.written c.args.output.now)
+    subst (λ (all : Bool). Prints (IsRefusalText all (framed_in c.args.framed.now) c.args.request.now c.args.setting c.args.command lines) (g.W.Sink.written c.args.output.now)
     (g.W.Sink.written c.report_first.new.output) (Ok tt)) (sym c.if-request.false) (
-      first_text j c.args.request.form c.args.request.origins c.args.setting c.args.command lines (history_in c.frames.result.now),
-      ap (first_text j c.args.request.form c.args.request.origins c.args.setting c.args.command lines)
+      first_text j c.args.request.now.form c.args.request.now.origins c.args.setting c.args.command lines (history_in c.frames.result.now),
+      ap (first_text j c.args.request.now.form c.args.request.now.origins c.args.setting c.args.command lines)
           (frames_as c.args.framed.now c.args.setting c.frames.result.now c.frames.ensures),
       c.in_ok-report_first.ensures.ok,
     )
