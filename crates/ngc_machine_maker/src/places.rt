@@ -1,6 +1,6 @@
 //! The travel, and the places at which all axes stop.
 ghost use Rattle.std.specs.Prelude.{◌≡◌, ◌*◌, ◌≤◌, ◌≤ℤ◌, pos, IfOk, unsigned_abs};
-ghost use Rattle.ngc_machine_maker.specs.Places.{length_in, travel_limit, travel_of, travels_of};
+ghost use Rattle.ngc_machine_maker.specs.Places.{length_in, travel_of, travels_of};
 ghost use Rattle.ngc_machine_maker.specs.Places.{stop_of, stops_of, stops_by, coordinate};
 ghost use Rattle.ngc_machine_maker.specs.Places.{low_of, high_of, place_of, lows_of, highs_of};
 ghost use Rattle.ngc_machine_maker.specs.Ranges.{IsScale, IsTravel, AreTravels, IsStop, AreStops};
@@ -20,12 +20,6 @@ fn steps_within(scale: &Scale, length: Length) -> u32
     scale.steps_in(u128::from(length.nanometres), 1) as u32
 }
 
-fn travel_limit(far: bool) -> u32
-    ensures { result ≡ travel_limit far }
-{
-    if far { 3_999_000_000 } else { 1_000_000_000 }
-}
-
 fn travel_of(scale: &Scale, far: bool, length: Length, axis: Axis) -> Result<u32, FigureRefusal>
     requires { IsScale scale.now }
     ensures value { result ≡ travel_of scale.now far length axis }
@@ -33,7 +27,8 @@ fn travel_of(scale: &Scale, far: bool, length: Length, axis: Axis) -> Result<u32
     ensures safe { IfOk result (λ steps. IsNoFarther scale.now steps length) }
 {
     let steps = steps_within(scale, length);
-    if steps == 0 || length.nanometres > travel_limit(far) {
+    let limit = if far { 3_999_000_000 } else { 1_000_000_000 };
+    if steps == 0 || length.nanometres > limit {
         return Err(if far {
             FigureRefusal::FarTravel(axis)
         } else {
