@@ -152,8 +152,8 @@ pub(crate) fn shell() -> &'static [Row]
             example: "command `ngc report --cells 1000000` with a machine file without `stock` and a tool table",
             answer: "`ngc: fault 729`, after a sentence on standard output",
             place: Some("3"),
-            mend: "The block may stand in the machine file or in the job file too. More cells make the margin smaller\n\
-             for which its traverses are tested.",
+            mend: "The block may also be in the machine file or in the job file. With more cells the margin is\n\
+             smaller for which traverses are tested.",
         },
         Row {
             number: 900,

@@ -22,7 +22,7 @@ along X n = record { x = n; y = pos 0; z = pos 0 }
 along Y n = record { x = pos 0; y = n; z = pos 0 }
 along Z n = record { x = pos 0; y = pos 0; z = n }
 
--- the greatest shift of an origin along each axis, in steps: no travel is longer
+-- the greatest shift of an origin along each axis, in steps: 2,000 mm at the finest step
 abbrev pub SHIFT_LIMIT : ℕ
 SHIFT_LIMIT = 4000000
 

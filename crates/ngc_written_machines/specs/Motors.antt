@@ -40,14 +40,14 @@ moved_up step c = c +ℤ int_rem_euclid (neg_ℤ c) (pos step)
 abbrev pub moved_down : ℕ → ℤ → ℤ
 moved_down step c = c -ℤ int_rem_euclid c (pos step)
 
-abbrev pub is_far : Range → Bool
-is_far r = not (is_within TRAVEL_LIMIT r.low && is_within TRAVEL_LIMIT r.high)
+abbrev pub is_beyond : Range → Bool
+is_beyond r = not (is_within TRAVEL_LIMIT r.low && is_within TRAVEL_LIMIT r.high)
 
 -- Where a motor's step isn't the grid's, the ends of its axis' travel move inwards to whole steps of
 -- the motor. An end that is out of range stays, and is refused.
 abbrev pub ends_of : ℕ → ℕ → Range → Range
 ends_of grid step r =
-    if (step == grid) || is_far r then r
+    if (step == grid) || is_beyond r then r
     else record { low = moved_up step r.low; high = moved_down step r.high }
 
 abbrev pub travel_ends : ℕ → PerAxis MotorScale → AxesSheet → PerAxis Range

@@ -42,8 +42,8 @@ pub(crate) fn steps_of(own: &PerAxis<MotorScale>) -> Coordinates
     }
 }
 
-fn is_far(travel: Range) -> bool
-    ensures { result ≡ spec.is_far travel }
+fn is_beyond(travel: Range) -> bool
+    ensures { result ≡ spec.is_beyond travel }
 {
     !(travel.low.unsigned_abs() <= TRAVEL_LIMIT && travel.high.unsigned_abs() <= TRAVEL_LIMIT)
 }
@@ -68,7 +68,7 @@ fn moved_down(step: u32, end: i64) -> i64
 
 fn moved_inwards(step: u32, travel: Range) -> Range
     requires step { 0 < step }
-    requires near { spec.is_far travel ≡ false }
+    requires near { spec.is_beyond travel ≡ false }
     ensures { result ≡ record {
       low = spec.moved_up step travel.low;
       high = spec.moved_down step travel.high;
@@ -84,7 +84,7 @@ fn ends_of(grid: u32, step: u32, travel: Range) -> Range
     requires { 0 < step }
     ensures { result ≡ spec.ends_of grid step travel }
 {
-    if step == grid || is_far(travel) {
+    if step == grid || is_beyond(travel) {
         return travel;
     }
     moved_inwards(step, travel)
