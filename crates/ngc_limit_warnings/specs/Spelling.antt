@@ -32,19 +32,19 @@ abbrev pub breaches_words : Kind → Breaches → List ℕ
 breaches_words kind s =
     codes "warning: " ++ kind_text kind ++ codes ": " ++ decimal s.count
     ++ codes ", the first in line " ++ decimal s.first.line ++ codes ": "
-    ++ size_text s.first.breach.number ++ unit_text kind ++ codes " with tool "
-    ++ decimal s.first.breach.tool ++ codes ", which has " ++ limits_text s.first.breach.limits
-    ++ unit_text kind ++ codes ".\n"
+    ++ (size_text s.first.breach.number ++ unit_text kind ++ codes " with tool "
+    ++ decimal s.first.breach.tool ++ codes ", which has ")
+    ++ limits_text s.first.breach.limits ++ (unit_text kind ++ codes ".\n")
 
 -- the numbers in millionths of a unit
 abbrev pub breaches_fact : Kind → Breaches → List ℕ
 breaches_fact kind s =
     codes ",\n{\"fact\":\"warning\",\"text\":\"" ++ kind_text kind ++ codes "\",\"count\":"
     ++ decimal s.count ++ codes ",\"line\":" ++ decimal s.first.line
-    ++ codes ",\"tool\":" ++ decimal s.first.breach.tool
-    ++ codes ",\"number\":" ++ decimal s.first.breach.number
-    ++ codes ",\"least\":" ++ decimal s.first.breach.limits.least
-    ++ codes ",\"greatest\":" ++ decimal s.first.breach.limits.greatest ++ codes "}"
+    ++ (codes ",\"tool\":" ++ decimal s.first.breach.tool
+    ++ codes ",\"number\":" ++ decimal s.first.breach.number)
+    ++ (codes ",\"least\":" ++ decimal s.first.breach.limits.least
+    ++ codes ",\"greatest\":" ++ decimal s.first.breach.limits.greatest ++ codes "}")
 
 abbrev pub spelled : Form → Kind → Option Breaches → List ℕ
 spelled form kind None = []

@@ -45,10 +45,9 @@ fn say_words<W: Sink>(kind: Kind, found: &Breaches, page: &mut Page, output: &mu
         (W.failures output.old) (W.failures output.new) page.old page.new
         (breaches_words kind found.now) }
 {
-    let breach = &found.first.breach;
     say!(page, output; b"warning: ", Part::Text(kind_text(kind)), b": ", Part::Number(found.count as u128), b", the first in line ", Part::Number(u128::from(found.first.line)), b": ");
-    say!(page, output; Part::Size(u128::from(breach.number)), Part::Text(unit_text(kind)), b" with tool ", Part::Number(u128::from(breach.tool)), b", which has ");
-    say_limits(&breach.limits, page, output);
+    say!(page, output; Part::Size(u128::from(found.first.breach.number)), Part::Text(unit_text(kind)), b" with tool ", Part::Number(u128::from(found.first.breach.tool)), b", which has ");
+    say_limits(&found.first.breach.limits, page, output);
     say!(page, output; Part::Text(unit_text(kind)), b".\n");
 }
 
@@ -57,10 +56,9 @@ fn say_fact<W: Sink>(kind: Kind, found: &Breaches, page: &mut Page, output: &mut
         (W.failures output.old) (W.failures output.new) page.old page.new
         (breaches_fact kind found.now) }
 {
-    let breach = &found.first.breach;
     say!(page, output; b",\n{\"fact\":\"warning\",\"text\":\"", Part::Text(kind_text(kind)), b"\",\"count\":", Part::Number(found.count as u128), b",\"line\":", Part::Number(u128::from(found.first.line)));
-    say!(page, output; b",\"tool\":", Part::Number(u128::from(breach.tool)), b",\"number\":", Part::Number(u128::from(breach.number)));
-    say!(page, output; b",\"least\":", Part::Number(u128::from(breach.limits.least)), b",\"greatest\":", Part::Number(u128::from(breach.limits.greatest)), b"}");
+    say!(page, output; b",\"tool\":", Part::Number(u128::from(found.first.breach.tool)), b",\"number\":", Part::Number(u128::from(found.first.breach.number)));
+    say!(page, output; b",\"least\":", Part::Number(u128::from(found.first.breach.limits.least)), b",\"greatest\":", Part::Number(u128::from(found.first.breach.limits.greatest)), b"}");
 }
 
 /// Says the line of the breaches that were found, or nothing if there are none.
