@@ -54,6 +54,8 @@ fn form_word(form: Form) -> &'static str {
         Form::Motor => "motor",
         Form::Range => "range",
         Form::Place => "place",
+        Form::Feeds => "feeds",
+        Form::Turning => "turning",
     }
 }
 

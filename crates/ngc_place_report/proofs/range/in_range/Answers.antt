@@ -27,6 +27,9 @@ negated_kept v bound =
 end_kept : (v z : ℤ) → v ≡ to_z w32 (of_z w32 z) → unsigned_abs z ≤ 4000000 → to_z w64 (of_z w64 v) ≡ z
 end_kept v z is bound = omega (arith, ints)
 
+pub overflow_sub-below : goal.overflow_sub-below
+overflow_sub-below c = omega (arith, ints, c.whole_steps-below.ensures.bound)
+
 pub interval_from-requires-clause-from : goal.interval_from-requires-clause-from
 interval_from-requires-clause-from c = omega (arith, ints, c.max.ensures.self_bound, c.from.ensures, c.requires.limit.from)
 
