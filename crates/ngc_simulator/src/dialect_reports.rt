@@ -136,11 +136,11 @@ fn without_figures(alloc: Global, sent: Sent) -> (Sent, StoredFigures)
 fn report_sent<W: Sink>(
     alloc: Global,
     sent: Sent,
-    request: ReportRequest<'_>,
+    request: &ReportRequest<'_>,
     output: &mut W,
 ) -> Result<Done, AnswerFault>
     ensures reports { ReportsDialect sent.dialect (setup_of sent.shop.machine sent.shop.tools)
-        sent.text.items request (W.written output.old) (W.written output.new) result }
+        sent.text.items request.now (W.written output.old) (W.written output.new) result }
     ensures sink { FailsByOutput result (W.failures output.old) (W.failures output.new) }
 {
     let Sent {
@@ -182,5 +182,6 @@ pub(crate) fn report_dialect<F: Files, W: Sink>(
 {
     let sent = read_sent_reporting(alloc, control, options, files, output)?;
     let (sent, figures) = without_figures(alloc, sent);
-    report_sent(alloc, sent, request_of(figures.borrowed(), options), output)
+    let request = request_of(figures.borrowed(), options);
+    report_sent(alloc, sent, &request, output)
 }

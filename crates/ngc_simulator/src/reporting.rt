@@ -29,7 +29,7 @@ fn report_rejection<A: Allocator, W: Sink>(
     program: &Program<A>,
     setting: Setting,
     fault: ProgramFault,
-    request: ReportRequest<'_>,
+    request: &ReportRequest<'_>,
     output: &mut W,
 ) -> AnswerFault
     // If memory ran out there is no report.
@@ -38,8 +38,8 @@ fn report_rejection<A: Allocator, W: Sink>(
         (W.written output.new ≡ W.written output.old) }
     ensures reports { (setup : Setup) (bytes : List ℕ) →
         program_of bytes ≡ Ok (text_in program.now) →
-        WhyNotMade setup bytes request.cuts (AnswerFault.Refused setting fault) →
-        Reports setup bytes request (W.written output.old) (W.written output.new) (Err result) }
+        WhyNotMade setup bytes request.now.cuts (AnswerFault.Refused setting fault) →
+        Reports setup bytes request.now (W.written output.old) (W.written output.new) (Err result) }
     ensures sink { FailsWith result (W.failures output.old) (W.failures output.new) }
     ensures faults { OfReporting result }
 {
@@ -69,20 +69,20 @@ pub(crate) fn report_job<A: Allocator + Copy, W: Sink>(
     alloc: A,
     text: &ReportedText<'_, A>,
     framed: FramedJob<A>,
-    request: ReportRequest<'_>,
+    request: &ReportRequest<'_>,
     output: &mut W,
 ) -> Result<(), AnswerFault>
-    ensures reports { ReportsJob (framed_in framed) (reported text.now) request
+    ensures reports { ReportsJob (framed_in framed) (reported text.now) request.now
         (W.written output.old) (W.written output.new) result }
     ensures sink { FailsByOutput result (W.failures output.old) (W.failures output.new) }
 {
     match plans_for(alloc, &framed.job, request.cuts) {
         Ok(plans) => {
-            report_fit(alloc, text, framed, &plans, &request, output)?;
+            report_fit(alloc, text, framed, &plans, request, output)?;
             Ok(())
         }
         Err(MakeFault::NotCleared { setting, command }) => {
-            report_refusal(alloc, text, &framed, setting, command, &request, output)?;
+            report_refusal(alloc, text, &framed, setting, command, request, output)?;
             Err(AnswerFault::Make(MakeFault::NotCleared { setting, command }))
         }
         Err(MakeFault::Memory) => Err(AnswerFault::Make(MakeFault::Memory)),
@@ -98,12 +98,12 @@ pub fn report_program<A: Allocator + Copy, R: Source, W: Sink>(
     source: &mut R,
     machine: Machine<A>,
     tools: Tools<A>,
-    request: ReportRequest<'_>,
+    request: &ReportRequest<'_>,
     output: &mut W,
 ) -> Result<(), AnswerFault>
     // Where the source's bytes are known, the output is the report of their meaning.
     ensures reports { IfSome (R.remaining source.old)
-        (λ bytes. Reports (setup_of machine tools) bytes request (W.written output.old)
+        (λ bytes. Reports (setup_of machine tools) bytes request.now (W.written output.old)
         (W.written output.new) result) }
     // A fault of reading or writing results only from a device that failed.
     ensures source { result ≡ Err (AnswerFault.Read Device) →

@@ -71,7 +71,7 @@ fn report_own<F: Files, W: Sink>(
         figures,
     } = shop;
     let request = request_of(figures.borrowed(), options);
-    let fault = match report_program(alloc, &mut source, machine, tools, request, output) {
+    let fault = match report_program(alloc, &mut source, machine, tools, &request, output) {
         Ok(()) => return Ok(Done::Quietly),
         Err(fault) => fault,
     };

@@ -35,8 +35,8 @@ returns-clause-comes g c =
     let moved = c.without_figures.ensures in
     let figures = c.borrowed.result in
     let outcome = c.report_sent.result in
-    let reports = report_asked sent c.without_figures.result.0 figures c.args.options.now c.request_of.result (g.W.Sink.written c.read_sent_reporting.new.output) new outcome
-    moved.dialect moved.machine moved.tools moved.text c.request_of.ensures c.report_sent.ensures.reports in
+    let reports = report_asked sent c.without_figures.result.0 figures c.args.options.now c.request_of-request.result (g.W.Sink.written c.read_sent_reporting.new.output) new outcome
+    moved.dialect moved.machine moved.tools moved.text c.request_of-request.ensures c.report_sent.ensures.reports in
     let are = subst (AreFiguresIn bytes machine tools) (sym (c.borrowed.ensures ∙ ap stored moved.figures)) c.in_ok-sent.ensures.figures in
     dialect_reported c.args.control.now bytes c.args.options.now old new outcome (
       figures,
@@ -55,4 +55,4 @@ returns-clause-unread g c =
     let moved = c.without_figures.result.0 in
     all_were_read (SourceFails g.F.R.Source.remaining g.F.R.Source.failures) (g.F.Files.bytes c.args.files.now)
     (report_inputs_in (Some c.args.control.now) c.args.options.now) _ _ c.report_sent.result c.in_ok-sent.ensures.unread
-    (report_read moved.dialect (setup_of moved.shop.machine moved.shop.tools) moved.text.items c.request_of.result _ _ c.report_sent.result c.report_sent.ensures.reports)
+    (report_read moved.dialect (setup_of moved.shop.machine moved.shop.tools) moved.text.items c.request_of-request.result _ _ c.report_sent.result c.report_sent.ensures.reports)

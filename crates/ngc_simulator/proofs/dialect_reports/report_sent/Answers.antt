@@ -23,8 +23,8 @@ returns-in_err-report_job-in-Ok-clause-reports g c =
     let of_slice = of_ok (IsNotedJob d setup c.as_slice.result.now) (NotesRefusal d setup c.as_slice.result.now) c.in_ok-noted.field-0
     n c.in-Ok.is c.in_ok-noted.ensures.framed in
     let is = subst (λ (s : List ℕ). IsNotedJob d setup s n) c.as_slice.ensures.value of_slice in
-    let told = subst (λ (s : List ℕ). ReportsJob (framed_in n.framed) (other_lines (values_of c.args.request.figures) s (record { off = n.off; on = n.on })) c.args.request old new (Err fault))
+    let told = subst (λ (s : List ℕ). ReportsJob (framed_in n.framed) (other_lines (values_of c.args.request.now.figures) s (record { off = n.off; on = n.on })) c.args.request.now old new (Err fault))
     c.as_slice-in-Ok.ensures.value c.in_err-report_job-in-Ok.ensures.reports in
-    turned _ fault (ReportsDialect d setup source c.args.request old new) c.from_residual-in_err-report_job-in-Ok.ensures.1
-    (dialect_stopped d setup source c.args.request (framed_in n.framed) old new fault is.framed
-    (subst (λ (x : SettingNotes). ReportsJob (framed_in n.framed) (other_lines (values_of c.args.request.figures) source x) c.args.request old new (Err fault)) is.notes told))
+    turned _ fault (ReportsDialect d setup source c.args.request.now old new) c.from_residual-in_err-report_job-in-Ok.ensures.1
+    (dialect_stopped d setup source c.args.request.now (framed_in n.framed) old new fault is.framed
+    (subst (λ (x : SettingNotes). ReportsJob (framed_in n.framed) (other_lines (values_of c.args.request.now.figures) source x) c.args.request.now old new (Err fault)) is.notes told))

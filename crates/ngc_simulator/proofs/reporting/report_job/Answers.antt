@@ -17,8 +17,8 @@ returns-in_err-report_fit-in-Ok-clause-reports g c =
     let fault = c.in_err-report_fit-in-Ok.field-0.0 in
     let old = g.W.Sink.written c.args.output.now in
     let new = g.W.Sink.written c.report_fit.new.output in
-    turned _ (of_report fault) (ReportsJob f lines c.args.request old new) c.from_residual.ensures.1
-    (fit_stopped f lines c.args.request (both_planned f.job.machine.step f.job.off (commands_in true f.job) c.in-Ok.plans) old new fault c.in-Ok.ensures.made
+    turned _ (of_report fault) (ReportsJob f lines c.args.request.now old new) c.from_residual.ensures.1
+    (fit_stopped f lines c.args.request.now (both_planned f.job.machine.step f.job.off (commands_in true f.job) c.in-Ok.plans) old new fault c.in-Ok.ensures.made
     c.in_err-report_fit-in-Ok.ensures.tells)
 
 pub returns-in_err-report_refusal-in-Err-NotCleared-clause-reports : goal.returns-in_err-report_refusal-in-Err-NotCleared-clause-reports
@@ -29,6 +29,6 @@ returns-in_err-report_refusal-in-Err-NotCleared-clause-reports g c =
     let refused = c.in-Err-NotCleared in
     let old = g.W.Sink.written c.args.output.now in
     let new = g.W.Sink.written c.report_refusal.new.output in
-    turned _ (of_report fault) (ReportsJob f lines c.args.request old new) c.from_residual-in_err-report_refusal-in-Err-NotCleared.ensures.1
-    (refusal_stopped f lines c.args.request refused.setting refused.command old new fault
-    (subst (IsUnmade f.job c.args.request.cuts) refused.field-0-is refused.ensures.made) c.in_err-report_refusal-in-Err-NotCleared.ensures.tells)
+    turned _ (of_report fault) (ReportsJob f lines c.args.request.now old new) c.from_residual-in_err-report_refusal-in-Err-NotCleared.ensures.1
+    (refusal_stopped f lines c.args.request.now refused.setting refused.command old new fault
+    (subst (IsUnmade f.job c.args.request.now.cuts) refused.field-0-is refused.ensures.made) c.in_err-report_refusal-in-Err-NotCleared.ensures.tells)
