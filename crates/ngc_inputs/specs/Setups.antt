@@ -28,9 +28,9 @@ IfSaid read nothing bytes None P = P nothing
 IfSaid read nothing bytes (Some name) P = IfSome (bytes (Some name)) (λ text. P (read text))
 
 -- the figures that a machine file and a tool table say besides the machine and its tools
-pub record AreFiguresIn (bytes : FileBytes) (machine tools : Option (List ℕ)) (figures : FigureValues) : Type 0 where
-  pub machine : IfSaid any_figures None bytes machine (λ f. figures.machine ≡ f)
-  pub tools : IfSaid any_limits [] bytes tools (λ l. figures.tools ≡ l)
+pub record AreFiguresIn (bytes : FileBytes) (machine_name table_name : Option (List ℕ)) (figures : FigureValues) : Type 0 where
+  pub machine : IfSaid any_figures None bytes machine_name (λ f. figures.machine ≡ f)
+  pub tools : IfSaid any_limits [] bytes table_name (λ l. figures.tools ≡ l)
 
 -- the bytes of every file are as they were, and of every file with a name
 abbrev pub KeepsFiles : FileBytes → FileBytes → Type 0
