@@ -32,7 +32,7 @@ pub(crate) fn request_of<'a>(
     figures: FileFigures<'a>,
     options: &ReportOptions<'_>,
 ) -> ReportRequest<'a>
-    ensures { result ≡ request_of figures options.now }
+    ensures { result ≡ request_of figures.entry options.now }
 {
     ReportRequest {
         cuts: options.cuts,

@@ -1,6 +1,7 @@
 use Rattle.std.proofs.Common.{◌≡◌, ◌∙◌, List, Option, Some, Err, inl, inr, subst, sym, true, ℕ}
 use Rattle.ngc_canonical.specs.Interpreter.{setup_of}
 use Rattle.ngc_inputs.specs.Unread.{SourceFails, shop_inputs}
+use Rattle.ngc_inputs.specs.declared.setup.Shop.{Shop}
 use Rattle.ngc_inputs.proofs.SetupLaws.{on_placed}
 use Rattle.ngc_report.specs.declared.form.Form.{Form}
 use Rattle.ngc_simulator.specs.Cells.{ReportsNoMaterial, is_idle}
@@ -24,7 +25,7 @@ returns-then-is_idle-clause-said g c =
 
 pub returns-then-is_idle-clause-unread : goal.returns-then-is_idle-clause-unread
 returns-then-is_idle-clause-unread g c =
-    all_were_read (SourceFails g.F.R.Source.remaining g.F.R.Source.failures) (g.F.Files.bytes c.args.files.now)
+    all_were_read {T = Shop} (SourceFails g.F.R.Source.remaining g.F.R.Source.failures) (g.F.Files.bytes c.args.files.now)
     (shop_inputs (Some c.args.options.now.machine.now) (Some c.args.options.now.tools.now)) _ _ (Err c.refuse_cells.result) c.in-Ok.ensures.unread
     c.refuse_cells.ensures.unread
 
