@@ -1,5 +1,6 @@
 //! The report of a program, from the files that the command line names.
-ghost use Rattle.std.specs.Prelude.{◌≡◌};
+ghost use Rattle.std.specs.Prelude.{◌≡◌, unwrap_or};
+ghost use Rattle.ngc_stock_report.specs.Placed.{USUAL_CELLS};
 ghost use Rattle.ngc_simulator.specs.Answers.{OwnReportResult, ReportResult, own_report_inputs};
 ghost use Rattle.ngc_simulator.specs.Answers.{report_inputs, request_of, requested_form};
 ghost use Rattle.ngc_inputs.specs.Faults.{FailsByOutput};
@@ -27,6 +28,16 @@ pub(crate) fn requested_form(json: bool) -> Form
     if json { Form::Json } else { Form::Words }
 }
 
+// Returns the most cells of a report: those that are requested, or the usual number.
+fn cells_of(requested: Option<u32>) -> u32
+    ensures { result ≡ unwrap_or requested USUAL_CELLS }
+{
+    match requested {
+        None => USUAL_CELLS,
+        Some(cells) => cells,
+    }
+}
+
 /// Returns what is requested of a report, with what the files say besides the machine and its tools.
 pub(crate) fn request_of<'a>(
     figures: FileFigures<'a>,
@@ -40,7 +51,7 @@ pub(crate) fn request_of<'a>(
         form: requested_form(options.json),
         origins: options.changes.origins,
         figures,
-        cells: options.cells.unwrap_or(USUAL_CELLS),
+        cells: cells_of(options.cells),
     }
 }
 

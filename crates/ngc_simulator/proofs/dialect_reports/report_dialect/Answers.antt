@@ -32,10 +32,10 @@ returns-clause-comes g c =
     let tools : Option (List ℕ) = Some c.args.options.now.tools.now in
     let bytes : FileBytes = g.F.Files.bytes c.args.files.now in
     let sent = c.in_ok-sent.sent in
-    let moved = c.without_figures.ensures in
+    let moved = c.without_figures-sent.ensures in
     let figures = c.borrowed.result in
     let outcome = c.report_sent.result in
-    let reports = report_asked sent c.without_figures.result.0 figures c.args.options.now c.request_of-request.result (g.W.Sink.written c.read_sent_reporting.new.output) new outcome
+    let reports = report_asked sent c.without_figures-sent.result.0 figures c.args.options.now c.request_of-request.result (g.W.Sink.written c.read_sent_reporting.new.output) new outcome
     moved.dialect moved.machine moved.tools moved.text c.request_of-request.ensures c.report_sent.ensures.reports in
     let are = subst (AreFiguresIn bytes machine tools) (sym (c.borrowed.ensures ∙ ap stored moved.figures)) c.in_ok-sent.ensures.figures in
     dialect_reported c.args.control.now bytes c.args.options.now old new outcome (
@@ -52,7 +52,7 @@ returns-clause-comes g c =
 
 pub returns-clause-unread : goal.returns-clause-unread
 returns-clause-unread g c =
-    let moved = c.without_figures.result.0 in
+    let moved = c.without_figures-sent.result.0 in
     all_were_read (SourceFails g.F.R.Source.remaining g.F.R.Source.failures) (g.F.Files.bytes c.args.files.now)
     (report_inputs_in (Some c.args.control.now) c.args.options.now) _ _ c.report_sent.result c.in_ok-sent.ensures.unread
     (report_read moved.dialect (setup_of moved.shop.machine moved.shop.tools) moved.text.items c.request_of-request.result _ _ c.report_sent.result c.report_sent.ensures.reports)
