@@ -1296,6 +1296,37 @@ def paper(checks, page):
     page.value("ngc.parts.setupSheet.build(); 0")
     checks.expect("a program with 30 tools and a machine with 18 fixtures is checked", "can't be used" not in page.title and "refused" not in page.title, page.title)
     checks.equal("their setup sheet is one page", pages_of(page.browser.paper()), 1)
+def without_library(checks, page):
+    """three.js that can't be unpacked, and another text in its place, which the policy of the page doesn't name."""
+    packed, events = lambda text: base64.b64encode(gzip.compress(text)).decode(), list(page.browser.events)
+    for what, library, is_quiet in (("can't be unpacked", packed(b"x")[:20], True), ("isn't what the policy names", packed(b"window.THREE = {}; window.harmed = true;"), False)):
+        file = page.folder / "without_library.html"
+        file.write_text(re.sub(r'(id="library">).*?(</script>)', lambda it: it[1] + library + it[2], page.file.read_text(), flags=re.S))
+        page.browser.events.clear()
+        page.browser.open(file)
+        page.wait("document.querySelector('#labels img.drawing') !== null")
+        checks.has(f"where three.js {what} a notice says so, and the drawing of `ngc draw` is shown", page.notices, "There is no picture in three dimensions, since three.js can't be used.")
+        checks.begins("there is a verdict", page.title, "Fits")
+        checks.equal("no other text runs", page.value("typeof harmed"), "undefined")
+        page.do("ngc.actions.example('low_slot.ngc')")
+        checks.begins("another program has one", page.title, "Line 15 hits")
+        page.forget_notices()
+        page.value("ngc.actions.save('picture'); 0")
+        page.wait("document.getElementById('notices').textContent !== ''")
+        checks.begins("there is no picture to save", page.notices, "There is no picture in three dimensions: save the drawing.")
+        drawing = page.native("draw", "--view", "iso", files=("low_slot.ngc", "named_mill.toml", "tools.toml")).stdout
+        checks.equal("the drawing is saved", saved_file(page, "ngc.actions.save('drawing')", "low_slot.iso.svg", len(drawing)), drawing)
+        page.value("ngc.parts.setupSheet.build(); 0")
+        checks.has("the setup sheet has the verdict", page.text("sheet"), page.title)
+        if is_quiet:
+            checks.equal("the browser's console is empty", complaints(page.browser), [])
+        page.do("ngc.actions.example('slot.ngc')")
+    page.browser.open(page.file)
+    page.settle()
+    page.show_picture(page.shows_picture)
+    page.browser.events[:] = events
+
+
     checks.has("and says how many rows there are more", page.text("sheet"), "the first 8 of 18")
     page.example("slot.ngc")
 
@@ -1335,7 +1366,7 @@ def quiet(checks, page):
 
 
 PICTURED = ("picture_and_player", "paper", "access", "keyboard", "phone", "quiet")
-GROUPS = {it.__name__: it for it in (verdicts, block_delete, editing, races, file_kinds, machine_and_zero, cuts, margins, material, *DIALECT_GROUPS, *JOB_GROUPS, save, picture_and_player, search, paper, keeping, hostile, stopped_workers, ended_memory, traps, unable, access, keyboard, contrast, phone, quiet)}
+GROUPS = {it.__name__: it for it in (verdicts, block_delete, editing, races, file_kinds, machine_and_zero, cuts, margins, material, *DIALECT_GROUPS, *JOB_GROUPS, save, picture_and_player, search, paper, keeping, hostile, stopped_workers, ended_memory, traps, unable, without_library, access, keyboard, contrast, phone, quiet)}
 
 
 def take_pictures(page, folder):

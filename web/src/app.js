@@ -21,6 +21,7 @@ import { makeVerdict } from './view/verdict.js';
 import { makeZero } from './view/zero.js';
 import { makeChecks } from './checks.js';
 import { makeFiles } from './files.js';
+import { compiledModule, libraryText, runLibrary } from './packed.js';
 import { makeSaving } from './saving.js';
 import { hasParts, hasStock, withFixture, withStock, withTool, withoutFixture, withoutStock, withoutTool, wordsOfFigures } from './machine_text.js';
 
@@ -197,12 +198,6 @@ function watchRest() {
 
 // ---- the start
 
-async function compiledModule() {
-  const text = atob(id('module').textContent), packed = new Uint8Array(text.length);
-  for (let at = 0; at < text.length; at++) packed[at] = text.charCodeAt(at);
-  const unpacked = new Blob([packed]).stream().pipeThrough(new DecompressionStream('gzip'));
-  return WebAssembly.compile(await new Response(unpacked).arrayBuffer());
-}
 function showUnable(fault) {
   id('verdict').className = 'bad';
   id('verdict-title').textContent = "This browser can't run the page: it has no 64-bit WebAssembly memory.";
@@ -223,9 +218,16 @@ function makeViews() {
   watchRest();
   makeDrop(files.take);
 }
-// The picture comes after the first verdict, since starting WebGL takes a while.
-function makePictures() {
-  parts.picture = makePicture(store);
+// Starts three.js. Returns whether it runs; if it doesn't, a notice says why.
+async function hasLibrary(unpacking) {
+  try { runLibrary(await unpacking); return true; } catch (fault) {
+    notice(`There is no picture in three dimensions, since three.js can't be used. (${fault.message})`, 'bad');
+    return false;
+  }
+}
+// The picture comes after the first verdict, since starting three.js and WebGL takes a while.
+async function makePictures(unpacking) {
+  parts.picture = await hasLibrary(unpacking) ? makePicture(store) : null;
   if (!parts.picture) { makeDrawing(store); checks.followDrawing(); }
   parts.setupSheet = makeSetupSheet(store, parts.picture);
 }
@@ -234,7 +236,9 @@ function firstVerdict() {
 }
 
 async function start() {
-  const compiling = compiledModule();
+  const compiling = compiledModule(), unpacking = libraryText();
+  // The browser would complain of a failure that nothing waits for yet. `hasLibrary` waits for it after the first verdict.
+  unpacking.catch(() => {});
   set({ theme: keptTheme() });
   makeViews();
   let module = null;
@@ -244,7 +248,7 @@ async function start() {
   files.start();
   checks.follow();
   await firstVerdict();
-  makePictures();
+  await makePictures(unpacking);
 }
 
 // For the browser's console and the tests.
