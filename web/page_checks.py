@@ -653,12 +653,30 @@ def tools(checks, page):
     checks.equal("a tool can be removed", page.value(names), "4")
     page.do("[...document.querySelectorAll('#notices button')].filter(it => it.textContent === 'Undo').pop().click()")
     checks.equal("and comes back", page.value(names), "9,4")
+    kept = 'cutter = "flat"\nspeed = "8000 to 24000 rpm"\nfeed = "100 to 1500 mm/min"\nplunge = "300 mm/min"\n'
+    first = f'version = 3\n\n[[tool]]\nnumber = 2\ndiameter = "8 mm"\nlength = "45 mm"\n{kept}\n'
+    page.give({"limits.toml": first})
+    shape = f"document.getElementById('tool').reset(); {form}.number.value = '6'; {form}.diameter.value = '6'; {form}.reach.value = '40'; {form}.shape.value = 'ball'; {add}"
+    page.do(shape)
+    second = '[[tool]]\nnumber = 6\ndiameter = "6 mm"\nlength = "40 mm"\ncutter = "ball"\n'
+    checks.equal("a tool with the shape of its cutter is added, and the other tools keep their shapes and limits", page.value(table), first + second)
+    checks.equal("the shapes are shown", page.value("[...document.querySelectorAll('#shop .wide tbody tr td:nth-child(4)')].map(it => it.textContent)"), ["flat \u00d8 8 \u00d7 45", "ball \u00d8 6 \u00d7 40"])
+    page.do("[...document.querySelectorAll('#shop .link')].find(it => it.ariaLabel === 'Remove tool 6').click()")
+    checks.equal("when a tool is removed the others keep theirs", page.value(table), first)
+    holders = "".join(f'\n[[tool]]\nnumber = {number}\ndiameter = "8 mm"\nlength = "45 mm"\n\n[[tool.holder]]\ndiameter = "{10 * number} mm"\nlength = "20 mm"\n' for number in (1, 2, 3))
+    page.give({"holders.toml": f"version = 3\n{holders}"})
+    page.do("[...document.querySelectorAll('#shop .link')].find(it => it.ariaLabel === 'Remove tool 2').click()")
+    parts = page.value("ngc.sceneNow(ngc.store.state).tools.map(it => [it.number, it.parts.map(part => part.radius)])")
+    checks.equal("a holder that is a table of its own goes with its tool", parts, [[1, [4, 5]], [3, [4, 15]]])
     page.give({"one.toml": "version = 1\n" + "".join(f"\n[[tool]]\nnumber = {number}\nlength = 45000000\nradius = 4000000\noffset = 45000000\n" for number in (1, 2, 3))})
     page.do(f"document.getElementById('tool').reset(); {form}.number.value = '7'; {form}.diameter.value = '5'; {form}.reach.value = '40'; {add}")
     checks.equal("a table of version 1 gets a tool of version 1", page.value(f"{table}.endsWith('[[tool]]\\nnumber = 7\\nlength = 40000000\\nradius = 2500000\\noffset = 40000000\\n')") and page.value(names), "1,2,3,7")
     page.forget_notices()
     page.value(f"{form}.number.value = '8'; {form}.diameter.value = '5'; {form}.reach.value = '40'; {form}.cutter.value = '10'; {form}.holder.value = '30'; {add}; document.getElementById('tool').reset(); 0")
     checks.has("but no holder, and the page says so", page.notices, "A tool table of version 1 has no holders")
+    page.forget_notices()
+    page.value(f"{shape}; document.getElementById('tool').reset(); 0")
+    checks.has("nor the shape of a cutter", page.notices, "Only a tool table of version 3 has shapes of cutters.")
     page.give({"mine.ngc": "G21\nM2\n"})
     page.do("ngc.files.useExampleMachine()")
     page.value("[...document.querySelectorAll('#verdict-actions button')].find(it => it.textContent === 'Describe your machine\u2026').click(); 0")
@@ -1278,24 +1296,6 @@ def unable(checks, page):
     page.show_picture(page.shows_picture)
 
 
-# ---- paper
-
-
-def paper(checks, page):
-    for name in ("slot.ngc", "low_slot.ngc", "holes.ngc"):
-        page.example(name)
-        page.value("ngc.parts.setupSheet.build(); 0")
-        pages = pages_of(page.browser.paper())
-        checks.equal(f"the setup sheet of {name} is one page", pages, 1)
-    words = page.text("sheet")
-    checks.has("it has the verdict, the zero, the tools, their figures and the fixtures", words, page.title, "Zero, mm", "Tools to set up", "Figures of each tool", "Fixtures, mm", "left clamp", "EXAMPLE MACHINE")
-    tools = "".join(f"\n[[tool]]\nnumber = {at}\nname = \"cutter {at}\"\nlength = 45000000\ndiameter = 8000000\noffset = 45000000\n" for at in range(1, 31))
-    many = "".join(f"T{at} M6\nS2000 M3\nG43 H{at}\nG0 Z20\nX20 Y30\nG1 Z2 F{100 + at}\nG0 Z20\n" for at in range(1, 31))
-    machine = page.read("named_mill.toml") + "".join(f"\n[[fixture]]\nname = \"stop {at}\"\nlow = [{280 + at}000000, 280000000, -100000000]\nhigh = [{281 + at}000000, 299000000, -90000000]\n" for at in range(15))
-    page.give({"many.ngc": f"G21 G90 G17 G54\n{many}M9\nG28 Z20\nM30\n", "m.toml": machine, "many_tools.toml": tool_table(page, tools)})
-    page.value("ngc.parts.setupSheet.build(); 0")
-    checks.expect("a program with 30 tools and a machine with 18 fixtures is checked", "can't be used" not in page.title and "refused" not in page.title, page.title)
-    checks.equal("their setup sheet is one page", pages_of(page.browser.paper()), 1)
 def without_library(checks, page):
     """three.js that can't be unpacked, and another text in its place, which the policy of the page doesn't name."""
     packed, events = lambda text: base64.b64encode(gzip.compress(text)).decode(), list(page.browser.events)
@@ -1327,6 +1327,24 @@ def without_library(checks, page):
     page.browser.events[:] = events
 
 
+# ---- paper
+
+
+def paper(checks, page):
+    for name in ("slot.ngc", "low_slot.ngc", "holes.ngc"):
+        page.example(name)
+        page.value("ngc.parts.setupSheet.build(); 0")
+        pages = pages_of(page.browser.paper())
+        checks.equal(f"the setup sheet of {name} is one page", pages, 1)
+    words = page.text("sheet")
+    checks.has("it has the verdict, the zero, the tools, their figures and the fixtures", words, page.title, "Zero, mm", "Tools to set up", "Figures of each tool", "Fixtures, mm", "left clamp", "EXAMPLE MACHINE")
+    tools = "".join(f"\n[[tool]]\nnumber = {at}\nname = \"cutter {at}\"\nlength = 45000000\ndiameter = 8000000\noffset = 45000000\n" for at in range(1, 31))
+    many = "".join(f"T{at} M6\nS2000 M3\nG43 H{at}\nG0 Z20\nX20 Y30\nG1 Z2 F{100 + at}\nG0 Z20\n" for at in range(1, 31))
+    machine = page.read("named_mill.toml") + "".join(f"\n[[fixture]]\nname = \"stop {at}\"\nlow = [{280 + at}000000, 280000000, -100000000]\nhigh = [{281 + at}000000, 299000000, -90000000]\n" for at in range(15))
+    page.give({"many.ngc": f"G21 G90 G17 G54\n{many}M9\nG28 Z20\nM30\n", "m.toml": machine, "many_tools.toml": tool_table(page, tools)})
+    page.value("ngc.parts.setupSheet.build(); 0")
+    checks.expect("a program with 30 tools and a machine with 18 fixtures is checked", "can't be used" not in page.title and "refused" not in page.title, page.title)
+    checks.equal("their setup sheet is one page", pages_of(page.browser.paper()), 1)
     checks.has("and says how many rows there are more", page.text("sheet"), "the first 8 of 18")
     page.example("slot.ngc")
 

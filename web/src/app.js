@@ -23,7 +23,7 @@ import { makeChecks } from './checks.js';
 import { makeFiles } from './files.js';
 import { compiledModule, libraryText, runLibrary } from './packed.js';
 import { makeSaving } from './saving.js';
-import { hasParts, hasStock, withFixture, withStock, withTool, withoutFixture, withoutStock, withoutTool, wordsOfFigures } from './machine_text.js';
+import { NEW_TABLE, hasParts, hasShapes, hasStock, withFixture, withStock, withTool, withoutFixture, withoutStock, withoutTool, wordsOfFigures } from './machine_text.js';
 
 const NOTICE_TIME = 10_000, ACTION_TIME = 30_000; // ms that a notice stays
 const DRAWING_OF_VIEW = { top: 0, front: 1, right: 2, iso: 3 };
@@ -76,8 +76,9 @@ const actions = {
   addFixture(fixture) { files.changeMachine(text => withFixture(text, fixture), 'The fixture is in the machine file in use.'); },
   removeFixture(number) { files.changeMachine(text => withoutFixture(text, number), 'The fixture is no longer in the machine file in use.'); },
   addTool(tool) {
-    const { tools } = store.state.files, isOld = tools.source !== 'example' && !hasParts(new TextDecoder().decode(tools.bytes));
-    if (isOld && (tool.parts.length > 1 || tool.name)) return notice('A tool table of version 1 has no holders and no names.', 'bad');
+    const { tools } = store.state.files, text = tools.source === 'example' ? NEW_TABLE : new TextDecoder().decode(tools.bytes);
+    if (!hasParts(text) && (tool.parts.length > 1 || tool.name)) return notice('A tool table of version 1 has no holders and no names.', 'bad');
+    if (!hasShapes(text) && tool.shape) return notice('Only a tool table of version 3 has shapes of cutters.', 'bad');
     if (tools.source !== 'example' && sceneNow(store.state)?.tools.some(it => it.number === tool.number)) return notice(`Tool ${tool.number} is in the table already: remove it first.`, 'bad');
     files.changeTools(text => withTool(text, tool), `Tool ${tool.number} is in the tool table in use.`);
     id('tool').reset();
