@@ -1,4 +1,6 @@
 """Checks of web/bundle.py and web/build."""
+import base64
+import gzip
 import hashlib
 import re
 import subprocess
@@ -58,6 +60,11 @@ def check_bundle(checks, root, page, room):
     names = [it for it in re.findall(r"^import .*|^from (\w+) import", (root / "web/build").read_text(), re.M) if it and (root / f"web/{it}.py").exists()]
     checks.expect(f"the hash covers web/build and what it imports: {', '.join(names)}", all(f"web/{it}.py" in covered for it in names) and names)
     checks.has("the licence of three.js is in the page", text, "Copyright (c) 2010-2019 three.js authors", "The MIT License")
+    library = gzip.decompress(base64.b64decode(re.search(r'id="library">(.*?)</script>', text, re.S)[1]))
+    sources = re.search(r"script-src ([^;]*);", text)[1].split()
+    checks.equal("the page's policy allows two scripts by their hashes, and WebAssembly", [re.sub(r"'sha256-.*'", "a hash", it) for it in sources], ["a hash", "a hash", "'wasm-unsafe-eval'"])
+    is_library = library.decode() == (root / "web/vendor/three.min.js").read_text().strip()
+    checks.expect("one of them is what the page unpacks: web/vendor/three.min.js", is_library and f"'sha256-{base64.b64encode(hashlib.sha256(library).digest()).decode()}'" in sources)
     digest = hashlib.sha256((root / "web/vendor/three.min.js").read_bytes()).hexdigest()
     checks.has("web/vendor/VERSIONS names the versions of the packages and the hash of three.min.js", (root / "web/vendor/VERSIONS").read_text(), "libjs-three 111", "esbuild 0.17", digest)
     checks.expect("nothing in the page's own text loads from a network", not re.search(r'(?:src|href)="https?:', text))

@@ -653,12 +653,30 @@ def tools(checks, page):
     checks.equal("a tool can be removed", page.value(names), "4")
     page.do("[...document.querySelectorAll('#notices button')].filter(it => it.textContent === 'Undo').pop().click()")
     checks.equal("and comes back", page.value(names), "9,4")
+    kept = 'cutter = "flat"\nspeed = "8000 to 24000 rpm"\nfeed = "100 to 1500 mm/min"\nplunge = "300 mm/min"\n'
+    first = f'version = 3\n\n[[tool]]\nnumber = 2\ndiameter = "8 mm"\nlength = "45 mm"\n{kept}\n'
+    page.give({"limits.toml": first})
+    shape = f"document.getElementById('tool').reset(); {form}.number.value = '6'; {form}.diameter.value = '6'; {form}.reach.value = '40'; {form}.shape.value = 'ball'; {add}"
+    page.do(shape)
+    second = '[[tool]]\nnumber = 6\ndiameter = "6 mm"\nlength = "40 mm"\ncutter = "ball"\n'
+    checks.equal("a tool with the shape of its cutter is added, and the other tools keep their shapes and limits", page.value(table), first + second)
+    checks.equal("the shapes are shown", page.value("[...document.querySelectorAll('#shop .wide tbody tr td:nth-child(4)')].map(it => it.textContent)"), ["flat \u00d8 8 \u00d7 45", "ball \u00d8 6 \u00d7 40"])
+    page.do("[...document.querySelectorAll('#shop .link')].find(it => it.ariaLabel === 'Remove tool 6').click()")
+    checks.equal("when a tool is removed the others keep theirs", page.value(table), first)
+    holders = "".join(f'\n[[tool]]\nnumber = {number}\ndiameter = "8 mm"\nlength = "45 mm"\n\n[[tool.holder]]\ndiameter = "{10 * number} mm"\nlength = "20 mm"\n' for number in (1, 2, 3))
+    page.give({"holders.toml": f"version = 3\n{holders}"})
+    page.do("[...document.querySelectorAll('#shop .link')].find(it => it.ariaLabel === 'Remove tool 2').click()")
+    parts = page.value("ngc.sceneNow(ngc.store.state).tools.map(it => [it.number, it.parts.map(part => part.radius)])")
+    checks.equal("a holder that is a table of its own goes with its tool", parts, [[1, [4, 5]], [3, [4, 15]]])
     page.give({"one.toml": "version = 1\n" + "".join(f"\n[[tool]]\nnumber = {number}\nlength = 45000000\nradius = 4000000\noffset = 45000000\n" for number in (1, 2, 3))})
     page.do(f"document.getElementById('tool').reset(); {form}.number.value = '7'; {form}.diameter.value = '5'; {form}.reach.value = '40'; {add}")
     checks.equal("a table of version 1 gets a tool of version 1", page.value(f"{table}.endsWith('[[tool]]\\nnumber = 7\\nlength = 40000000\\nradius = 2500000\\noffset = 40000000\\n')") and page.value(names), "1,2,3,7")
     page.forget_notices()
     page.value(f"{form}.number.value = '8'; {form}.diameter.value = '5'; {form}.reach.value = '40'; {form}.cutter.value = '10'; {form}.holder.value = '30'; {add}; document.getElementById('tool').reset(); 0")
     checks.has("but no holder, and the page says so", page.notices, "A tool table of version 1 has no holders")
+    page.forget_notices()
+    page.value(f"{shape}; document.getElementById('tool').reset(); 0")
+    checks.has("nor the shape of a cutter", page.notices, "Only a tool table of version 3 has shapes of cutters.")
     page.give({"mine.ngc": "G21\nM2\n"})
     page.do("ngc.files.useExampleMachine()")
     page.value("[...document.querySelectorAll('#verdict-actions button')].find(it => it.textContent === 'Describe your machine\u2026').click(); 0")
@@ -1278,6 +1296,38 @@ def unable(checks, page):
     page.show_picture(page.shows_picture)
 
 
+def without_library(checks, page):
+    """three.js that can't be unpacked, and another text in its place, which the policy of the page doesn't name."""
+    packed, events = lambda text: base64.b64encode(gzip.compress(text)).decode(), list(page.browser.events)
+    for what, library, is_quiet in (("can't be unpacked", packed(b"x")[:20], True), ("isn't what the policy names", packed(b"window.THREE = {}; window.harmed = true;"), False)):
+        file = page.folder / "without_library.html"
+        file.write_text(re.sub(r'(id="library">).*?(</script>)', lambda it: it[1] + library + it[2], page.file.read_text(), flags=re.S))
+        page.browser.events.clear()
+        page.browser.open(file)
+        page.wait("document.querySelector('#labels img.drawing') !== null")
+        checks.has(f"where three.js {what} a notice says so, and the drawing of `ngc draw` is shown", page.notices, "There is no picture in three dimensions, since three.js can't be used.")
+        checks.begins("there is a verdict", page.title, "Fits")
+        checks.equal("no other text runs", page.value("typeof harmed"), "undefined")
+        page.do("ngc.actions.example('low_slot.ngc')")
+        checks.begins("another program has one", page.title, "Line 15 hits")
+        page.forget_notices()
+        page.value("ngc.actions.save('picture'); 0")
+        page.wait("document.getElementById('notices').textContent !== ''")
+        checks.begins("there is no picture to save", page.notices, "There is no picture in three dimensions: save the drawing.")
+        drawing = page.native("draw", "--view", "iso", files=("low_slot.ngc", "named_mill.toml", "tools.toml")).stdout
+        checks.equal("the drawing is saved", saved_file(page, "ngc.actions.save('drawing')", "low_slot.iso.svg", len(drawing)), drawing)
+        page.value("ngc.parts.setupSheet.build(); 0")
+        checks.has("the setup sheet has the verdict", page.text("sheet"), page.title)
+        if is_quiet:
+            # Firefox itself logs that the packed text ends too early.
+            checks.equal("no failure is left unhandled", [it for it in complaints(page.browser) if "ReadableStream" not in it], [])
+        page.do("ngc.actions.example('slot.ngc')")
+    page.browser.open(page.file)
+    page.settle()
+    page.show_picture(page.shows_picture)
+    page.browser.events[:] = events
+
+
 # ---- paper
 
 
@@ -1335,7 +1385,7 @@ def quiet(checks, page):
 
 
 PICTURED = ("picture_and_player", "paper", "access", "keyboard", "phone", "quiet")
-GROUPS = {it.__name__: it for it in (verdicts, block_delete, editing, races, file_kinds, machine_and_zero, cuts, margins, material, *DIALECT_GROUPS, *JOB_GROUPS, save, picture_and_player, search, paper, keeping, hostile, stopped_workers, ended_memory, traps, unable, access, keyboard, contrast, phone, quiet)}
+GROUPS = {it.__name__: it for it in (verdicts, block_delete, editing, races, file_kinds, machine_and_zero, cuts, margins, material, *DIALECT_GROUPS, *JOB_GROUPS, save, picture_and_player, search, paper, keeping, hostile, stopped_workers, ended_memory, traps, unable, without_library, access, keyboard, contrast, phone, quiet)}
 
 
 def take_pictures(page, folder):

@@ -21,8 +21,9 @@ import { makeVerdict } from './view/verdict.js';
 import { makeZero } from './view/zero.js';
 import { makeChecks } from './checks.js';
 import { makeFiles } from './files.js';
+import { compiledModule, libraryText, runLibrary } from './packed.js';
 import { makeSaving } from './saving.js';
-import { hasParts, hasStock, withFixture, withStock, withTool, withoutFixture, withoutStock, withoutTool, wordsOfFigures } from './machine_text.js';
+import { NEW_TABLE, hasParts, hasShapes, hasStock, withFixture, withStock, withTool, withoutFixture, withoutStock, withoutTool, wordsOfFigures } from './machine_text.js';
 
 const NOTICE_TIME = 10_000, ACTION_TIME = 30_000; // ms that a notice stays
 const DRAWING_OF_VIEW = { top: 0, front: 1, right: 2, iso: 3 };
@@ -75,8 +76,9 @@ const actions = {
   addFixture(fixture) { files.changeMachine(text => withFixture(text, fixture), 'The fixture is in the machine file in use.'); },
   removeFixture(number) { files.changeMachine(text => withoutFixture(text, number), 'The fixture is no longer in the machine file in use.'); },
   addTool(tool) {
-    const { tools } = store.state.files, isOld = tools.source !== 'example' && !hasParts(new TextDecoder().decode(tools.bytes));
-    if (isOld && (tool.parts.length > 1 || tool.name)) return notice('A tool table of version 1 has no holders and no names.', 'bad');
+    const { tools } = store.state.files, text = tools.source === 'example' ? NEW_TABLE : new TextDecoder().decode(tools.bytes);
+    if (!hasParts(text) && (tool.parts.length > 1 || tool.name)) return notice('A tool table of version 1 has no holders and no names.', 'bad');
+    if (!hasShapes(text) && tool.shape) return notice('Only a tool table of version 3 has shapes of cutters.', 'bad');
     if (tools.source !== 'example' && sceneNow(store.state)?.tools.some(it => it.number === tool.number)) return notice(`Tool ${tool.number} is in the table already: remove it first.`, 'bad');
     files.changeTools(text => withTool(text, tool), `Tool ${tool.number} is in the tool table in use.`);
     id('tool').reset();
@@ -197,12 +199,6 @@ function watchRest() {
 
 // ---- the start
 
-async function compiledModule() {
-  const text = atob(id('module').textContent), packed = new Uint8Array(text.length);
-  for (let at = 0; at < text.length; at++) packed[at] = text.charCodeAt(at);
-  const unpacked = new Blob([packed]).stream().pipeThrough(new DecompressionStream('gzip'));
-  return WebAssembly.compile(await new Response(unpacked).arrayBuffer());
-}
 function showUnable(fault) {
   id('verdict').className = 'bad';
   id('verdict-title').textContent = "This browser can't run the page: it has no 64-bit WebAssembly memory.";
@@ -223,9 +219,16 @@ function makeViews() {
   watchRest();
   makeDrop(files.take);
 }
-// The picture comes after the first verdict, since starting WebGL takes a while.
-function makePictures() {
-  parts.picture = makePicture(store);
+// Starts three.js. Returns whether it runs; if it doesn't, a notice says why.
+async function hasLibrary(unpacking) {
+  try { runLibrary(await unpacking); return true; } catch (fault) {
+    notice(`There is no picture in three dimensions, since three.js can't be used. (${fault.message})`, 'bad');
+    return false;
+  }
+}
+// The picture comes after the first verdict, since starting three.js and WebGL takes a while.
+async function makePictures(unpacking) {
+  parts.picture = await hasLibrary(unpacking) ? makePicture(store) : null;
   if (!parts.picture) { makeDrawing(store); checks.followDrawing(); }
   parts.setupSheet = makeSetupSheet(store, parts.picture);
 }
@@ -234,7 +237,9 @@ function firstVerdict() {
 }
 
 async function start() {
-  const compiling = compiledModule();
+  const compiling = compiledModule(), unpacking = libraryText();
+  // The browser would complain of a failure that nothing waits for yet. `hasLibrary` waits for it after the first verdict.
+  unpacking.catch(() => {});
   set({ theme: keptTheme() });
   makeViews();
   let module = null;
@@ -244,7 +249,7 @@ async function start() {
   files.start();
   checks.follow();
   await firstVerdict();
-  makePictures();
+  await makePictures(unpacking);
 }
 
 // For the browser's console and the tests.

@@ -20,34 +20,36 @@ export function withFixture(text, { name, low, high }) {
   return added(text, `[[fixture]]\n${version > 1 ? named(name) : ''}${corners(version, { low, high })}`);
 }
 
-// The text without a table: from its head to before the next one.
-function withoutTable(text, head) {
+// The text without a table of this name: from its head to before the next one. A table as `[[tool.holder]]` belongs to the one above it.
+function withoutTable(text, name, head) {
   if (!head) return text;
-  const rest = text.slice(head.index + head[0].length), end = rest.search(/^[ \t]*\[/m);
+  const rest = text.slice(head.index + head[0].length), end = rest.search(new RegExp(`^[ \\t]*\\[(?!\\[?[ \\t]*${name}[ \\t]*\\.)`, 'm'));
   return text.slice(0, head.index) + (end < 0 ? '' : rest.slice(end));
 }
 // The text without a fixture. `number` counts from 0.
-export const withoutFixture = (text, number) => withoutTable(text, [...text.matchAll(HEAD)][number]);
+export const withoutFixture = (text, number) => withoutTable(text, 'fixture', [...text.matchAll(HEAD)][number]);
 
 const TOOL = /^[ \t]*\[\[[ \t]*tool[ \t]*\]\].*$/gm;
 export const hasParts = text => versionOf(text) > 1;
+export const hasShapes = text => versionOf(text) === 3;
 export const NEW_TABLE = 'version = 3\n';
-// A tool with its parts from the tip up: the cutter, and a holder if it has one. Version 1 has one part and no names. G43 adds the reach, as usual.
+// A tool with its parts from the tip up: the cutter, and a holder if it has one. Version 1 has one part and no names, and only version 3 has shapes
+// of cutters. G43 adds the reach, as usual.
 const tables = {
   1: ({ reach, parts }) => `length = ${reach}\nradius = ${parts[0].radius}\noffset = ${reach}\n`,
   2: ({ name, reach, parts }) => `offset = ${reach}\nbottom = ${-reach}\n${named(name)}parts = [\n${parts.map(it => `    { length = ${it.length}, radius = ${it.radius} },\n`).join('')}]\n`,
-  3: ({ name, reach, parts: [cutter, holder] }) => `${named(name)}diameter = ${length(2 * cutter.radius)}\nlength = ${length(reach)}\n${holder ? `holder = [{ diameter = ${length(2 * holder.radius)}, length = ${length(holder.length)} }]\n` : ''}`,
+  3: ({ name, shape, reach, parts: [cutter, holder] }) => `${named(name)}diameter = ${length(2 * cutter.radius)}\nlength = ${length(reach)}\n${holder ? `holder = [{ diameter = ${length(2 * holder.radius)}, length = ${length(holder.length)} }]\n` : ''}${shape ? `cutter = "${shape}"\n` : ''}`,
 };
-// The text with one more tool: its number, its name, its reach below the spindle nose, and its parts from the tip up, each with a length and a
-// radius.
+// The text with one more tool: its number, its name, the shape of its cutter or an empty text, its reach below the spindle nose, and its parts from
+// the tip up, each with a length and a radius.
 export const withTool = (text, tool) => added(text, `[[tool]]\nnumber = ${tool.number}\n${(tables[versionOf(text)] ?? tables[1])(tool)}`);
 // The text without a tool. `at` is its place in the table, from 0.
-export const withoutTool = (text, at) => withoutTable(text, [...text.matchAll(TOOL)][at]);
+export const withoutTool = (text, at) => withoutTable(text, 'tool', [...text.matchAll(TOOL)][at]);
 
 const STOCK = /^[ \t]*\[[ \t]*stock[ \t]*\].*$/m;
 // The text with this block of material in place of another one. Version 1 has none.
 export const withStock = (text, stock) => added(withoutStock(text), `[stock]\n${corners(versionOf(text), stock)}`);
-export const withoutStock = text => withoutTable(text, STOCK.exec(text));
+export const withoutStock = text => withoutTable(text, 'stock', STOCK.exec(text));
 export const hasStock = text => versionOf(text) > 1;
 
 const number = value => String(Math.round(value * 1000) / 1000);

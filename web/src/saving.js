@@ -50,7 +50,7 @@ export function makeSaving(store, getJobs, parts, notice) {
     } catch (failure) { notice(`Nothing was saved. ${sentenceOfFailure(failure)}`, 'bad'); }
   }
   function saveImage() {
-    if (!parts.picture) return notice('There is no picture: this browser has no WebGL. Save the drawing.', 'bad');
+    if (!parts.picture) return notice('There is no picture in three dimensions: save the drawing.', 'bad');
     download(`${stem()}.png`, new Blob([bytesOfUrl(parts.picture.image())]));
   }
   return {

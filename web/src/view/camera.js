@@ -1,8 +1,6 @@
 // An orthographic camera that orbits, moves and zooms at the pointer. Lengths look the same near and far, so a position can be read off.
 // OrbitControls of three.js 111 zooms at the middle only, and knows no pointer events.
 
-const { OrthographicCamera, Vector3 } = globalThis.THREE;
-
 const RIGHT_ANGLE = Math.PI / 2, STEP = 40, TURN = 24, ZOOM = 0.8;
 const VIEWS = {
   top: { turn: -RIGHT_ANGLE, tilt: RIGHT_ANGLE }, front: { turn: -RIGHT_ANGLE, tilt: 0 }, right: { turn: 0, tilt: 0 },
@@ -12,8 +10,8 @@ const clamp = (value, low, high) => Math.min(high, Math.max(low, value));
 
 export class Orbit {
   constructor(element, changed) {
-    Object.assign(this, { element, changed, target: new Vector3(), ...VIEWS.iso });
-    this.camera = new OrthographicCamera(-1, 1, 1, -1, -10_000, 10_000);
+    Object.assign(this, { element, changed, target: new THREE.Vector3(), ...VIEWS.iso });
+    this.camera = new THREE.OrthographicCamera(-1, 1, 1, -1, -10_000, 10_000);
     this.camera.matrixAutoUpdate = false;
     this.scale = 1;                // mm for a point of the screen
     this.isMoving = false;
@@ -28,9 +26,9 @@ export class Orbit {
   }
   get size() { return [this.element.clientWidth || 1, this.element.clientHeight || 1]; }
   axes() {
-    const { turn, tilt } = this, right = new Vector3(-Math.sin(turn), Math.cos(turn), 0);
-    const forward = new Vector3(-Math.cos(tilt) * Math.cos(turn), -Math.cos(tilt) * Math.sin(turn), -Math.sin(tilt));
-    return { forward, right, up: new Vector3().crossVectors(right, forward) };
+    const { turn, tilt } = this, right = new THREE.Vector3(-Math.sin(turn), Math.cos(turn), 0);
+    const forward = new THREE.Vector3(-Math.cos(tilt) * Math.cos(turn), -Math.cos(tilt) * Math.sin(turn), -Math.sin(tilt));
+    return { forward, right, up: new THREE.Vector3().crossVectors(right, forward) };
   }
   update() {
     const [width, height] = this.size, { forward, right, up } = this.axes(), { camera, scale } = this;

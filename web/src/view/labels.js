@@ -2,7 +2,6 @@
 
 import { fill, h } from './dom.js';
 
-const { Vector3 } = globalThis.THREE;
 const HIGH = 18, RAISED = 22;   // points
 
 export function makeLabels(holder) {
@@ -14,7 +13,7 @@ export function makeLabels(holder) {
     },
     // Puts each label at its point, unless it would cover one before it.
     place(camera, width, height) {
-      const taken = [], onScreen = at => { const it = new Vector3(...at).project(camera); return [(it.x + 1) * width / 2, (1 - it.y) * height / 2]; };
+      const taken = [], onScreen = at => { const it = new THREE.Vector3(...at).project(camera); return [(it.x + 1) * width / 2, (1 - it.y) * height / 2]; };
       const isIn = ([x, y]) => x > 0 && x < width && y > 0 && y < height;
       for (const { at, ends = [], kind, text, element } of labels) {
         const [x, base] = onScreen(at), y = kind === 'hit' ? base - RAISED : base, wide = text.length * 7 + 10;

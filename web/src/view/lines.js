@@ -1,8 +1,6 @@
 // Lines of a constant width on the screen, drawn as instanced quads, since WebGL itself draws lines one point wide. One mesh holds the
 // whole path, so 100,000 motions are one call. Colours are chosen in the shader, so another colouring changes no segment.
 
-const { BufferAttribute, BufferGeometry, DoubleSide, Group, InstancedBufferAttribute, InstancedBufferGeometry, LineSegments, Mesh, ShaderMaterial, Vector2, Vector3 } = globalThis.THREE;
-
 const COLOUR = `
 attribute vec4 marks; attribute float order;
 uniform vec3 palette[8]; uniform vec3 ramp[3]; uniform vec3 rapid; uniform float byFeed; uniform float done; uniform float hidesRapids;
@@ -45,15 +43,15 @@ void main() {
   gl_FragColor = vec4(mix(vTint, fade, vFaded * 0.78), 1.0);
 }`;
 
-const eight = colours => Array.from({ length: 8 }, (_, at) => new Vector3(...colours[at % colours.length]));
+const eight = colours => Array.from({ length: 8 }, (_, at) => new THREE.Vector3(...colours[at % colours.length]));
 const uniformsOf = ({ width, lift = 0, colours = [[0.5, 0.5, 0.5]] }) => Object.fromEntries(Object.entries({
-  size: new Vector2(1, 1), width, lift, dash: 5, done: 1e9, fade: new Vector3(0.8, 0.8, 0.8), hidesRapids: 0, byFeed: 0,
-  palette: eight(colours), ramp: eight(colours).slice(0, 3), rapid: new Vector3(0.5, 0.5, 0.5),
+  size: new THREE.Vector2(1, 1), width, lift, dash: 5, done: 1e9, fade: new THREE.Vector3(0.8, 0.8, 0.8), hidesRapids: 0, byFeed: 0,
+  palette: eight(colours), ramp: eight(colours).slice(0, 3), rapid: new THREE.Vector3(0.5, 0.5, 0.5),
 }).map(([name, value]) => [name, { value }]));
 
 function quads() {
-  const geometry = new InstancedBufferGeometry();
-  geometry.setAttribute('position', new BufferAttribute(new Float32Array([0, -1, 0, 0, 1, 0, 1, -1, 0, 1, 1, 0]), 3));
+  const geometry = new THREE.InstancedBufferGeometry();
+  geometry.setAttribute('position', new THREE.BufferAttribute(new Float32Array([0, -1, 0, 0, 1, 0, 1, -1, 0, 1, 1, 0]), 3));
   geometry.setIndex([0, 1, 2, 2, 1, 3]);
   geometry.maxInstancedCount = 0;
   return geometry;
@@ -63,8 +61,8 @@ function quads() {
 export class Lines {
   constructor(how) {
     this.uniforms = uniformsOf(how);
-    this.material = new ShaderMaterial({ vertexShader: WIDE, fragmentShader: FRAGMENT, uniforms: this.uniforms, side: DoubleSide });
-    this.mesh = new Mesh(quads(), this.material);
+    this.material = new THREE.ShaderMaterial({ vertexShader: WIDE, fragmentShader: FRAGMENT, uniforms: this.uniforms, side: THREE.DoubleSide });
+    this.mesh = new THREE.Mesh(quads(), this.material);
     this.mesh.frustumCulled = false;
     this.mesh.renderOrder = how.order ?? 0;
     this.mesh.visible = false;
@@ -74,7 +72,7 @@ export class Lines {
   set(a, b, marks = new Uint8Array(a.length / 3 * 4), order = new Float32Array(a.length / 3)) {
     this.mesh.geometry.dispose();
     const geometry = quads();
-    for (const [name, values, width] of [['a', a, 3], ['b', b, 3], ['marks', marks, 4], ['order', order, 1]]) geometry.setAttribute(name, new InstancedBufferAttribute(values, width));
+    for (const [name, values, width] of [['a', a, 3], ['b', b, 3], ['marks', marks, 4], ['order', order, 1]]) geometry.setAttribute(name, new THREE.InstancedBufferAttribute(values, width));
     this.count = geometry.maxInstancedCount = a.length / 3;
     this.mesh.geometry = geometry;
     this.mesh.visible = this.count > 0;
@@ -88,8 +86,8 @@ export class Lines {
 export class PathLines {
   constructor(how) {
     this.wide = new Lines(how);
-    this.thinMaterial = new ShaderMaterial({ vertexShader: THIN, fragmentShader: FRAGMENT, uniforms: this.wide.uniforms });
-    this.group = new Group();
+    this.thinMaterial = new THREE.ShaderMaterial({ vertexShader: THIN, fragmentShader: FRAGMENT, uniforms: this.wide.uniforms });
+    this.group = new THREE.Group();
     this.group.add(this.wide.mesh);
     this.thin = this.path = null;
   }
@@ -108,9 +106,9 @@ export class PathLines {
     if (this.thin) this.thin.visible = isCoarse;
   }
   makeThin() {
-    const { ends, marks, order } = this.path.thin, geometry = new BufferGeometry();
-    for (const [name, values, width] of [['position', ends, 3], ['marks', marks, 4], ['order', order, 1]]) geometry.setAttribute(name, new BufferAttribute(values, width));
-    this.thin = new LineSegments(geometry, this.thinMaterial);
+    const { ends, marks, order } = this.path.thin, geometry = new THREE.BufferGeometry();
+    for (const [name, values, width] of [['position', ends, 3], ['marks', marks, 4], ['order', order, 1]]) geometry.setAttribute(name, new THREE.BufferAttribute(values, width));
+    this.thin = new THREE.LineSegments(geometry, this.thinMaterial);
     this.thin.frustumCulled = false;
     this.group.add(this.thin);
   }

@@ -44,7 +44,7 @@ export function makeMachine(store, actions) {
       table(`Travel and speed, ${unit}`, ['Axis', 'From', 'To', `Speed, ${unit}/min`], AXES.map((axis, it) => [axis, at(scene.low[it]), at(scene.high[it]), at(Math.round(scene.rates.speeds[it] * 60 * 1000) / 1000)])),
       scene.fixtures.length ? table(`Fixtures, ${unit}`, ['Fixture', ...AXES, ''], scene.fixtures.map(it => [it.name || `fixture ${it.number}`, ...AXES.map((_, axis) => `${at(it.low[axis])} to ${at(it.high[axis])}`), it.isAdded ? 'job file' : remove(it)])) : h('p', {}, 'The machine file describes no fixtures.'),
       scene.stock ? table(`Material, ${unit}, in ${scene.stock.system ?? 'machine coordinates'}`, [...AXES, ''], [[...AXES.map((_, axis) => `${at(scene.stock.low[axis])} to ${at(scene.stock.high[axis])}`), scene.stock.isAdded ? 'job file' : h('button', { class: 'link', type: 'button', 'aria-label': 'Remove the material', onclick: actions.removeStock }, 'remove')]]) : null,
-      h('div', { class: 'wide' }, table(`Tools, ${unit}`, ['Tool', 'Reach', 'Offset', 'Parts from the tip up', ''], scene.tools.map(it => [`T${it.number}${it.name ? ` ${it.name}` : ''}`, at(-it.bottom), at(it.offset), it.parts.map(part => `\u00d8 ${at(part.radius * 2)} \u00d7 ${at(part.high - part.low)}`).join(', '), store.state.files.tools.source === 'example' ? '' : removeTool(it)]))),
+      h('div', { class: 'wide' }, table(`Tools, ${unit}`, ['Tool', 'Reach', 'Offset', 'Parts from the tip up', ''], scene.tools.map(it => [`T${it.number}${it.name ? ` ${it.name}` : ''}`, at(-it.bottom), at(it.offset), [it.cutter, it.parts.map(part => `\u00d8 ${at(part.radius * 2)} \u00d7 ${at(part.high - part.low)}`).join(', ')].filter(Boolean).join(' '), store.state.files.tools.source === 'example' ? '' : removeTool(it)]))),
       scene.warnings.length ? h('ul', { class: 'warned' }, scene.warnings.map(it => h('li', {}, it))) : null);
   });
 
@@ -70,7 +70,7 @@ export function makeMachine(store, actions) {
     if (!(Number.isInteger(number) && number >= 1 && number <= MOST_TOOL)) return actions.notice(`The number of a tool is from 1 to ${MOST_TOOL}.`, 'bad');
     if (![diameter, reach].every(it => it > 0) || (hasHolder && !(holder > 0 && cutter > 0 && cutter < reach))) return actions.notice('A tool has a diameter and a reach above 0. With a holder it has the holder\u2019s diameter too, and how far the cutter is out of it, which is less than the reach.', 'bad');
     const parts = [{ length: hasHolder ? cutter : reach, radius: Math.ceil(diameter / 2) }, ...(hasHolder ? [{ length: reach - cutter, radius: Math.ceil(holder / 2) }] : [])];
-    actions.addTool({ number, name: form.elements.name.value.trim(), reach, parts });
+    actions.addTool({ number, name: form.elements.name.value.trim(), shape: form.elements.shape.value, reach, parts });
   };
   const system = id('stock-system');
   fill(system, SYSTEMS.map((it, at) => h('option', { value: String(at + 1) }, it)), h('option', { value: '0' }, 'machine coordinates'));

@@ -1,7 +1,5 @@
 // The solid things of the picture: the floor, the fixtures and the tool.
 
-const { BoxGeometry, CylinderGeometry, DoubleSide, EdgesGeometry, Group, LineBasicMaterial, LineSegments, Mesh, MeshBasicMaterial, MeshLambertMaterial } = globalThis.THREE;
-
 const RED = 0xd9203a;
 const middle = (low, high) => low.map((it, axis) => (it + high[axis]) / 2);
 
@@ -28,16 +26,16 @@ export function edgesOf(low, high) {
 }
 
 export function floorOf(low, high, bottom, isDark) {
-  const floor = new Mesh(new BoxGeometry(high[0] - low[0], high[1] - low[1], 0.01), new MeshBasicMaterial({ color: isDark ? 0x2a333b : 0xdfe5ea, transparent: true, opacity: 0.35, depthWrite: false }));
+  const floor = new THREE.Mesh(new THREE.BoxGeometry(high[0] - low[0], high[1] - low[1], 0.01), new THREE.MeshBasicMaterial({ color: isDark ? 0x2a333b : 0xdfe5ea, transparent: true, opacity: 0.35, depthWrite: false }));
   floor.position.set((low[0] + high[0]) / 2, (low[1] + high[1]) / 2, bottom - 0.02);
   return floor;
 }
 
 export function fixtureOf({ low, high }, isMet, isDark) {
-  const geometry = new BoxGeometry(...low.map((it, axis) => Math.max(high[axis] - it, 0.01))), group = new Group();
+  const geometry = new THREE.BoxGeometry(...low.map((it, axis) => Math.max(high[axis] - it, 0.01))), group = new THREE.Group();
   const colour = isMet ? RED : isDark ? 0x8fa3b5 : 0x6f8294, edge = isMet ? RED : isDark ? 0xb7c6d4 : 0x4d5c69;
-  group.add(new Mesh(geometry, new MeshLambertMaterial({ color: colour, transparent: true, opacity: isMet ? 0.4 : 0.34, depthWrite: false, side: DoubleSide })));
-  group.add(new LineSegments(new EdgesGeometry(geometry), new LineBasicMaterial({ color: edge, transparent: true, opacity: 0.8 })));
+  group.add(new THREE.Mesh(geometry, new THREE.MeshLambertMaterial({ color: colour, transparent: true, opacity: isMet ? 0.4 : 0.34, depthWrite: false, side: THREE.DoubleSide })));
+  group.add(new THREE.LineSegments(new THREE.EdgesGeometry(geometry), new THREE.LineBasicMaterial({ color: edge, transparent: true, opacity: 0.8 })));
   for (const it of group.children) it.renderOrder = 1;
   group.position.set(...middle(low, high));
   return group;
@@ -45,21 +43,21 @@ export function fixtureOf({ low, high }, isMet, isDark) {
 
 // The block of material: pale, since the path is inside it.
 export function stockOf({ low, high }, isDark) {
-  const geometry = new BoxGeometry(...low.map((it, axis) => Math.max(high[axis] - it, 0.01))), group = new Group(), colour = isDark ? 0xd9b36b : 0xc79a45;
-  group.add(new Mesh(geometry, new MeshLambertMaterial({ color: colour, transparent: true, opacity: 0.16, depthWrite: false })));
-  group.add(new LineSegments(new EdgesGeometry(geometry), new LineBasicMaterial({ color: colour, transparent: true, opacity: 0.75 })));
+  const geometry = new THREE.BoxGeometry(...low.map((it, axis) => Math.max(high[axis] - it, 0.01))), group = new THREE.Group(), colour = isDark ? 0xd9b36b : 0xc79a45;
+  group.add(new THREE.Mesh(geometry, new THREE.MeshLambertMaterial({ color: colour, transparent: true, opacity: 0.16, depthWrite: false })));
+  group.add(new THREE.LineSegments(new THREE.EdgesGeometry(geometry), new THREE.LineBasicMaterial({ color: colour, transparent: true, opacity: 0.75 })));
   group.position.set(...middle(low, high));
   return group;
 }
 
 // The tool from its tip up, with the boxes that are checked around it.
 export function toolOf(tool, colour, isRefused, isDark) {
-  const group = new Group(), edge = isRefused ? RED : isDark ? 0xc7d2dc : 0x55636f;
+  const group = new THREE.Group(), edge = isRefused ? RED : isDark ? 0xc7d2dc : 0x55636f;
   (tool?.parts ?? []).forEach(({ low, high, radius }, at) => {
-    const height = high - low, box = new BoxGeometry(radius * 2, radius * 2, height);
-    const solid = new Mesh(new CylinderGeometry(radius, radius, height, 32), new MeshLambertMaterial({ color: isRefused ? RED : at ? 0x9aa6b1 : colour, transparent: true, opacity: isRefused ? 0.55 : 0.8 }));
+    const height = high - low, box = new THREE.BoxGeometry(radius * 2, radius * 2, height);
+    const solid = new THREE.Mesh(new THREE.CylinderGeometry(radius, radius, height, 32), new THREE.MeshLambertMaterial({ color: isRefused ? RED : at ? 0x9aa6b1 : colour, transparent: true, opacity: isRefused ? 0.55 : 0.8 }));
     solid.rotation.x = Math.PI / 2;
-    const edges = new LineSegments(new EdgesGeometry(box), new LineBasicMaterial({ color: edge, transparent: true, opacity: isRefused ? 0.95 : 0.45 }));
+    const edges = new THREE.LineSegments(new THREE.EdgesGeometry(box), new THREE.LineBasicMaterial({ color: edge, transparent: true, opacity: isRefused ? 0.95 : 0.45 }));
     box.dispose();
     for (const it of [solid, edges]) { it.position.z = (low + high) / 2 - tool.bottom; it.renderOrder = 2; group.add(it); }
   });

@@ -15,8 +15,6 @@ import { makeLabels } from './labels.js';
 import { edgesOf, emptyGroup, fixtureOf, floorOf, stockOf, toolOf } from './models.js';
 import { pick } from './picking.js';
 
-const { Color, DirectionalLight, Group, HemisphereLight, Scene, Vector2, Vector3, WebGLRenderer } = globalThis.THREE;
-
 const HOVER_MOST = 400_000;     // segments that a pointer that only moves is compared with
 const SOFTWARE_MOST = 20_000;   // segments that a software renderer draws as wide lines
 const SLOW = 70;                // ms for a frame, from which on a renderer is slow
@@ -35,7 +33,7 @@ function hasSoftwareOnly() {
 function startRenderer(canvas) {
   const isSoftware = hasSoftwareOnly();
   try {
-    const renderer = new WebGLRenderer({ canvas, antialias: !isSoftware, alpha: true });
+    const renderer = new THREE.WebGLRenderer({ canvas, antialias: !isSoftware, alpha: true });
     renderer.setPixelRatio(isSoftware ? 1 : Math.min(window.devicePixelRatio || 1, 2));
     renderer.setClearColor(0, 0);
     // Asking for errors after each program waits for the graphics card.
@@ -46,11 +44,11 @@ function startRenderer(canvas) {
 
 // The points that the picture shows when it is fitted: what is cut, the tool where it hits, and the fixtures nearby.
 function pointsToFit({ path, scene, contact, entry }) {
-  const points = [], corners = (low, high) => { for (const x of [low[0], high[0]]) for (const y of [low[1], high[1]]) for (const z of [low[2], high[2]]) points.push(new Vector3(x, y, z)); };
+  const points = [], corners = (low, high) => { for (const x of [low[0], high[0]]) for (const y of [low[1], high[1]]) for (const z of [low[2], high[2]]) points.push(new THREE.Vector3(x, y, z)); };
   if (!path?.bounds) { if (scene) corners(scene.low, scene.high); return points; }
   const low = [...path.bounds.low], high = [...path.bounds.high];
   if (contact) {
-    points.push(new Vector3(contact.tip[0], contact.tip[1], contact.tip[2] + Math.min(60, -(contact.tool?.bottom ?? 0)) * 1.25));
+    points.push(new THREE.Vector3(contact.tip[0], contact.tip[1], contact.tip[2] + Math.min(60, -(contact.tool?.bottom ?? 0)) * 1.25));
     contact.tip.forEach((it, axis) => { low[axis] = Math.min(low[axis], it); high[axis] = Math.max(high[axis], it); });
   }
   const span = Math.max(high[0] - low[0], high[1] - low[1], 5), reach = Math.max(8, span * 0.25), margin = Math.max(3, span * 0.12);
@@ -69,15 +67,15 @@ function pointsToFit({ path, scene, contact, entry }) {
 export function makePicture(store) {
   const holder = id('view'), canvas = id('canvas'), started = startRenderer(canvas);
   if (!started) return null;
-  const { renderer, isSoftware } = started, labels = makeLabels(id('labels')), world = new Scene();
-  const fixed = new Group(), toolModel = new Group(), hitModel = new Group(), paths = new PathLines({ width: 2.2, colours: TOOL_COLOURS.map(partsOf) });
+  const { renderer, isSoftware } = started, labels = makeLabels(id('labels')), world = new THREE.Scene();
+  const fixed = new THREE.Group(), toolModel = new THREE.Group(), hitModel = new THREE.Group(), paths = new PathLines({ width: 2.2, colours: TOOL_COLOURS.map(partsOf) });
   const lines = {
     marked: new Lines({ width: 5, lift: 0.0002, order: 4 }), hover: new Lines({ width: 4, lift: 0.0001, order: 3 }), refused: new Lines({ width: 5, lift: 0.0003, order: 5 }),
     frame: new Lines({ width: 1.3 }), axes: new Lines({ width: 2.4, lift: 0.0001, colours: AXIS_COLOURS }),
   };
-  const sun = new DirectionalLight(0xffffff, 0.75);
+  const sun = new THREE.DirectionalLight(0xffffff, 0.75);
   sun.position.set(-1, -2, 3);
-  world.add(new HemisphereLight(0xffffff, 0x8899aa, 0.75), sun, fixed, toolModel, hitModel, paths.group, ...Object.values(lines).map(it => it.mesh));
+  world.add(new THREE.HemisphereLight(0xffffff, 0x8899aa, 0.75), sun, fixed, toolModel, hitModel, paths.group, ...Object.values(lines).map(it => it.mesh));
   const orbit = new Orbit(canvas, request);
   let isWanted = false, isSlow = isSoftware, lastFrame = 0, frames = 0, fitted = '', fittedTo = 0, drawnBase = 0, moment = null, shownTool = '';
   let data = { scene: null, path: null, group: null, times: null, entry: null, contact: null };
@@ -87,7 +85,7 @@ export function makePicture(store) {
   function request() { if (!isWanted) { isWanted = true; requestAnimationFrame(draw); } }
   function draw(now = performance.now()) {
     isWanted = false;
-    const width = holder.clientWidth, height = holder.clientHeight, size = renderer.getSize(new Vector2());
+    const width = holder.clientWidth, height = holder.clientHeight, size = renderer.getSize(new THREE.Vector2());
     if (!width || !height) return;
     if (size.x !== width || size.y !== height) renderer.setSize(width, height, false);
     orbit.update();
@@ -166,7 +164,7 @@ export function makePicture(store) {
     if (key !== shownTool) {
       shownTool = key;
       emptyGroup(toolModel);
-      if (number) toolModel.add(toolOf(scene?.tools.find(it => it.number === number), new Color(toolColour(path, number)).getHex(), false, isDark()));
+      if (number) toolModel.add(toolOf(scene?.tools.find(it => it.number === number), new THREE.Color(toolColour(path, number)).getHex(), false, isDark()));
     }
     toolModel.visible = moment !== null;
     if (moment) toolModel.position.set(...moment.tip);
@@ -219,7 +217,7 @@ export function makePicture(store) {
     const dark = isDark();
     paths.uniforms.fade.value.set(...(dark ? [0.22, 0.26, 0.3] : [0.84, 0.87, 0.9]));
     paths.uniforms.rapid.value.set(...(dark ? [0.6, 0.65, 0.7] : [0.45, 0.5, 0.55]));
-    paths.uniforms.ramp.value = RAMP.map(it => new Vector3(...partsOf(it)));
+    paths.uniforms.ramp.value = RAMP.map(it => new THREE.Vector3(...partsOf(it)));
     lines.hover.colour(dark ? [1, 1, 1] : [0.1, 0.12, 0.15]);
     lines.marked.colour(dark ? [1, 0.72, 0.2] : [0.95, 0.5, 0]);
     lines.refused.colour(dark ? [1, 0.36, 0.42] : [0.86, 0.05, 0.15]);
@@ -310,11 +308,11 @@ export function makePicture(store) {
       return url;
     },
     // Where a point of the machine is on the canvas.
-    screenOf(point) { const at = new Vector3(...point).project(orbit.camera), [width, height] = orbit.size; return [(at.x + 1) * width / 2, (1 - at.y) * height / 2]; },
+    screenOf(point) { const at = new THREE.Vector3(...point).project(orbit.camera), [width, height] = orbit.size; return [(at.x + 1) * width / 2, (1 - at.y) * height / 2]; },
   };
 }
 
-// Without WebGL the picture is the drawing of `ngc draw`.
+// Without WebGL or three.js the picture is the drawing of `ngc draw`.
 export function makeDrawing(store) {
   const holder = id('view');
   holder.dataset.plain = 'true';

@@ -45,7 +45,7 @@ export function makeSetupSheet(store, picture) {
       h('p', { class: `verdict ${verdict.kind}` }, verdict.title, group && group.blockDelete !== null ? ` (block delete ${blockDelete ? 'on' : 'off'})` : ''),
       picture ? h('img', { src: picture.image('light'), alt: 'The program on the machine' }) : null,
       scene ? columns(group, scene, unit) : null,
-      firstRows(`Tools to set up, ${unit}`, ['Tool', 'Name', 'Cutter', 'Reach below the nose', 'Length offset'], tools.map(it => [`T${it.number}`, it.name, `\u00d8 ${at(it.parts[0].radius * 2)}`, at(-it.bottom), at(it.offset)]), MOST.tools),
+      firstRows(`Tools to set up, ${unit}`, ['Tool', 'Name', 'Cutter', 'Reach below the nose', 'Length offset'], tools.map(it => [`T${it.number}`, it.name, `\u00d8 ${at(it.parts[0].radius * 2)} ${it.cutter}`.trim(), at(-it.bottom), at(it.offset)]), MOST.tools),
       group ? firstRows('Tools in the order of use', TOOL_HEADS, toolRows(group, scene, unit), MOST.uses) : null,
       group ? firstRows('Figures of each tool', FIGURE_HEADS, figureRows(group, unit), MOST.figures) : null,
       warnings.length ? h('ul', {}, warnings.slice(0, MOST.warnings).map(it => h('li', {}, `Warning: ${it.text}${it.line ? `, line ${it.line}` : ''}`)), warnings.length > MOST.warnings ? h('li', {}, `${warnings.length - MOST.warnings} more warnings`) : null) : null,

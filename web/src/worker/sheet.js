@@ -30,6 +30,7 @@ function stockOf(value) {
 }
 function readTool(tool, key, value) {
   if (key === 'length offset') [tool.offset] = numbers(value);
+  if (key === 'cutter') tool.cutter = value;
   if (key !== 'part') return;
   const [low, high] = numbers(value);
   tool.parts.push({ low, high, radius: Number(/diameter (-?[\d.]+) mm/.exec(value)[1]) / 2 });
@@ -47,7 +48,7 @@ export function readSheet(text) {
       section = head[1];
       now = { number: Number(head[2]), name: head[3] ?? '' };
       if (section === 'fixture') scene.fixtures.push(Object.assign(now, { low: [0, 0, 0], high: [0, 0, 0] }));
-      if (section === 'tool') scene.tools.push(Object.assign(now, { offset: 0, parts: [], bottom: 0 }));
+      if (section === 'tool') scene.tools.push(Object.assign(now, { offset: 0, cutter: '', parts: [], bottom: 0 }));
       continue;
     }
     const key = line.slice(0, KEY).trim(), value = line.slice(KEY).trim(), axis = AXES.indexOf(key.slice(-1));
