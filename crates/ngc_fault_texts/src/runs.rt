@@ -149,7 +149,7 @@ pub(crate) fn shell() -> &'static [Row]
             number: 729,
             rule: "`ngc report --cells` needs a block of material: name one with `--stock`, or leave `--cells` out\n\
              (our own).",
-            example: "command `ngc report --cells 1000000` with a machine file without `stock` and a tool table",
+            example: "command `ngc report --cells 1000000` with a machine file without `stock`",
             answer: "`ngc: fault 729`, after a sentence on standard output",
             place: Some("3"),
             mend: "The block may also be in the machine file or in the job file. With more cells the margin is\n\

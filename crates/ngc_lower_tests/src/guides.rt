@@ -19,9 +19,7 @@ fn explanations_have_short_lines(rt: HostRuntime) -> Result<(), Fail> {
         let output = explanation(rt.alloc(), number);
         let text = std::str::from_utf8(output.as_slice()).map_err(|_| "text")?;
         let is_short = text.lines().all(|line| line.chars().count() <= 96);
-        // The example of 729 takes two characters more.
-        let is_nearly = text.lines().all(|line| line.chars().count() <= 98);
-        holds(&rt, &number, is_short || (number == 729 && is_nearly));
+        holds(&rt, &number, is_short);
     }
     Ok(())
 }
