@@ -10,8 +10,6 @@ use Rattle.ngc_canonical.specs.State.{Setup}
 use Rattle.ngc_certificate_text.specs.declared.piece.Setting.{Setting}
 use Rattle.ngc_certificate_text.specs.declared.piece.Setting.TheVariants.{Off, On}
 use Rattle.ngc_certificate_text.specs.Certificate.{Entry, CertificateData}
-use Rattle.ngc_certificate.specs.declared.plan.Plan.{Plan}
-use Rattle.ngc_certificate.specs.Planned.{planned}
 use Rattle.ngc_job.specs.Job.{JobData, IsJobOf, IsRefusedAt, commands_in}
 use Rattle.ngc_checker.specs.declared.fault.CheckFault.{CheckFault}
 use Rattle.ngc_checker.specs.Accepted.{AcceptedData, Answers, IsFirst, Keeps}
@@ -54,9 +52,3 @@ same_settings machine own off on own_off own_on off_entries on_entries c m a b d
     ap (λ (x : MachineFile). settings_fault x (Ok off) (Ok on) c) (sym m)
     ∙ ap₂ (λ (x y : List Command). settings_fault own (Ok x) (Ok y) c) (sym a) (sym b)
     ∙ ap₂ (λ (x y : List Entry). settings_fault own (Ok own_off) (Ok own_on) (record { off = x; on = y })) (sym d) (sym e)
-
--- the motions of equal plans, for equal commands and machines
-pub same_planned : {A : Type 0} (machine own : MachineFile) (commands own_commands : List Command) (plan own_plan : Plan A) →
-    own ≡ machine → own_commands ≡ commands → own_plan ≡ plan → planned own.step own_commands own_plan ≡ planned machine.step commands plan
-same_planned {A} machine own commands own_commands plan own_plan m c p =
-    ap (λ (x : MachineFile). planned x.step own_commands own_plan) m ∙ ap₂ (λ (x : List Command) (y : Plan A). planned machine.step x y) c p

@@ -12,9 +12,9 @@ use std::alloc::Allocator;
 use std::marker::Model;
 
 /// A program that was accepted on a machine with its tools: its commands at both settings of block
-/// delete, and its own copies of machine and tools. There is a certificate that is valid for them.
-/// Only `check`, `check_job`, `check_plans`, `check_source`, `check_job_source` and `CheckReader` make
-/// one.
+/// delete, and its own copies of machine and tools. There is a certificate that is valid for them:
+/// `check`, `check_job`, `check_source`, `check_job_source` and `CheckReader` find out whether one is,
+/// and a caller of `new` has proved it.
 #[derive(Drop)]
 pub struct Accepted<A: Allocator> {
     job: Job<A>,
@@ -32,7 +32,9 @@ impl<A: Allocator> Model for Accepted<A> {
 }
 
 impl<A: Allocator> Accepted<A> {
-    pub(crate) fn new(job: Job<A>) -> Accepted<A>
+    /// Returns a job as accepted for which a certificate is valid at both settings of block delete.
+    /// Nothing is tested: the `requires` says it.
+    pub fn new(job: Job<A>) -> Accepted<A>
         requires { IsAccepted (accepted_of job) }
         ensures { result ≡ accepted_of job }
     {

@@ -6,9 +6,7 @@ ghost use Rattle.ngc_machine_files.specs.Machine.{file_of};
 ghost use Rattle.ngc_canonical.specs.Interpreter.{setup_of};
 ghost use Rattle.ngc_canonical.specs.Meaning.{parsed_program};
 ghost use Rattle.ngc_commands.specs.Sequence.{COMMAND_LIMIT};
-ghost use Rattle.ngc_certificate.specs.Plans.{both_planned};
 ghost use Rattle.ngc_certificate.specs.Valid.{IsValid};
-ghost use Rattle.ngc_certificate_text.specs.Certificate.{AreEntries};
 ghost use Rattle.ngc_certificate_text.specs.Contents.{certificate_data};
 ghost use Rattle.ngc_checker.specs.FirstRefusal.{settings_fault};
 ghost use Rattle.ngc_checker.specs.Accepted.{Answers};
@@ -19,7 +17,7 @@ use crate::accepted::Accepted;
 use crate::fault::CheckFault;
 use crate::setting::setting_fault;
 use ngc_canonical::ProgramFault;
-use ngc_certificate::{Plans, Setting};
+use ngc_certificate::Setting;
 use ngc_certificate_text::{Certificate, MotionList};
 use ngc_commands::Command;
 use ngc_job::{Job, JobFault};
@@ -83,39 +81,6 @@ pub fn check_job<A: Allocator>(
     let off_motions = certificate.motions(Setting::Off);
     let on_motions = certificate.motions(Setting::On);
     match settings_fault(job.machine(), off, on, off_motions, on_motions) {
-        Some(fault) => Err(fault),
-        None => Ok(Accepted::new(job)),
-    }
-}
-
-/// Checks the same as `check_job`, for the motions of plans in place of a certificate. It allocates
-/// no memory.
-///
-/// The plans are those of the job's commands.
-pub fn check_plans<A: Allocator>(job: Job<A>, plans: &Plans<A>) -> Result<Accepted<A>, CheckFault>
-    requires off_are { AreEntries
-        (both_planned job.machine.step job.off (commands_in true job) plans.now).off }
-    requires on_are { AreEntries
-        (both_planned job.machine.step job.off (commands_in true job) plans.now).on }
-    ensures verdict { MatchResult result
-        (λ a. (settings_fault job.machine (Ok job.off) (Ok (commands_in true job))
-        (both_planned job.machine.step job.off (commands_in true job) plans.now) ≡ None)
-        × (a ≡ accepted_of job))
-        (λ fault. settings_fault job.machine (Ok job.off) (Ok (commands_in true job))
-        (both_planned job.machine.step job.off (commands_in true job) plans.now) ≡ Some fault) }
-    // Plans whose motions are valid for the job are accepted.
-    ensures accepts { IsValid job.machine job.off
-        (both_planned job.machine.step job.off (commands_in true job) plans.now).off →
-        IsValid job.machine (commands_in true job)
-        (both_planned job.machine.step job.off (commands_in true job) plans.now).on →
-        MatchResult result (λ a. Unit {0}) (λ fault. ⊥) }
-{
-    let machine = job.machine();
-    let off = job.commands(false);
-    let on = job.commands(true);
-    let off_motions = plans.plan(Setting::Off).motions(off, machine.step);
-    let on_motions = plans.plan(Setting::On).motions(on, machine.step);
-    match settings_fault(machine, off, on, &off_motions, &on_motions) {
         Some(fault) => Err(fault),
         None => Ok(Accepted::new(job)),
     }

@@ -17,7 +17,7 @@ mod setting_judge;
 pub use accepted::Accepted;
 pub use check_fault::CheckReadFault;
 pub use check_reader::CheckReader;
-pub use checker::{check, check_job, check_plans};
+pub use checker::{check, check_job};
 pub use fault::CheckFault;
 pub use ngc_certificate::MemoryFault;
 pub use read::{check_job_source, check_source};

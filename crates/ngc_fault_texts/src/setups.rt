@@ -35,7 +35,9 @@ pub(crate) fn setup() -> &'static [Row]
             example: "machine file `step = 499`",
             answer: "`ngc: fault 262 machine`",
             place: None,
-            mend: "A step of 0.01 mm is `step = 10000`. In version 3 the `motor` of each axis says its step.",
+            mend: "A step of 0.01 mm is `step = 10000`. In version 3 the `motor` of each axis says its step. Where\n\
+             it isn't a whole number of nanometres, it is rounded to one. If that is off by more than a step\n\
+             over the travel, `ngc machine --steps-per-mm` makes a file for the machine.",
         },
         Row {
             number: 263,
@@ -108,14 +110,14 @@ pub(crate) fn setup() -> &'static [Row]
         Row {
             number: 269,
             rule: "The machine file isn't TOML, or a key is missing, unknown or has a value of the wrong kind:\n\
-             `ngc show` says which key it is.\n\
-             Numbers are whole, three of them for a position.",
+             `ngc show` says which key it is.",
             example: "machine file `step = 0.01`",
             answer: "`ngc: fault 269 machine`",
             place: None,
-            mend: "Write lengths in whole nanometres: `step = 10000` for 0.01 mm. `axis_rate` has three numbers,\n\
-             and is only in version 2. `dialect`, the name of a control, and the table `stock` are in\n\
-             versions 2 and 3. In version 3 write `\"0.01 mm\"`.",
+            mend: "The key `version` says how the others are written. In version 3 a length has its unit, as in\n\
+             `\"0.01 mm\"`. In versions 1 and 2 numbers are whole, three of them for a position, and lengths\n\
+             in nanometres: `step = 10000` for 0.01 mm. `axis_rate` is only in version 2, `dialect` and the\n\
+             table `stock` in versions 2 and 3.",
         },
         Row {
             number: 269,

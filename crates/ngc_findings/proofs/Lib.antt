@@ -1,5 +1,7 @@
 -- Tests of whole numbers.
 pub mod Tests
+-- Something is counted exactly if it is found.
+pub mod CountedAtAll
 -- The result over a list, one element further.
 pub mod Folds
 -- The commands concerned, counted one by one.

@@ -1,5 +1,5 @@
 -- The uses of tools in a program. Our own.
-use Rattle.std.specs.Prelude.{ℕ, nat_lt, List, [], ◌∷◌, ◌++◌, count_by, sum_by, take_while, Option}
+use Rattle.std.specs.Prelude.{◌≡◌, ℕ, nat_lt, List, [], ◌∷◌, ◌++◌, count_by, sum_by, take_while, Option}
 use Rattle.std.specs.Prelude.{Some, None, Bool, true, false, not, ◌||◌, if◌then◌else◌}
 use Rattle.ngc_machine_files.specs.declared.tools.Tool.{Tool}
 use Rattle.ngc_commands.specs.declared.command.Action.{Action}
@@ -122,4 +122,11 @@ tool_uses commands = with_first (first_use (use_of None commands)) (changes comm
 
 -- the remaining uses
 abbrev pub uses_left : ToolUses → List ToolUse
-uses_left uses = with_first uses.first (changes uses.later.now)
+uses_left uses =
+    with_first (if uses.first then Some (use_of None uses.later.now) else None)
+    (changes uses.later.now)
+
+-- the tool of the next use
+pub record IsNextTool (old : ToolUses) (tool : Option Tool) (new : ToolUses) : Type 0 where
+  pub commands : List Command
+  pub next : uses_left old ≡ use_of tool commands ∷ uses_left new

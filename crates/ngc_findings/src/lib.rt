@@ -28,5 +28,5 @@ pub use scene::{Met, Obstacle, Scene};
 pub use shifts::{AxisShift, Shifts};
 pub use standing::Standing;
 pub use travel::{AxisSpace, Room};
-pub use uses::{ToolUse, ToolUses};
+pub use uses::{ToolUse, ToolUses, moves_first};
 pub use warnings::{Concern, Warning, warning_about};

@@ -1,8 +1,9 @@
 //! The uses of tools in a program.
-ghost use Rattle.std.specs.Prelude.{◌≡◌, ◌^◌, ◌<◌, ◌∷◌, [], MatchOption, count_by, sum_by};
+ghost use Rattle.std.specs.Prelude.{◌≡◌, ◌^◌, ◌<◌, ◌∷◌, [], ◌||◌, MatchOption, None, count_by, sum_by};
+ghost use Rattle.std.specs.List.{list_any};
 ghost use Rattle.ngc_findings.specs.Uses.{is_change, is_traverse, is_feed, is_arc, is_dwell, is_stop};
 ghost use Rattle.ngc_findings.specs.Uses.{traversed, fed, stretch, use_of, moves, changes, tool_uses};
-ghost use Rattle.ngc_findings.specs.Uses.{uses_left};
+ghost use Rattle.ngc_findings.specs.Uses.{uses_left, IsNextTool};
 
 use crate::ways::length_of;
 use ngc_commands::{Action, Command, Motion, Pace, Way};
@@ -31,7 +32,7 @@ pub struct ToolUse {
 /// moves before the first change, and then one for each change. The iteration allocates no memory.
 #[derive(Drop)]
 pub struct ToolUses<'a> {
-    first: Option<ToolUse>,
+    first: bool,
     later: &'a [Command],
 }
 
@@ -187,6 +188,39 @@ fn stops_in(commands: &[Command]) -> usize
     commands.iter().filter(|c| is_stop(c)).count()
 }
 
+fn has_traverse(commands: &[Command]) -> bool
+    ensures { result ≡ list_any is_traverse commands.now }
+{
+    commands.iter().any(|c| is_traverse(c))
+}
+
+fn has_feed(commands: &[Command]) -> bool
+    ensures { result ≡ list_any is_feed commands.now }
+{
+    commands.iter().any(|c| is_feed(c))
+}
+
+fn has_arc(commands: &[Command]) -> bool
+    ensures { result ≡ list_any is_arc commands.now }
+{
+    commands.iter().any(|c| is_arc(c))
+}
+
+fn has_motion(commands: &[Command]) -> bool
+    ensures { result ≡ (list_any is_traverse commands.now
+        || (list_any is_feed commands.now || list_any is_arc commands.now)) }
+{
+    has_traverse(commands) || has_feed(commands) || has_arc(commands)
+}
+
+/// Returns whether something moves before the first change of the tool.
+pub fn moves_first(commands: &[Command]) -> bool
+    ensures { result ≡ moves (use_of None commands.now) }
+{
+    let before = stretch(commands);
+    has_motion(before)
+}
+
 impl ToolUse {
     /// Returns the use of a tool that is mounted before these commands.
     pub fn of(tool: Option<Tool>, commands: &[Command]) -> ToolUse
@@ -203,13 +237,6 @@ impl ToolUse {
             dwells: dwells_in(commands),
             stops: stops_in(commands),
         }
-    }
-
-    /// Returns whether there is a motion.
-    pub fn moves(&self) -> bool
-        ensures { result ≡ moves self.now }
-    {
-        0 < self.traverses || 0 < self.feeds || 0 < self.arcs
     }
 }
 
@@ -231,9 +258,8 @@ impl<'a> ToolUses<'a> {
     pub fn new(commands: &'a [Command]) -> ToolUses<'a>
         ensures { uses_left result ≡ tool_uses commands.now }
     {
-        let bare = ToolUse::of(None, commands);
         ToolUses {
-            first: if bare.moves() { Some(bare) } else { None },
+            first: moves_first(commands),
             later: commands,
         }
     }
@@ -243,15 +269,34 @@ impl<'a> ToolUses<'a> {
         ensures { MatchOption result (uses_left self.old ≡ [])
             (λ u. uses_left self.old ≡ u ∷ uses_left self.new) }
     {
-        if let Some(first) = self.first {
-            self.first = None;
-            return Some(first);
+        if self.first {
+            self.first = false;
+            return Some(ToolUse::of(None, self.later));
         }
         match next_change(self.later) {
             None => None,
             Some((tool, later)) => {
                 self.later = later;
                 Some(ToolUse::of(tool, later))
+            }
+        }
+    }
+
+    /// Returns the tool of the next use, `None` within for no tool, or `None` after the last use.
+    /// It takes less time than the whole use.
+    pub fn next_tool(&mut self) -> Option<Option<Tool>>
+        ensures { MatchOption result (uses_left self.old ≡ [])
+            (λ tool. IsNextTool self.old tool self.new) }
+    {
+        if self.first {
+            self.first = false;
+            return Some(None);
+        }
+        match next_change(self.later) {
+            None => None,
+            Some((tool, later)) => {
+                self.later = later;
+                Some(tool)
             }
         }
     }

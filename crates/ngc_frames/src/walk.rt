@@ -131,54 +131,47 @@ impl FrameWalk {
         FrameWalk::fresh(&history.start)
     }
 
-    // Returns a walk that isn't past a command: this one, or one at the start.
-    fn before(&self, start: &Frame, changes: &[FrameChange], command: usize) -> FrameWalk
-        requires { WalksOver start.now changes.now self.now }
-        ensures walks { WalksOver start.now changes.now result }
-        ensures ahead { result.command ≤ command }
+    // Goes back to the start if the walk is past a command.
+    fn go_back(&mut self, start: &Frame, changes: &[FrameChange], command: usize)
+        requires { WalksOver start.now changes.now self.old }
+        ensures walks { WalksOver start.now changes.now self.new }
+        ensures ahead { self.new.command ≤ command }
     {
         if command < self.command {
-            FrameWalk::fresh(start)
-        } else {
-            *self
+            *self = FrameWalk::fresh(start);
         }
     }
 
-    // Returns the walk after the next change.
-    fn after(&self, change: &FrameChange) -> FrameWalk
-        requires { self.now.passed < 2 ^ 63 }
-        ensures passed { result.passed ≡ self.now.passed + 1 }
-        ensures command { result.command ≡ self.now.command }
-        ensures frame { result.frame ≡ change.now.frame }
-        ensures set { (part : FramePart) → set_line result.set part
-            ≡ set_by part (set_line self.now.set part) self.now.frame change.now }
+    // Passes the next change.
+    fn pass(&mut self, change: &FrameChange)
+        requires { self.old.passed < 2 ^ 63 }
+        ensures passed { self.new.passed ≡ self.old.passed + 1 }
+        ensures command { self.new.command ≡ self.old.command }
+        ensures frame { self.new.frame ≡ change.now.frame }
+        ensures set { (part : FramePart) → set_line self.new.set part
+            ≡ set_by part (set_line self.old.set part) self.old.frame change.now }
     {
-        FrameWalk {
-            passed: self.passed + 1,
-            command: self.command,
-            frame: change.frame,
-            set: self.set.after(&self.frame, change),
-        }
+        self.set = self.set.after(&self.frame, change);
+        self.frame = change.frame;
+        self.passed += 1;
     }
 
-    // Returns the walk after all changes before a command.
-    fn up_to(&self, start: &Frame, changes: &[FrameChange], command: usize) -> FrameWalk
-        requires walks { WalksOver start.now changes.now self.now }
-        requires ahead { self.now.command ≤ command }
-        ensures walks { WalksOver start.now changes.now result }
-        ensures frame { result.frame ≡ frame_at start.now changes.now command }
+    // Passes all changes before a command.
+    fn go_on(&mut self, start: &Frame, changes: &[FrameChange], command: usize)
+        requires walks { WalksOver start.now changes.now self.old }
+        requires ahead { self.old.command ≤ command }
+        ensures walks { WalksOver start.now changes.now self.new }
+        ensures frame { self.new.frame ≡ frame_at start.now changes.now command }
         ensures set { (part : FramePart) →
-            set_line result.set part ≡ line_that_set part command 0 start.now changes.now }
+            set_line self.new.set part ≡ line_that_set part command 0 start.now changes.now }
     {
-        let mut walk = *self;
-        walk.command = command;
+        self.command = command;
         for change in &changes[self.passed..] {
             if !is_up_to(change, command) {
-                return walk;
+                return;
             }
-            walk = walk.after(change);
+            self.pass(change);
         }
-        walk
     }
 
     /// Returns the frame by which a command is executed, counted from 0, with the lines that set its
@@ -194,8 +187,8 @@ impl FrameWalk {
         ensures walks { WalksOver history.now.start history.now.changes.items self.new }
     {
         let changes = history.changes.as_slice();
-        let from = self.before(&history.start, changes, command);
-        *self = from.up_to(&history.start, changes, command);
+        self.go_back(&history.start, changes, command);
+        self.go_on(&history.start, changes, command);
         self.here()
     }
 

@@ -66,6 +66,19 @@ name_of keys.StockTo = codes "to"
 name_of keys.StockSize = codes "size"
 name_of (keys.Tool key) = tools.name_of key
 
+-- another name under which people know a key; that of a key without one is its own
+abbrev pub other_name_of : Key → List ℕ
+other_name_of keys.Changer = codes "tool_changer"
+other_name_of (keys.Motor _) = codes "steps"
+other_name_of (keys.Acceleration _) = codes "accel"
+other_name_of keys.Fixtures = codes "clamp"
+other_name_of (keys.Fixture _) = codes "clamp"
+other_name_of (keys.FixtureSize _) = codes "width"
+other_name_of keys.Stock = codes "material"
+other_name_of keys.StockSize = codes "width"
+other_name_of (keys.Tool key) = tools.other_name_of key
+other_name_of key = name_of key
+
 -- ---- the keys of tables whose place in the file counts
 
 abbrev pub axis_keys : AxisName → List Key

@@ -22,3 +22,14 @@ name_of (keys.Holder n) = codes "holder"
 name_of (keys.Part n part) = codes "holder"
 name_of (keys.PartDiameter n part) = codes "diameter"
 name_of (keys.PartLength n part) = codes "length"
+
+-- another name under which people know a key; that of a key without one is its own
+abbrev pub other_name_of : ToolKey → List ℕ
+other_name_of (keys.Number n) = codes "id"
+other_name_of (keys.Diameter n) = codes "dia"
+other_name_of (keys.PartDiameter n part) = codes "dia"
+other_name_of (keys.Flute n) = codes "flute_length"
+other_name_of (keys.Cutter n) = codes "type"
+other_name_of (keys.Speed n) = codes "rpm"
+other_name_of (keys.Feed n) = codes "feedrate"
+other_name_of key = name_of key

@@ -140,6 +140,23 @@ impl Key {
             Key::Tool(key) => key.name(),
         }
     }
+
+    /// Returns another name under which people know the key, as `clamp`. That of a key without one is its
+    /// own. No file has such a name.
+    pub(crate) fn other_name(self) -> &'static str
+        ensures { result.now ≡ spec.other_name_of self }
+    {
+        match self {
+            Key::Changer => "tool_changer",
+            Key::Motor(_) => "steps",
+            Key::Acceleration(_) => "accel",
+            Key::Fixtures | Key::Fixture(_) => "clamp",
+            Key::FixtureSize(_) | Key::StockSize => "width",
+            Key::Stock => "material",
+            Key::Tool(key) => key.other_name(),
+            _ => self.name(),
+        }
+    }
 }
 
 // The keys of each table, in the order of the format's example.

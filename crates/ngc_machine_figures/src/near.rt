@@ -11,6 +11,7 @@ fn is_called(word: &[u8], key: Key) -> bool
     ensures { result ≡ spec.is_called word.now key }
 {
     word.eq_ignore_ascii_case(key.name().as_bytes())
+        || word.eq_ignore_ascii_case(key.other_name().as_bytes())
 }
 
 fn is_near(word: &[u8], key: Key) -> bool
@@ -47,8 +48,8 @@ fn nearest(word: &[u8], keys: &[Key]) -> Option<Key>
     }
 }
 
-/// Returns the key that a word means: it is the key's name but for capitals, or also but for one letter
-/// more, less or other, or two letters in each other's place.
+/// Returns the key that a word means: it is a name of the key but for capitals, or the key's own name also
+/// but for one letter more, less or other, or two letters in each other's place.
 #[tactic(auto, unfolding(crate::specs::Near::meant))]
 pub(crate) fn meant(word: &str, keys: &[Key]) -> Option<Key>
     ensures { result ≡ spec.meant word.now keys.now }

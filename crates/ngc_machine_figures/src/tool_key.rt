@@ -51,6 +51,22 @@ impl ToolKey {
             ToolKey::Holder(_) | ToolKey::Part { .. } => "holder",
         }
     }
+
+    /// Returns another name under which people know the key, as `rpm`. That of a key without one is its
+    /// own. No file has such a name.
+    pub(crate) fn other_name(self) -> &'static str
+        ensures { result.now ≡ spec.other_name_of self }
+    {
+        match self {
+            ToolKey::Number(_) => "id",
+            ToolKey::Diameter(_) | ToolKey::PartDiameter { .. } => "dia",
+            ToolKey::Flute(_) => "flute_length",
+            ToolKey::Cutter(_) => "type",
+            ToolKey::Speed(_) => "rpm",
+            ToolKey::Feed(_) => "feedrate",
+            _ => self.name(),
+        }
+    }
 }
 
 /// What only a tool table may have wrong.

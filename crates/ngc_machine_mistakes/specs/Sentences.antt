@@ -53,8 +53,8 @@ range_text _ = codes "a number is out of its range"
 
 unfoldable pub error_text : AxisName → ℕ → List ℕ
 error_text axis nanometres =
-    axis_text axis ++ codes ".motor: a step of whole nanometres is off by " ++ decimal nanometres
-    ++ codes " nm over the travel"
+    axis_text axis ++ codes ".motor: rounded to nanometres it is off by " ++ decimal nanometres
+    ++ codes " nm over the travel: use `ngc machine`"
 
 -- a key that can't be read has a text of its own
 unfoldable pub figures_text : WrittenRefusal → List ℕ

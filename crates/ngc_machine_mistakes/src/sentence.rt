@@ -91,7 +91,7 @@ fn say_error<W: Sink>(axis: AxisName, nanometres: u64, page: &mut Page, output: 
         (W.failures output.old) (W.failures output.new) page.old page.new
         (spec.error_text axis nanometres) }
 {
-    say!(page, output; Part::Text(axis_text(axis)), b".motor: a step of whole nanometres is off by ", Part::Number(nanometres as u128), b" nm over the travel");
+    say!(page, output; Part::Text(axis_text(axis)), b".motor: rounded to nanometres it is off by ", Part::Number(nanometres as u128), b" nm over the travel: use `ngc machine`");
 }
 
 // Says what is wrong with a figure. A key that can't be read is none.

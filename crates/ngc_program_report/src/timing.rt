@@ -2,7 +2,6 @@
 ghost use Rattle.std.specs.Prelude.{◌≡◌, IfErr, IfOk, true};
 ghost use Rattle.ngc_certificate.specs.Valid.{IsValid};
 ghost use Rattle.ngc_certificate.specs.Plans.{both_planned};
-ghost use Rattle.ngc_certificate_text.specs.Certificate.{AreEntries};
 ghost use Rattle.ngc_checker.specs.Accepted.{commands_at};
 ghost use Rattle.ngc_checker.specs.Held.{accepted_of};
 ghost use Rattle.ngc_job.specs.Job.{commands_in};
@@ -11,28 +10,22 @@ ghost use Rattle.ngc_program_report.specs.Texts.{LastsFor};
 use crate::program_time::ProgramTime;
 use crate::run_time::RunTime;
 use ngc_certificate::Plans;
-use ngc_checker::{Accepted, check_plans};
+use ngc_checker::Accepted;
 use ngc_job::Job;
 use ngc_report::ReportFault;
 use ngc_run_through::time_through;
 use std::alloc::Allocator;
 
-/// Accepts a job with plans whose motions are valid for it.
+/// Accepts a job with plans whose motions are valid for it, as those are that were made for it. So
+/// nothing is tested again.
 pub(crate) fn accept<A: Allocator>(job: Job<A>, plans: &Plans<A>) -> Accepted<A>
-    requires off_are { AreEntries
-        (both_planned job.machine.step job.off (commands_in true job) plans.now).off }
-    requires on_are { AreEntries
-        (both_planned job.machine.step job.off (commands_in true job) plans.now).on }
     requires off { IsValid job.machine job.off
         (both_planned job.machine.step job.off (commands_in true job) plans.now).off }
     requires on { IsValid job.machine (commands_in true job)
         (both_planned job.machine.step job.off (commands_in true job) plans.now).on }
     ensures { result ≡ accepted_of job }
 {
-    match check_plans(job, plans) {
-        Ok(accepted) => accepted,
-        Err(_) => unreachable!(),
-    }
+    Accepted::new(job)
 }
 
 /// Returns the time of an accepted program, at a setting of block delete, together with the

@@ -9,7 +9,7 @@ use crate::program_time::ProgramTime;
 use crate::report_time::{clock_of, seconds_of};
 use crate::run_time::RunTime;
 use ngc_commands::Command;
-use ngc_findings::{ToolUse, ToolUses};
+use ngc_findings::{ToolUses, moves_first};
 use ngc_machine_files::Tool;
 use ngc_report::Form;
 use ngc_sentences::{Page, Part, say};
@@ -60,7 +60,7 @@ fn say_use_time<W: Sink>(
 fn ticks_counted<'a>(commands: &[Command], parts: &'a [u128]) -> &'a [u128]
     ensures { result.now ≡ ticks_counted commands.now parts.now }
 {
-    if ToolUse::of(None, commands).moves() {
+    if moves_first(commands) {
         return parts;
     }
     match parts.split_first() {
@@ -83,13 +83,13 @@ pub(crate) fn say_use_times<A: Allocator, W: Sink>(
 {
     let mut uses = ToolUses::new(commands);
     let mut left = ticks_counted(commands, time.parts.as_slice());
-    while let Some(one) = uses.next_use() {
+    while let Some(tool) = uses.next_tool() {
         let Some((ticks, later)) = left.split_first() else {
             return;
         };
         let mut lasts = time.whole;
         lasts.ticks = *ticks;
-        say_use_time(form, &one.tool, &lasts, page, output);
+        say_use_time(form, &tool, &lasts, page, output);
         left = later;
     }
 }

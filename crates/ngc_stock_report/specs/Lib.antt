@@ -1,4 +1,5 @@
 pub mod Placed
 pub mod Walked
 pub mod Texts
+pub mod Cautions
 pub mod Silent

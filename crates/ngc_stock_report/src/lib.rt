@@ -3,6 +3,7 @@
 #![tactic(auto)]
 
 mod arcs;
+mod caution;
 mod cells;
 mod grids;
 pub mod laws;
@@ -10,6 +11,7 @@ mod placed;
 mod walked;
 mod written;
 
+pub use caution::write_caution;
 pub use cells::USUAL_CELLS;
 pub use walked::{Walk, find_walk};
 pub use written::write_material;

@@ -28,7 +28,7 @@ remark_text (slips.LowChange from to) =
     ++ codes " in the machine"
 remark_text (slips.Drop below) = mm_text below ++ codes " below it"
 remark_text slips.BareChange =
-    codes "M6 doesn't wait, so write M0 before it, or `changer = 1` in the machine file"
+    codes "M6 doesn't wait, so write M0 before it, or the key `changer` in the machine file"
 
 abbrev pub sign_text : ℤ → List ℕ
 sign_text (pos n) = []

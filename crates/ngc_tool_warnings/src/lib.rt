@@ -7,7 +7,7 @@
 //! ```text
 //! warning: changes to a longer tool below the height of the start: 1, the first in line 8: the tip goes from Z -65 mm to Z -110 mm in the machine.
 //! warning: traverses straight down below the start of the tool's first feed: 2, the first in line 14: 15 mm below it.
-//! warning: tool changes without a stop: 1, the first in line 8: M6 doesn't wait, so write M0 before it, or `changer = 1` in the machine file.
+//! warning: tool changes without a stop: 1, the first in line 8: M6 doesn't wait, so write M0 before it, or the key `changer` in the machine file.
 //! ```
 #![tactic(auto)]
 

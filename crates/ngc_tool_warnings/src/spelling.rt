@@ -36,7 +36,7 @@ fn say_remark<W: Sink>(slip: &Slip, page: &mut Page, output: &mut W)
             say!(page, output; b"the tip goes from Z ", millimetres(from), b" to Z ", millimetres(to), b" in the machine"),
         Slip::Drop { below } => say!(page, output; millimetres(below), b" below it"),
         Slip::BareChange =>
-            say!(page, output; b"M6 doesn't wait, so write M0 before it, or `changer = 1` in the machine file"),
+            say!(page, output; b"M6 doesn't wait, so write M0 before it, or the key `changer` in the machine file"),
     }
 }
 
