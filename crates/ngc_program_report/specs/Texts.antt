@@ -45,6 +45,7 @@ use Rattle.ngc_origin_warnings.specs.Missing.{missing_text}
 use Rattle.ngc_origin_warnings.specs.Warnings.{origin_warnings}
 use Rattle.ngc_tool_figures.specs.Texts.{figures_text}
 use Rattle.ngc_tool_warnings.specs.Spelling.{tool_warnings}
+use Rattle.ngc_stock_report.specs.Cautions.{caution_text}
 use Rattle.ngc_stock_report.specs.Texts.{material_text}
 use Rattle.ngc_stock_report.specs.Walked.{IsWalked, WalkData}
 use Rattle.ngc_setup_sheet.specs.Sheets.{warning_facts, warnings_text}
@@ -163,12 +164,17 @@ remarks form s setup h commands lines =
     tips_text form (lowest_tips setup.tools h.start h.changes commands)
     ++ warnings form s setup h commands lines
 
+-- the text before what fits at a setting: its heading, and how many motions may touch the material
+abbrev pub front_text : Form → OriginList → Kept → Bool → Bool → Setting → Option WalkData → List ℕ
+front_text form origins kept first named s material =
+    heading form origins kept first named s ++ caution_text form material
+
 -- what fits at a setting, the time and the figures of the tools there, the lowest heights, the
 -- warnings, and which traverses may touch the material
 abbrev pub setting_text : Form → OriginList → Bool → Bool → Setting → Setup → List Command →
     List Entry → Findings → History → ReportedLines → List ℕ
 setting_text form origins first named s setup commands motions found h lines =
-    heading form origins (kept_by setup.machine) first named s
+    front_text form origins (kept_by setup.machine) first named s found.material
     ++ (report_text form (fit_lines setup.machine commands motions)
     ++ (duration_text form setup.tools commands found.time
     ++ (remarks form s setup h commands lines

@@ -9,7 +9,8 @@ ghost use Rattle.ngc_program_report.specs.Coordinates.{history_of};
 ghost use Rattle.ngc_dialect_note_texts.specs.Texts.{notes_text};
 ghost use Rattle.ngc_length_warnings.specs.Spelling.{length_warnings};
 ghost use Rattle.ngc_program_report.specs.Reported.{noted_by, notes_at, reported};
-ghost use Rattle.ngc_program_report.specs.Texts.{accepted_text, duration_text, findings, is_on, language_warnings, remarks};
+ghost use Rattle.ngc_margins.specs.Lines.{kept_by};
+ghost use Rattle.ngc_program_report.specs.Texts.{accepted_text, duration_text, findings, front_text, is_on, language_warnings, remarks};
 ghost use Rattle.ngc_program_report.specs.Texts.{setting_text, shop_text, takes_line, tool_figures};
 ghost use Rattle.ngc_program_report.specs.Texts.{warnings};
 ghost use Rattle.ngc_program_report.specs.Times.{uses_text};
@@ -37,7 +38,7 @@ use ngc_origins::Origins;
 use ngc_report::{Form, write_fit, write_warnings};
 use ngc_sentences::Page;
 use ngc_setup_sheet::{write_warning_facts, write_warnings as write_shop_warnings};
-use ngc_stock_report::write_material;
+use ngc_stock_report::{write_caution, write_material};
 use ngc_text::{Sink, WriteFault, write_all};
 use ngc_tool_figures::write_tool_figures;
 use ngc_tool_warnings::write_tool_warnings;
@@ -225,6 +226,23 @@ fn write_stock<A: Allocator, W: Sink>(
     write_material(form, machine, tools, commands, &fit.material, output)
 }
 
+// Writes the heading of a setting, and how many motions may touch the material.
+fn write_front<A: Allocator, W: Sink>(
+    subject: &Subject<A>,
+    heading: Heading,
+    fit: &Fit<A>,
+    output: &mut W,
+) -> Result<(), WriteFault>
+    ensures { Writes (W.written output.old) (W.written output.new) (W.failures output.old)
+        (W.failures output.new) result
+        (front_text subject.now.form subject.now.origins.now (kept_by (file_of subject.now.machine.now))
+        heading.first heading.named heading.setting fit.now.material) }
+{
+    let form = subject.form;
+    write_heading(form, subject.origins, subject.machine, heading, output)?;
+    write_caution(form, &fit.material, output)
+}
+
 // Writes what fits at a setting, the time and the figures of the tools there, the lowest heights,
 // the warnings, and which traverses may touch the material.
 fn write_setting<A: Allocator, M: MotionList, W: Sink>(
@@ -247,7 +265,7 @@ fn write_setting<A: Allocator, M: MotionList, W: Sink>(
         (reported subject.now.text.now)) }
 {
     let form = subject.form;
-    write_heading(form, subject.origins, subject.machine, heading, output)?;
+    write_front(subject, heading, fit, output)?;
     write_fit(form, subject.machine, commands, motions, output)?;
     write_duration(form, subject.tools, commands, &fit.time, output)?;
     let history = fit.history;

@@ -14,13 +14,13 @@ abbrev pub found_text : List ℕ → List Found → List ℕ
 found_text what [] = []
 found_text what (f ∷ fs) = first_text what (length (f ∷ fs)) f
 
-unfoldable pub walk_caution : WalkData → List ℕ
-walk_caution w =
-    found_text (codes "warning: traverses that may touch the material: ") w.found
-    ++ found_text (codes "warning: feeds where the shank or holder may touch the material: ") w.feeds
+unfoldable pub walk_caution : List Found → List Found → List ℕ
+walk_caution traverses feeds =
+    found_text (codes "warning: traverses that may touch the material: ") traverses
+    ++ found_text (codes "warning: feeds where the shank or holder may touch the material: ") feeds
 
 -- facts have none: their order says nothing
 abbrev pub caution_text : Form → Option WalkData → List ℕ
-caution_text Words (Some w) = walk_caution w
+caution_text Words (Some w) = walk_caution w.found w.feeds
 caution_text Words None = []
 caution_text Json walk = []

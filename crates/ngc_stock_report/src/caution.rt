@@ -13,13 +13,7 @@ use ngc_sentences::{Page, Part, say};
 use ngc_text::{Sink, WriteFault};
 use std::alloc::Allocator;
 
-fn say_first<W: Sink>(
-    what: &[u8],
-    count: usize,
-    first: &Found,
-    page: &mut Page,
-    output: &mut W,
-)
+fn say_first<W: Sink>(what: &[u8], count: usize, first: &Found, page: &mut Page, output: &mut W)
     ensures { Says (W.written output.old) (W.written output.new)
         (W.failures output.old) (W.failures output.new) page.old page.new
         (spec.first_text what.now count first.now) }
@@ -39,13 +33,11 @@ fn say_found<W: Sink>(what: &[u8], found: &[Found], page: &mut Page, output: &mu
 }
 
 #[tactic(auto, unfolding(crate::specs::Cautions::walk_caution))]
-fn say_walk<A: Allocator, W: Sink>(walk: &Walk<A>, page: &mut Page, output: &mut W)
+fn say_walk<W: Sink>(traverses: &[Found], feeds: &[Found], page: &mut Page, output: &mut W)
     ensures { Says (W.written output.old) (W.written output.new)
         (W.failures output.old) (W.failures output.new) page.old page.new
-        (spec.walk_caution walk.now) }
+        (spec.walk_caution traverses.now feeds.now) }
 {
-    let traverses = walk.touches.traverses.as_slice();
-    let feeds = walk.touches.feeds.as_slice();
     say_found(
         b"warning: traverses that may touch the material: ",
         traverses,
@@ -58,6 +50,22 @@ fn say_walk<A: Allocator, W: Sink>(walk: &Walk<A>, page: &mut Page, output: &mut
         page,
         output,
     );
+}
+
+fn say_caution<A: Allocator, W: Sink>(walk: &Option<Walk<A>>, page: &mut Page, output: &mut W)
+    ensures { Says (W.written output.old) (W.written output.new)
+        (W.failures output.old) (W.failures output.new) page.old page.new
+        (spec.caution_text Form.Words walk.now) }
+{
+    match walk {
+        Some(walk) => say_walk(
+            walk.touches.traverses.as_slice(),
+            walk.touches.feeds.as_slice(),
+            page,
+            output,
+        ),
+        None => {}
+    }
 }
 
 /// Writes how many straight traverses and feeds may touch material, and the lines of the first ones. This
@@ -77,8 +85,9 @@ pub fn write_caution<A: Allocator, W: Sink>(
     ensures counts { CountsFailure (W.failures output.old) (W.failures output.new) result }
 {
     let mut page = Page::new();
-    if let (Form::Words, Some(walk)) = (form, walk) {
-        say_walk(walk, &mut page, output);
+    match form {
+        Form::Words => say_caution(walk, &mut page, output),
+        Form::Json => {}
     }
     page.finish(output)
 }
