@@ -52,7 +52,7 @@ fn say_walk<W: Sink>(traverses: &[Found], feeds: &[Found], page: &mut Page, outp
     );
 }
 
-fn say_caution<A: Allocator, W: Sink>(walk: &Option<Walk<A>>, page: &mut Page, output: &mut W)
+fn say_words<A: Allocator, W: Sink>(walk: &Option<Walk<A>>, page: &mut Page, output: &mut W)
     ensures { Says (W.written output.old) (W.written output.new)
         (W.failures output.old) (W.failures output.new) page.old page.new
         (spec.caution_text Form.Words walk.now) }
@@ -65,6 +65,22 @@ fn say_caution<A: Allocator, W: Sink>(walk: &Option<Walk<A>>, page: &mut Page, o
             output,
         ),
         None => {}
+    }
+}
+
+fn say_caution<A: Allocator, W: Sink>(
+    form: Form,
+    walk: &Option<Walk<A>>,
+    page: &mut Page,
+    output: &mut W,
+)
+    ensures { Says (W.written output.old) (W.written output.new)
+        (W.failures output.old) (W.failures output.new) page.old page.new
+        (spec.caution_text form walk.now) }
+{
+    match form {
+        Form::Words => say_words(walk, page, output),
+        Form::Json => {}
     }
 }
 
@@ -85,9 +101,6 @@ pub fn write_caution<A: Allocator, W: Sink>(
     ensures counts { CountsFailure (W.failures output.old) (W.failures output.new) result }
 {
     let mut page = Page::new();
-    match form {
-        Form::Words => say_caution(walk, &mut page, output),
-        Form::Json => {}
-    }
+    say_caution(form, walk, &mut page, output);
     page.finish(output)
 }
