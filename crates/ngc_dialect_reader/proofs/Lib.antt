@@ -10,3 +10,5 @@ pub mod ValueSteps
 pub mod ItemSteps
 -- Arguments.
 pub mod FlowSteps
+-- Words whose values are numbers of few digits.
+pub mod ShortWords

@@ -44,7 +44,7 @@ nearest-last a b p h =
       times p r k h = grind arith
 
 -- up to twelve decimals are exact
-nearest-short : (n k : ℕ) → k ≤ 12 → nearest_size (n * ONE) (10 ^ k) ≡ n * 10 ^ (12 - k)
+pub nearest-short : (n k : ℕ) → k ≤ 12 → nearest_size (n * ONE) (10 ^ k) ≡ n * 10 ^ (12 - k)
 nearest-short n zero h = omega arith
 nearest-short n (suc zero) h = omega arith
 nearest-short n (suc (suc zero)) h = omega arith

@@ -1,13 +1,15 @@
-ghost use Rattle.std.specs.Prelude.{◌≡◌, ℕ, ◌≤◌, ◌<◌, length, drop, List, true};
+ghost use Rattle.std.specs.Prelude.{◌≡◌, ◌≢◌, ℕ, ◌≤◌, ◌<◌, length, drop, List, IsTrue, IfSome, None, Ok};
 ghost use Rattle.ngc_line_reader.specs.Scan.{Gives};
 ghost use Rattle.ngc_dialect_reader.specs.Item as spec;
+ghost use Rattle.ngc_dialect_reader.specs.Table.{switches_of};
 
 use crate::fault::{Cause, Refusal};
-use crate::number::{begins, refused, tail};
-use crate::part::PartKind;
+use crate::number::{begins, refused, short_number, tail};
+use crate::part::{Part, PartKind};
 use crate::steps::{Parts, added, after, begins_letter, is_letter, name_at, needed, word_length};
 use crate::switches::Switches;
-use crate::value::{Scope, begins_digits, expression_at, has_sign, literal_at, value_at};
+use crate::value::{Scope, begins_digits, expression_at, has_sign, value_at};
+use ngc_dialect_names::Dialect;
 
 // Values nest at most 32 deep.
 pub(crate) fn whole(dialect: Switches) -> Scope
@@ -34,26 +36,6 @@ fn begins_value(s: &[u8]) -> bool
         || (begins_letter(s) && begins(b'[', after(word_length(s), s)))
 }
 
-// Returns whether a number begins, maybe with a sign.
-#[inline]
-fn begins_number(s: &[u8]) -> bool
-    ensures { result ≡ spec.begins_number s.now }
-{
-    begins_digits(s) || (has_sign(s) && begins_digits(tail(s)))
-}
-
-// Adds a word whose value is a number, and returns the rest.
-#[inline(always)]
-#[tactic(auto, using(crate::proofs::ItemSteps::number_word))]
-fn number_word_at<'a>(letter: u8, s: &'a [u8], parts: &mut Parts) -> Result<&'a [u8], Refusal>
-    requires { spec.begins_number (drop 1 s.now) ≡ true }
-    ensures { (d : Switches) → Gives (λ r. (parts.new.items, r.now)) result
-        (spec.word_at d letter parts.old.items s.now) }
-{
-    let rest = literal_at(tail(s), parts)?;
-    added(PartKind::Word(letter), s, parts, rest)
-}
-
 // Adds a word, and returns the rest.
 #[tactic(auto, unfolding(crate::specs::Item::word_at))]
 fn word_at<'a>(
@@ -65,9 +47,6 @@ fn word_at<'a>(
     ensures { Gives (λ r. (parts.new.items, r.now)) result
         (spec.word_at dialect letter parts.old.items s.now) }
 {
-    if begins_number(tail(s)) {
-        return number_word_at(letter, s, parts);
-    }
     if !begins_value(tail(s)) {
         return Err(refused(Cause::WordWithoutValue, s));
     }
@@ -124,8 +103,89 @@ fn item_at<'a>(dialect: Switches, s: &'a [u8], parts: &mut Parts) -> Result<&'a 
     }
 }
 
-// Adds all items of a text.
+// Returns whether a letter begins words in each dialect.
+#[inline]
+pub(crate) fn is_plain_letter(byte: u8) -> bool
+    ensures low { IsTrue result → 65 ≤ byte }
+    ensures high { IsTrue result → byte ≤ 90 }
+    ensures no_number { IsTrue result → byte ≢ 78 }
+    ensures no_label { IsTrue result → byte ≢ 79 }
+{
+    is_letter(byte) && byte != b'N' && byte != b'O'
+}
+
+// Adds a word whose value is a number of few digits, as most items are, and returns the rest. It returns
+// `None` for any other item, and then adds nothing.
+#[inline(always)]
+fn short_word<'a>(s: &'a [u8], parts: &mut Parts) -> Option<&'a [u8]>
+    ensures read { IfSome result (λ rest. (d : Switches) →
+        spec.item_at d parts.old.items s.now ≡ Ok (parts.new.items, rest.now)) }
+    ensures other { result ≡ None → parts.new ≡ parts.old }
+{
+    if s.is_empty() || !is_plain_letter(s[0]) || parts.len() > 126 {
+        return None;
+    }
+    let (literal, rest) = short_number(tail(s))?;
+    parts.push(Part {
+        kind: PartKind::Number(literal),
+        left: tail(s).len(),
+    });
+    parts.push(Part {
+        kind: PartKind::Word(s[0]),
+        left: s.len(),
+    });
+    Some(rest)
+}
+
+// Adds the words in front that `short_word` reads. Returns how many items may follow, and the rest.
+#[inline(always)]
+fn short_words<'a>(s: &'a [u8], parts: &mut Parts) -> (usize, &'a [u8])
+    ensures { (d : Switches) → spec.items_at d result.0 parts.new.items result.1.now
+        ≡ spec.items d parts.old.items s.now }
+{
+    let mut rest = s;
+    let mut room: usize = 257;
+    while room > 0 {
+        match short_word(rest, parts) {
+            Some(afterwards) => rest = afterwards,
+            None => return (room, rest),
+        }
+        room -= 1;
+    }
+    (room, rest)
+}
+
+// Adds at most `room` items, which are all of a text.
 #[tactic(auto, using(crate::proofs::ItemSteps::items_step))]
+fn items_at<'a>(
+    dialect: Switches,
+    room: usize,
+    s: &'a [u8],
+    parts: &mut Parts,
+) -> Result<&'a [u8], Refusal>
+    ensures { Gives (λ r. (parts.new.items, r.now)) result
+        (spec.items_at dialect room parts.old.items s.now) }
+{
+    let mut rest = s;
+    let mut room = room;
+    while room > 0 {
+        if rest.is_empty() {
+            return Ok(rest);
+        }
+        room -= 1;
+        if let Some(afterwards) = short_word(rest, parts) {
+            rest = afterwards;
+            continue;
+        }
+        match item_at(dialect, rest, parts) {
+            Ok(afterwards) => rest = afterwards,
+            Err(refusal) => return Err(refusal),
+        }
+    }
+    Err(refused(Cause::TooManyParts, rest))
+}
+
+// Adds all items of a text.
 pub(crate) fn items<'a>(
     dialect: Switches,
     s: &'a [u8],
@@ -134,17 +194,24 @@ pub(crate) fn items<'a>(
     ensures { Gives (λ r. (parts.new.items, r.now)) result
         (spec.items dialect parts.old.items s.now) }
 {
-    let mut rest = s;
-    let mut room: usize = 257;
-    while room > 0 {
-        if rest.is_empty() {
-            return Ok(rest);
-        }
-        room -= 1;
-        match item_at(dialect, rest, parts) {
-            Ok(afterwards) => rest = afterwards,
-            Err(refusal) => return Err(refusal),
-        }
+    items_at(dialect, 257, s, parts)
+}
+
+// Does the same. It asks for what a dialect allows only after the words in front whose values are
+// numbers: mostly there is nothing more.
+#[inline(always)]
+#[tactic(auto, using(crate::proofs::ItemSteps::items_step))]
+pub(crate) fn plain_items<'a>(
+    dialect: Dialect,
+    s: &'a [u8],
+    parts: &mut Parts,
+) -> Result<&'a [u8], Refusal>
+    ensures { Gives (λ r. (parts.new.items, r.now)) result
+        (spec.items (switches_of dialect) parts.old.items s.now) }
+{
+    let (room, rest) = short_words(s, parts);
+    if rest.is_empty() && room > 0 {
+        return Ok(rest);
     }
-    Err(refused(Cause::TooManyParts, rest))
+    items_at(Switches::of(dialect), room, rest, parts)
 }

@@ -1,11 +1,13 @@
-ghost use Rattle.std.specs.Prelude.{◌≡◌, ℕ, ◌≤◌, [], length, drop, take, List, ◌-◌, OnOk};
+ghost use Rattle.std.specs.Prelude.{◌≡◌, ℕ, ◌≤◌, [], length, drop, take, List, ◌-◌, OnOk, IsTrue, false};
 ghost use Rattle.ngc_line_reader.specs.Scan.{Gives};
 ghost use Rattle.ngc_dialect_reader.specs.Line as spec;
+ghost use Rattle.ngc_dialect_reader.specs.Table.{switches_of};
+ghost use Rattle.ngc_dialect_reader.specs.Item.{items as all_items};
 ghost use Rattle.ngc_dialect_reader.specs.Text.{text as text_of};
 
 use crate::fault::{Cause, LineFault, Refusal};
 use crate::flow::{macro_at, o_word_at};
-use crate::item::items;
+use crate::item::{is_plain_letter, items, plain_items};
 use crate::number::{begins, number_at, refused, tail};
 use crate::part::{Name, Part, PartKind};
 use crate::steps::{Parts, add, added, after, ended, starts_with};
@@ -98,14 +100,39 @@ fn statement_at<'a>(dialect: Switches, s: &'a [u8], parts: &mut Parts) -> Result
     }
 }
 
+// Returns whether a text has nothing but items, unless a dialect has statements that begin as words.
+#[inline]
+#[tactic(auto, using(crate::proofs::ShortWords::word_line))]
+fn begins_word(s: &[u8]) -> bool
+    ensures { IsTrue result → (d : Switches) → d.macros ≡ false →
+        spec.text_at d s.now ≡ all_items d [] s.now }
+{
+    !s.is_empty() && is_plain_letter(s[0])
+}
+
+// Adds the parts of any text.
 #[tactic(auto, unfolding(crate::specs::Line::text_at))]
-fn text_at<'a>(dialect: Switches, s: &'a [u8], parts: &mut Parts) -> Result<&'a [u8], Refusal>
+fn any_text_at<'a>(dialect: Switches, s: &'a [u8], parts: &mut Parts) -> Result<&'a [u8], Refusal>
     ensures { Gives (λ r. (parts.new.items, r.now)) result (spec.text_at dialect s.now) }
 {
     parts.clear();
     let numbered = delete_at(dialect, s, parts)?;
     let statement = line_number_at(numbered, parts)?;
     statement_at(dialect, statement, parts)
+}
+
+// Adds the parts of a text. Most begin with a word, and have nothing but words.
+#[inline(always)]
+fn text_at<'a>(dialect: Dialect, s: &'a [u8], parts: &mut Parts) -> Result<&'a [u8], Refusal>
+    ensures { Gives (λ r. (parts.new.items, r.now)) result
+        (spec.text_at (switches_of dialect) s.now) }
+{
+    if begins_word(s) && !Switches::of(dialect).macros {
+        parts.clear();
+        plain_items(dialect, s, parts)
+    } else {
+        any_text_at(Switches::of(dialect), s, parts)
+    }
 }
 
 impl DialectLine {
@@ -132,11 +159,11 @@ impl DialectLine {
                 column: 257,
             });
         }
-        let switches = Switches::of(dialect);
-        if let Some(fault) = read_text(switches.closed_comments, line, &mut self.text) {
+        let closed = Switches::of(dialect).closed_comments;
+        if let Some(fault) = read_text(closed, line, &mut self.text) {
             return Err(fault);
         }
-        match text_at(switches, self.text.as_slice(), &mut self.parts) {
+        match text_at(dialect, self.text.as_slice(), &mut self.parts) {
             Ok(_) => Ok(()),
             Err(refusal) => Err(LineFault {
                 cause: refusal.cause,

@@ -1,12 +1,13 @@
-ghost use Rattle.std.specs.Prelude.{◌≡◌, ℕ, ◌*◌, ◌+◌, ◌^◌, ◌≤◌, ◌-◌, List, ◌++◌, length, drop, min};
-ghost use Rattle.std.specs.Prelude.{ℤ, pos, neg_ℤ};
-ghost use Rattle.std.specs.List.{prefix_len};
+ghost use Rattle.std.specs.Prelude.{◌≡◌, ℕ, ◌*◌, ◌+◌, ◌^◌, ◌≤◌, ◌-◌, List, ◌++◌, length, drop, min, true, ◌==◌, ◌&&◌};
+ghost use Rattle.std.specs.Prelude.{ℤ, pos, neg_ℤ, Ok, IfSome};
+ghost use Rattle.std.specs.List.{prefix_len, fold};
 ghost use Rattle.std.specs.Char.{is_ascii_digit};
 ghost use Rattle.ngc_fixed_length.specs.Rounding.{nearest_size};
 ghost use Rattle.ngc_line_reader.specs.Grammar.{IsDigits};
 ghost use Rattle.ngc_line_reader.specs.Numbers.{digits_value};
 ghost use Rattle.ngc_line_reader.specs.Scan.{Gives, digits_at, after_digits, begins as has_first};
 ghost use Rattle.ngc_dialect_reader.specs.Number as spec;
+ghost use Rattle.ngc_dialect_reader.specs.Item.{begins_number};
 
 use crate::fault::{Cause, Refusal};
 use crate::part::Literal;
@@ -24,6 +25,9 @@ const UNITS: u64 = 100_000_000_000_000;
 const ONE: u128 = 1_000_000_000_000;
 
 const LIMIT: u128 = 1_000_000_000_000_000_000_000;
+
+// The greatest size of a number that is read at once: 64 bits.
+const MOST: u128 = 18_446_744_073_709_551_615;
 
 #[inline]
 pub(crate) fn refused(cause: Cause, s: &[u8]) -> Refusal
@@ -182,6 +186,17 @@ fn signed(negative: bool, size: u128) -> i128
     }
 }
 
+#[inline]
+fn literal(negative: bool, size: u128, point: bool) -> Literal
+    requires { size ≤ spec.LIMIT }
+    ensures { result ≡ spec.literal negative size point }
+{
+    Literal {
+        value: signed(negative, size),
+        point,
+    }
+}
+
 // Returns a number, and the rest.
 #[inline(always)]
 #[tactic(auto, unfolding(crate::specs::Number::number_at))]
@@ -207,4 +222,85 @@ pub(crate) fn number_at(s: &[u8]) -> Result<(Literal, &[u8]), Refusal>
         )),
         None => Err(refused(Cause::NumberTooLarge, s)),
     }
+}
+
+// To a greater number no further digit is added at once.
+const FEW: u64 = 100_000_000_000_000_000;
+
+// Returns the number that `units` and the leading digits after it write, and the number of digits, or
+// `None` for many digits.
+#[inline(always)]
+#[tactic(auto, using(crate::proofs::Digits::digits_counted))]
+fn more_digits(units: u64, s: &[u8]) -> Option<(u64, usize)>
+    ensures count { IfSome result (λ x. x.1 ≡ prefix_len is_ascii_digit s.now) }
+    ensures within { IfSome result (λ x. x.1 ≤ length s.now) }
+    ensures units { IfSome result
+        (λ x. x.0 ≡ fold (λ n d. 10 * n + (d - 48)) units (digits_at s.now)) }
+{
+    let mut total = units;
+    for (count, byte) in s.iter().enumerate() {
+        if !byte.is_ascii_digit() {
+            return Some((total, count));
+        }
+        if total > FEW {
+            return None;
+        }
+        total = 10 * total + u64::from(byte.saturating_sub(b'0'));
+    }
+    Some((total, s.len()))
+}
+
+// Returns the same of the digits after a point, if there is one, and the rest.
+#[inline(always)]
+fn more_decimals(units: u64, s: &[u8]) -> Option<(u64, usize, &[u8])>
+    ensures count { IfSome result (λ x. x.1 ≡ length (spec.decimals_in s.now)) }
+    ensures units { IfSome result
+        (λ x. x.0 ≡ fold (λ n d. 10 * n + (d - 48)) units (spec.decimals_in s.now)) }
+    ensures rest { IfSome result (λ x. x.2.now ≡ spec.after_decimals s.now) }
+{
+    if !begins(b'.', s) {
+        return Some((units, 0, s));
+    }
+    let (total, count) = more_digits(units, tail(s))?;
+    let (_, rest) = tail(s).split_at(count);
+    Some((total, count, rest))
+}
+
+// Returns whether there is no digit, of so many before and after a point.
+#[inline]
+fn has_none(whole: usize, decimals: usize) -> bool
+    ensures { result ≡ ((whole == 0) && (decimals == 0)) }
+{
+    whole == 0 && decimals == 0
+}
+
+// Returns a number's size in 10^-12, from what its digits write.
+#[inline]
+fn scaled(units: u64, decimals: usize) -> u128
+    requires { decimals ≤ 12 }
+    ensures { result ≡ units * 10 ^ (12 - decimals) }
+{
+    u128::from(units) * u128::from(last_place(decimals))
+}
+
+// Returns a number of few digits, and the rest, or `None` for any other text. Most numbers are among
+// these: their digits need no bound, and no decimal is rounded.
+#[inline(always)]
+pub(crate) fn short_number(s: &[u8]) -> Option<(Literal, &[u8])>
+    ensures { IfSome result
+        (λ x. (spec.number_at s.now ≡ Ok (x.0, x.1.now)) × (begins_number s.now ≡ true)) }
+{
+    let digits = unsigned(s);
+    let (whole, count) = more_digits(0, digits)?;
+    let (_, after_whole) = digits.split_at(count);
+    let (units, places, rest) = more_decimals(whole, after_whole)?;
+    if has_none(count, places) || places > 12 || begins(b'.', rest) {
+        return None;
+    }
+    let size = scaled(units, places);
+    if size > MOST {
+        return None;
+    }
+    let point = begins(b'.', after_whole);
+    Some((literal(begins(b'-', s), size, point), rest))
 }

@@ -1,4 +1,4 @@
-ghost use Rattle.std.specs.Prelude.{◌≡◌, ℕ, ◌≤◌, ◌+◌, ◌++◌, length, drop, [], Bool, false, None, Some, IsTrue};
+ghost use Rattle.std.specs.Prelude.{◌≡◌, ◌≢◌, ℕ, ◌≤◌, ◌+◌, ◌++◌, length, drop, [], Bool, false, None, Some, IsTrue};
 ghost use Rattle.arrayvec.specs.ArrayVec.{array_vec_len};
 ghost use Rattle.ngc_dialect_reader.specs.Text as spec;
 ghost use Rattle.ngc_dialect_reader.specs.declared.text.Place.TheVariants as places;
@@ -103,14 +103,15 @@ fn end_fault(closed: bool, place: Place, opened: usize) -> Option<LineFault>
     }
 }
 
-// Returns whether a byte outside comments stands in the text as it is: one from '-' to 'Z', but ';'.
+// Returns whether a byte outside comments, which isn't ';', stands in the text as it is.
 #[inline]
 fn stays(byte: u8) -> bool
+    requires { byte ≢ 59 }
     ensures kept { IsTrue result → (last : Bool) → spec.kept places.Outside byte last ≡ Some byte }
     ensures visible { IsTrue result → (last : Bool) → spec.is_control byte last ≡ false }
     ensures outside { IsTrue result → spec.place_after places.Outside byte ≡ places.Outside }
 {
-    byte >= b'-' && byte <= b'Z' && byte != b';'
+    byte >= b'-' && byte <= b'Z'
 }
 
 // Returns whether a byte is a space, which outside comments adds nothing.
@@ -151,6 +152,9 @@ fn add_plain(line: &[u8], from: usize, bytes: &mut ArrayVec<u8, 256>) -> usize
     let mut i = from;
     while i < line.len() {
         let byte = line[i];
+        if byte == b';' {
+            return i;
+        }
         if stays(byte) {
             bytes.push(byte);
         } else if !is_space(byte) {

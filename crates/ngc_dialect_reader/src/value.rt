@@ -327,7 +327,7 @@ pub(crate) fn has_sign(s: &[u8]) -> bool
 // Adds a number, and returns the rest.
 #[inline(always)]
 #[tactic(auto, unfolding(crate::specs::Value::literal_at))]
-pub(crate) fn literal_at<'a>(s: &'a [u8], parts: &mut Parts) -> Result<&'a [u8], Refusal>
+fn literal_at<'a>(s: &'a [u8], parts: &mut Parts) -> Result<&'a [u8], Refusal>
     ensures { Gives (λ r. (parts.new.items, r.now)) result
         (spec.literal_at parts.old.items s.now) }
 {

@@ -1,7 +1,7 @@
 use Rattle.std.proofs.Common.{◌≡◌, Err, sym, ◌∙◌, arith}
 use Rattle.ngc_dialect_reader.specs.Item.{items_at}
 use Rattle.ngc_dialect_reader.proofs.ItemSteps.{items_end}
-use Rattle.ngc_dialect_reader.proofs.item.items.Goals as goal
+use Rattle.ngc_dialect_reader.proofs.item.items_at.Goals as goal
 
 pub returns : goal.returns
 returns c =
