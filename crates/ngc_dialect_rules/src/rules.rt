@@ -566,7 +566,25 @@ pub fn line_plan(known: &Known, line: &[Code], words: &[Word]) -> Result<Plan, F
     plan_of(known, line, words)
 }
 
+// Writes what a line of any words becomes. It stands apart from the lines of one straight motion, which
+// are most: these need none of its room, which would be cleared for each of them.
+#[inline(never)]
 #[tactic(auto, unfolding(crate::specs::Rules::lines_of))]
+fn planned_lines(
+    known: &Known,
+    line: &[Code],
+    words: &[Word],
+    lines: &mut PlainLines,
+) -> Result<LineResult, Fault>
+    ensures { Gives (λ r. (r, lines.new.items)) result
+        (spec.lines_of known.now line.now words.now) }
+{
+    match line_plan(known, line, words) {
+        Ok(plan) => Ok(carry_out(lines, known, line, words, &plan)),
+        Err(fault) => Err(fault),
+    }
+}
+
 fn lines_of(
     known: &Known,
     line: &[Code],
@@ -584,10 +602,7 @@ fn lines_of(
             return straight_lines(known, line, words, code, lines);
         }
     }
-    match line_plan(known, line, words) {
-        Ok(plan) => Ok(carry_out(lines, known, line, words, &plan)),
-        Err(fault) => Err(fault),
-    }
+    planned_lines(known, line, words, lines)
 }
 
 /// Puts the plain lines of a line of words into `lines`, and returns what the dialect knows after
