@@ -40,8 +40,8 @@ use std::alloc::{AllocError, Allocator};
 /// between two lines, and the commands so far.
 #[derive(Drop)]
 pub struct WordInterpreter<A: Allocator> {
-    pub(crate) dialect: Dialect,
-    pub(crate) front: Front,
+    // What the rules know. Its modes, frames and place are those of an earlier line.
+    pub(crate) before: Known,
     pub(crate) run: PlainRun<A>,
     plain: PlainLines,
     pub(crate) notes: Option<Notes>,
@@ -126,8 +126,13 @@ impl<A: Allocator + Copy> WordInterpreter<A> {
             return Err(AllocError);
         };
         Ok(WordInterpreter {
-            dialect,
-            front: Front::start(dialect, machine.home28, machine.home30),
+            before: Known {
+                dialect,
+                front: Front::start(dialect, machine.home28, machine.home30),
+                modes: run.interpreter.modes(),
+                frames: *run.interpreter.frames(),
+                place: run.interpreter.place(),
+            },
             run,
             plain: ArrayVec::new(),
             notes: no_notes(wanted.notes),
@@ -147,7 +152,7 @@ impl<A: Allocator + Copy> WordInterpreter<A> {
     pub fn dialect(&self) -> Dialect
         ensures { result ≡ (between_of self.now).dialect }
     {
-        self.dialect
+        self.before.dialect
     }
 
     /// Returns what the rules know before a line.
@@ -155,8 +160,8 @@ impl<A: Allocator + Copy> WordInterpreter<A> {
         ensures { result ≡ spec.known_of (between_of self.now) }
     {
         Known {
-            dialect: self.dialect,
-            front: self.front,
+            dialect: self.before.dialect,
+            front: self.before.front,
             modes: self.run.interpreter.modes(),
             frames: *self.run.interpreter.frames(),
             place: self.run.interpreter.place(),
@@ -252,7 +257,7 @@ impl<A: Allocator + Copy> WordInterpreter<A> {
             (setup_of machine.now tools.now) line stop start.kept start.moves
             (between_of self.old)) }
     {
-        self.front.series = Some(start.kept);
+        self.before.front.series = Some(start.kept);
         match self.take_moves(machine, tools, line, start.moves) {
             Ok(()) => {}
             Err(refusal) => return Err(refusal),
@@ -262,6 +267,7 @@ impl<A: Allocator + Copy> WordInterpreter<A> {
     }
 
     // Executes the cycle of a line, after the line's plain lines.
+    #[inline(never)]
     fn take_cycle(
         &mut self,
         machine: &Machine<A>,
@@ -298,7 +304,7 @@ impl<A: Allocator + Copy> WordInterpreter<A> {
             Ok(()) => {}
             Err(refusal) => return Err(refusal),
         }
-        self.front = made.front;
+        self.before.front = made.front;
         match made.cycle {
             None => Ok(()),
             Some(cycle) => self.take_cycle(machine, tools, line, words, &cycle),
@@ -339,12 +345,13 @@ impl<A: Allocator + Copy> WordInterpreter<A> {
             Ok(()) => {}
             Err(refusal) => return Err(refusal),
         }
-        self.front = step.front;
+        self.before.front = step.front;
         self.path = step.path;
         Ok(())
     }
 
     // Executes the words of a line where cutter compensation is on, begins or ends.
+    #[inline(never)]
     #[tactic(auto, unfolding(crate::specs::Taken::path_taken))]
     fn take_path(
         &mut self,
@@ -379,8 +386,11 @@ impl<A: Allocator + Copy> WordInterpreter<A> {
         ensures { Says (λ _. between_of self.new) result (spec.plain_words_taken
             (setup_of machine.now tools.now) line words.now (between_of self.old)) }
     {
-        let known = self.known();
-        match plain_lines(&known, words, &mut self.plain) {
+        // What is known is looked at where it lies: a copy of it takes longer than most lines.
+        self.before.modes = self.run.interpreter.modes();
+        self.before.frames = *self.run.interpreter.frames();
+        self.before.place = self.run.interpreter.place();
+        match plain_lines(&self.before, words, &mut self.plain) {
             Ok(made) => {
                 if made.compensation.is_some() {
                     self.take_path(machine, tools, line, words)
@@ -419,6 +429,7 @@ impl<A: Allocator + Copy> WordInterpreter<A> {
     }
 
     // Notes a line by what its words are read by.
+    #[inline(never)]
     fn note_words(&mut self, line: u32, words: &[Word])
         ensures { between_of self.new ≡ spec.words_noted line words.now (between_of self.old) }
     {
@@ -455,6 +466,7 @@ impl<A: Allocator + Copy> WordInterpreter<A> {
     /// canned cycle, after it is noted. While cutter compensation holds a move back, plain lines wait
     /// with it. A fault is the first one of the rules or of a plain line; nothing is then stated of
     /// what is known.
+    #[inline(always)]
     pub fn take_words(
         &mut self,
         machine: &Machine<A>,
