@@ -1,5 +1,5 @@
 //! Words of another control, executed.
-ghost use Rattle.std.specs.Prelude.{◌≡◌, ◌≤◌, ◌*◌, length, pos, IfOk, IfSome};
+ghost use Rattle.std.specs.Prelude.{◌≡◌, ◌≤◌, ◌*◌, [], length, pos, IfOk, IfSome};
 ghost use Rattle.ngc_line_reader.specs.declared.letter.Letter.TheVariants as letters;
 ghost use Rattle.ngc_machine_files.specs.Machine.{file_of};
 ghost use Rattle.ngc_canonical.specs.Interpreter.{setup_of};
@@ -7,6 +7,7 @@ ghost use Rattle.ngc_frames.specs.Changes.{frame_of};
 ghost use Rattle.ngc_dialect_execution.specs.Faults.{Says};
 ghost use Rattle.ngc_dialect_execution.specs.Mounting.{mounted};
 ghost use Rattle.ngc_dialect_path.specs.Paths.{programmed as programmed_of};
+ghost use Rattle.ngc_dialect_rules.specs.Straight.{straight_front, straight_result};
 ghost use Rattle.ngc_dialect_path.specs.Steps.{written_in};
 ghost use Rattle.ngc_dialect_execution.specs.Taken as spec;
 ghost use Rattle.ngc_dialect_execution.specs.Taken.{END};
@@ -28,7 +29,8 @@ use ngc_dialect_parameters::{Statement, Word};
 use ngc_dialect_path::{Path, PathLines, PathStep, held_line, path_end, path_step, programmed};
 use ngc_dialect_repeats::PolarEnd;
 use ngc_dialect_rules::{
-    Code, Front, Known, LineCycle, LineResult, Plain, PlainLines, plain_lines,
+    Code, Front, Known, LineCycle, LineResult, Plain, PlainLines, StraightLine, plain_lines,
+    straight_motion,
 };
 use ngc_dialect_saved::{SavedStack, Switches};
 use ngc_fixed_length::Value;
@@ -66,6 +68,16 @@ fn no_notes(wanted: bool) -> Option<Notes>
     ensures { result ≡ spec.start_notes wanted }
 {
     if wanted { Some(Notes::none()) } else { None }
+}
+
+// Changes what the dialect knows, as a line of one straight motion does.
+fn go_straight(front: &mut Front, made: StraightLine)
+    ensures { front.new ≡ straight_front made front.old }
+{
+    front.motion = Some(made.code);
+    if !made.keeps_series {
+        front.series = None;
+    }
 }
 
 // Returns the word M2.
@@ -374,6 +386,55 @@ impl<A: Allocator + Copy> WordInterpreter<A> {
         }
     }
 
+    // Executes the plain line of a line of one straight motion.
+    #[tactic(auto, unfolding(crate::specs::Taken::made_taken))]
+    fn take_straight(
+        &mut self,
+        machine: &Machine<A>,
+        tools: &Tools<A>,
+        line: u32,
+        made: StraightLine,
+    ) -> Result<(), Refusal>
+        ensures { Says (λ _. between_of self.new) result (spec.made_taken
+            (setup_of machine.now tools.now) line [] (straight_result made (between_of self.old).front)
+            self.old.plain.items (between_of self.old)) }
+    {
+        match self.run.execute(machine, tools, line, &self.plain) {
+            Ok(()) => {}
+            Err(refusal) => return Err(refusal),
+        }
+        go_straight(&mut self.before.front, made);
+        Ok(())
+    }
+
+    // Executes the words of a line of any words where cutter compensation is off.
+    #[inline(never)]
+    #[tactic(auto, unfolding(crate::specs::Taken::plain_words_taken))]
+    fn take_planned_words(
+        &mut self,
+        machine: &Machine<A>,
+        tools: &Tools<A>,
+        line: u32,
+        words: &[Word],
+    ) -> Result<(), Refusal>
+        ensures { Says (λ _. between_of self.new) result (spec.plain_words_taken
+            (setup_of machine.now tools.now) line words.now (between_of self.old)) }
+    {
+        self.before.modes = self.run.interpreter.modes();
+        self.before.frames = *self.run.interpreter.frames();
+        self.before.place = self.run.interpreter.place();
+        match plain_lines(&self.before, words, &mut self.plain) {
+            Ok(made) => {
+                if made.compensation.is_some() {
+                    self.take_path(machine, tools, line, words)
+                } else {
+                    self.take_made(machine, tools, line, words, &made)
+                }
+            }
+            Err(fault) => Err(Refusal::Because(Cause::Rule(fault))),
+        }
+    }
+
     // Executes the words of a line where cutter compensation is off.
     #[tactic(auto, unfolding(crate::specs::Taken::plain_words_taken))]
     fn take_plain_words(
@@ -386,18 +447,12 @@ impl<A: Allocator + Copy> WordInterpreter<A> {
         ensures { Says (λ _. between_of self.new) result (spec.plain_words_taken
             (setup_of machine.now tools.now) line words.now (between_of self.old)) }
     {
-        // What is known is looked at where it lies: a copy of it takes longer than most lines.
+        // A straight motion needs neither the origins nor the place of the axes: a copy of them takes
+        // longer than such a line.
         self.before.modes = self.run.interpreter.modes();
-        self.before.frames = *self.run.interpreter.frames();
-        self.before.place = self.run.interpreter.place();
-        match plain_lines(&self.before, words, &mut self.plain) {
-            Ok(made) => {
-                if made.compensation.is_some() {
-                    self.take_path(machine, tools, line, words)
-                } else {
-                    self.take_made(machine, tools, line, words, &made)
-                }
-            }
+        match straight_motion(&self.before, words, &mut self.plain) {
+            Ok(Some(made)) => self.take_straight(machine, tools, line, made),
+            Ok(None) => self.take_planned_words(machine, tools, line, words),
             Err(fault) => Err(Refusal::Because(Cause::Rule(fault))),
         }
     }

@@ -29,7 +29,14 @@ use Rattle.ngc_dialect_rules.specs.Force.{force_of, length_after}
 use Rattle.ngc_dialect_rules.specs.Moves.{has_axes, motion_of, machine_place_fault, idle_fault, idle_letter, is_idle, refuses_idle}
 use Rattle.ngc_dialect_rules.specs.Plain.{with_word, with_action, ended}
 use Rattle.ngc_dialect_rules.specs.Rules.{minute_feed, some_action, first_action, plan_of, with_feed, modes_written, motions_written, written, motion_after, series_after, front_after, result_of, line_plan, lines_of}
-use Rattle.ngc_dialect_rules.specs.Straight.{is_motion_letter, are_motion_words, IsOnlyCode, straight_result}
+use Rattle.ngc_dialect_rules.specs.Rules.{plain_lines}
+use Rattle.ngc_dialect_rules.specs.Straight.{elsewhere, is_motion_letter, are_motion_words, IsOnlyCode, straight_result}
+use Rattle.ngc_dialect_rules.specs.Words.{codes_of}
+use Rattle.ngc_dialect_rules.specs.declared.plain.Plain.{Plain}
+use Rattle.ngc_dialect_rules.specs.declared.plan.LineResult.{LineResult}
+use Rattle.ngc_dialect_rules.specs.declared.straight_line.StraightLine.{StraightLine}
+use Rattle.ngc_fixed_length.specs.declared.points.Point3.{Point3}
+use Rattle.ngc_offsets.specs.declared.frames.Frames.{Frames}
 
 -- no table but that of motion codes has a code of the line
 pub record Quiet (line : List Code) : Type 0 where
@@ -309,6 +316,9 @@ planned k line words c o h axes =
     )
     (settle (straight k line words (force_before k) None c) (straight_plan k))
 
+abbrev made_by : List Code → Code → StraightLine
+made_by line c = record { code = c; keeps_series = length line == 0 }
+
 minute_none : (mode : FeedMode) → minute_feed mode None ≡ None
 minute_none PerMinute = refl
 minute_none InverseTime = refl
@@ -337,7 +347,7 @@ straight_written k line words a q =
     ) refl
 
 fronted : (k : Known) (line : List Code) (c : Code) (a : Action) → Only k line c →
-    result_of k line (straight_plan k (Some a)) ≡ straight_result k line c
+    result_of k line (straight_plan k (Some a)) ≡ straight_result (made_by line c) k.front
 unfolding front_after
 fronted k line c a o = rw (o.motion, o.series, o.quiet.retracts, o.quiet.centres, o.quiet.home_stores, o.quiet.spindle, o.quiet.tool_change, o.quiet.compensation) refl
 
@@ -349,10 +359,25 @@ finish (Err e) p f g h = refl
 pub straight_meaning : (k : Known) (line : List Code) (words : List Word) (c : Code) → IsOnlyCode k line c → are_motion_words words ≡ true
     → has_axes k.dialect line words ≡ true → repeated words ≡ None → lines_of k line words ≡
     (straight k line words (record { units = k.modes.units; distance = k.modes.distance; feed_mode = k.modes.feed_mode; feed = k.front.feed; length = k.front.length }) None c >>=
-    λ a. Ok (straight_result k line c, ended (with_action k.modes.units a [])))
+    λ a. Ok (straight_result (made_by line c) k.front, ended (with_action k.modes.units a [])))
 unfolding lines_of line_plan
 straight_meaning k line words c i h axes once =
     let o = only k line c i in
     rw (once, taken k.dialect line words h, planned k line words c o h axes)
     (finish (straight k line words (force_before k) None c) (λ a. straight_plan k (Some a)) (λ plan. (result_of k line plan, written k line words plan)) _
     (λ a. rw (fronted k line c a o, straight_written k line words a o.quiet) refl))
+
+-- a straight motion is the same wherever the origins and the axes are
+pub straight_elsewhere : (frames : Frames) (place : Point3) (k : Known) (line : List Code) (words : List Word) (force : InForce) (c : Code) →
+    straight (elsewhere frames place k) line words force None c ≡ straight k line words force None c
+unfolding straight
+straight_elsewhere frames place k line words force c = refl
+
+pub lines_among : (k : Known) (words : List Word) (line : List Code) (r : Result (LineResult × List Plain) Fault) → codes_of k.dialect words [] ≡ Ok line
+    → lines_of k line words ≡ r → plain_lines k words ≡ r
+unfolding plain_lines
+lines_among k words line r e h = rw e h
+
+pub no_codes : (k : Known) (words : List Word) (fault : Fault) → codes_of k.dialect words [] ≡ Err fault → plain_lines k words ≡ Err fault
+unfolding plain_lines
+no_codes k words fault e = rw e refl

@@ -2,7 +2,7 @@ use Rattle.std.proofs.Common.{ap, refl, sym, ◌∙◌}
 use Rattle.ngc_dialect_rules.specs.declared.front.Known.{Known}
 use Rattle.ngc_dialect_rules.specs.Rules.{plain_lines}
 use Rattle.ngc_dialect_execution.proofs.Passing.{words_go_on}
-use Rattle.ngc_dialect_execution.proofs.words.WordInterpreter.take_plain_words.Goals as goal
+use Rattle.ngc_dialect_execution.proofs.words.WordInterpreter.take_planned_words.Goals as goal
 
 pub returns-else-is_some : goal.returns-else-is_some
 returns-else-is_some g c =
