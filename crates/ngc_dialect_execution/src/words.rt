@@ -42,7 +42,9 @@ use std::alloc::{AllocError, Allocator};
 /// between two lines, and the commands so far.
 #[derive(Drop)]
 pub struct WordInterpreter<A: Allocator> {
-    // What the rules know. Its modes, frames and place are those of an earlier line.
+    // What the rules know. Only its dialect and its front are up to date between two lines: a straight
+    // motion needs neither the origins nor the place of the axes, and a copy of them takes longer than
+    // such a line.
     pub(crate) before: Known,
     pub(crate) run: PlainRun<A>,
     plain: PlainLines,
@@ -75,6 +77,7 @@ fn go_straight(front: &mut Front, made: StraightLine)
     ensures { front.new ≡ straight_front made front.old }
 {
     front.motion = Some(made.code);
+    front.feed = made.feed;
     if !made.keeps_series {
         front.series = None;
     }
@@ -420,10 +423,8 @@ impl<A: Allocator + Copy> WordInterpreter<A> {
         ensures { Says (λ _. between_of self.new) result (spec.plain_words_taken
             (setup_of machine.now tools.now) line words.now (between_of self.old)) }
     {
-        self.before.modes = self.run.interpreter.modes();
-        self.before.frames = *self.run.interpreter.frames();
-        self.before.place = self.run.interpreter.place();
-        match plain_lines(&self.before, words, &mut self.plain) {
+        let known = self.known();
+        match plain_lines(&known, words, &mut self.plain) {
             Ok(made) => {
                 if made.compensation.is_some() {
                     self.take_path(machine, tools, line, words)
@@ -447,8 +448,6 @@ impl<A: Allocator + Copy> WordInterpreter<A> {
         ensures { Says (λ _. between_of self.new) result (spec.plain_words_taken
             (setup_of machine.now tools.now) line words.now (between_of self.old)) }
     {
-        // A straight motion needs neither the origins nor the place of the axes: a copy of them takes
-        // longer than such a line.
         self.before.modes = self.run.interpreter.modes();
         match straight_motion(&self.before, words, &mut self.plain) {
             Ok(Some(made)) => self.take_straight(machine, tools, line, made),

@@ -26,8 +26,8 @@ use ngc_fixed_length::{FeedMode, Point3, Turn, Units, Value};
 use ngc_line_reader::Letter;
 use ngc_modal_state::MotionMode;
 
-// Returns F of a feed per minute.
-fn minute_feed(mode: FeedMode, f: Option<Value>) -> Option<Value>
+/// Returns F of a feed per minute.
+pub(crate) fn minute_feed(mode: FeedMode, f: Option<Value>) -> Option<Value>
     ensures { result ≡ spec.minute_feed mode f }
 {
     match mode {

@@ -1,4 +1,4 @@
-use Rattle.std.proofs.Common.{ap, refl, sym, ◌∙◌}
+use Rattle.std.proofs.Common.{ap, sym, ◌∙◌}
 use Rattle.ngc_dialect_rules.specs.declared.front.Known.{Known}
 use Rattle.ngc_dialect_rules.specs.Rules.{plain_lines}
 use Rattle.ngc_dialect_execution.proofs.Passing.{words_go_on}
@@ -6,5 +6,5 @@ use Rattle.ngc_dialect_execution.proofs.words.WordInterpreter.take_planned_words
 
 pub returns-else-is_some : goal.returns-else-is_some
 returns-else-is_some g c =
-    words_go_on _ _ _ _ _ _ _ _ (ap (λ (k : Known). plain_lines k c.args.words.now) (sym (rw (c.modes.ensures, c.frames.ensures, c.place.ensures) refl)) ∙ c.in-Ok.ensures)
+    words_go_on _ _ _ _ _ _ _ _ (ap (λ (k : Known). plain_lines k c.args.words.now) (sym c.known-known.ensures) ∙ c.in-Ok.ensures)
     c.is_some.ensures c.if-is_some.false c.take_made.ensures
