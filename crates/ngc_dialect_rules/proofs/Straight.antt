@@ -406,7 +406,7 @@ pub motion_made : (frames : Frames) (place : Point3) (k : Known) (line : List Co
 motion_made frames place k line words c f feed force a i h axes once fed is after made =
     let moved : straight k line words (force_with f k) f c ≡ Ok a = subst (λ (x : InForce). straight k line words x f c ≡ Ok a) is made in
     subst (λ (x : Option ℤ). lines_of (elsewhere frames place k) line words ≡
-      Ok (straight_result (record { code = c; feed = x; keeps_series = length line == 0 }) k.front, line_of k f a)) (sym after)
+    Ok (straight_result (record { code = c; feed = x; keeps_series = length line == 0 }) k.front, line_of k f a)) (sym after)
     (meaning_elsewhere frames place k line words c f i h axes once fed ∙ rw moved refl)
 
 pub motion_refused : (frames : Frames) (place : Point3) (k : Known) (line : List Code) (words : List Word) (c : Code) (f : Option ℤ) (force : InForce) (fault : Fault)

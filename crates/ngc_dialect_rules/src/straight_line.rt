@@ -43,9 +43,7 @@ pub struct StraightLine {
 fn are_motion_words(words: &[Word]) -> bool
     ensures { result ≡ spec.are_motion_words words.now }
 {
-    words
-        .iter()
-        .all(|word| matches!(word.letter, b'F' | b'G' | b'X' | b'Y' | b'Z'))
+    words.iter().all(|word| matches!(word.letter, b'F' | b'G' | b'X' | b'Y' | b'Z'))
 }
 
 // Returns the code of a straight motion that is the line's only code, or that is in force if the
@@ -94,7 +92,10 @@ fn write_line(lines: &mut PlainLines, known: &Known, f: &Option<Value>, action: 
         (with_word (a_word letters.F (minute_feed known.now.modes.feed_mode f.now)) [])) }
 {
     lines.clear();
-    add(lines, a_word(Letter::F, minute_feed(known.modes.feed_mode, *f)));
+    add(
+        lines,
+        a_word(Letter::F, minute_feed(known.modes.feed_mode, *f)),
+    );
     add_action(lines, known.modes.units, action);
     end_line(lines);
 }
