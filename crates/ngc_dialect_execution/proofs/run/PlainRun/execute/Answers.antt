@@ -19,7 +19,7 @@ pub loop-part-preserved : goal.loop-part-preserved
 loop-part-preserved g c = record {
   words = elim c.match-part.branch [
     | in-Word w ↦ one_more _ _ _ _ (ap (λ r. r.words.items) w.self-is ∙ w.push.ensures.items) c.loop-part.invariant.words
-    | in-End+else-is_ended+in-Ok w ↦ none_more _ _ (ap (λ r. r.words.items) w.self-is ∙ w.clear.ensures)
+    | in-End+else-is_ended+in-Ok w ↦ none_more _ _ (ap (λ r. r.words.items) w.self-is ∙ w.clear-in-End.ensures)
   ];
   leads = elim c.match-part.branch [
     | in-Word w ↦
@@ -27,7 +27,7 @@ loop-part-preserved g c = record {
         (ap run_in w.self-is) c.loop-part.invariant.leads
     | in-End+else-is_ended+in-Ok w ↦
         with_line _ _ _ _ _ _ _ _ _ _ _ _ _ c.loop-part-test.true c.part-item.is w.in-End.is (sym w.is_ended.ensures ∙ w.if-is_ended.false)
-        refl (ap (λ r. r.words.items) w.self-is ∙ w.clear.ensures) (ap run_in w.self-is) w.in-Ok.ensures
+        refl (ap (λ r. r.words.items) w.self-is ∙ w.clear-in-End.ensures) (ap run_in w.self-is) w.in-Ok.ensures
         c.loop-part.invariant.leads
   ];
 }
