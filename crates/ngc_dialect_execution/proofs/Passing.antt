@@ -13,6 +13,9 @@ use Rattle.ngc_dialect_rules.specs.declared.plain.Plain.{Plain}
 use Rattle.ngc_dialect_rules.specs.declared.plan.LineCycle.{LineCycle}
 use Rattle.ngc_dialect_rules.specs.declared.plan.LineResult.{LineResult}
 use Rattle.ngc_dialect_rules.specs.Rules.{plain_lines}
+use Rattle.ngc_dialect_rules.specs.Straight.{straight_result}
+use Rattle.ngc_dialect_rules.specs.declared.straight_line.StraightLine.{StraightLine}
+use Rattle.ngc_modal_state.specs.declared.modes.Modes.{Modes}
 use Rattle.ngc_dialect_execution.specs.declared.fault.Cause.{Cause}
 use Rattle.ngc_dialect_execution.specs.declared.fault.Cause.TheVariants as causes
 use Rattle.ngc_dialect_execution.specs.declared.fault.Refusal.{Refusal}
@@ -187,3 +190,21 @@ words_go_on setup line words b d made begins r e is fails says =
     words_follow setup line words b d made r e
     (subst (Says (λ (x : Unit {0}). d) r)
     (sym (no (is_some made.0.compensation) (path_taken setup line words b) (made_taken setup line words made.0 made.1 b) (sym is ∙ fails))) says)
+
+-- a line of one straight motion, which has no cycle
+pub goes_straight : (setup : Setup) (line : ℕ) (words : List Word) (b d : Between) (made : StraightLine) (ps : List Plain) (modes : Modes)
+    (r : Result (Unit {0}) Refusal) → modes ≡ b.state.modes
+    → plain_lines (record (known_of b) { modes = modes }) words ≡ Ok (straight_result made b.front, ps)
+    → Says (λ (x : Unit {0}). d) r (made_taken setup line [] (straight_result made b.front) ps b)
+    → Says (λ (x : Unit {0}). d) r (plain_words_taken setup line words b)
+unfolding made_taken
+goes_straight setup line words b d made ps modes r is e says =
+    words_go_on setup line words b d (straight_result made b.front, ps) false r
+    (ap (λ (m : Modes). plain_lines (record (known_of b) { modes = m }) words) (sym is) ∙ e) refl refl says
+
+pub straight_refused : (setup : Setup) (line : ℕ) (words : List Word) (b : Between) (modes : Modes) (fault : RuleFault) → modes ≡ b.state.modes
+    → plain_lines (record (known_of b) { modes = modes }) words ≡ Err fault → plain_words_taken setup line words b ≡ Err (causes.Rule fault)
+unfolding plain_words_taken
+straight_refused setup line words b modes fault is e =
+    ap (λ (q : Result (LineResult × List Plain) RuleFault). caused causes.Rule q >>= λ m. made_or_path setup line words m b)
+    (ap (λ (m : Modes). plain_lines (record (known_of b) { modes = m }) words) (sym is) ∙ e)

@@ -31,8 +31,8 @@ run_in r = record { state = state_of r.interpreter; kept = kept_in r.kept }
 
 abbrev pub between_of : {A : Type 0} → WordInterpreter A → Between
 between_of i = record {
-  dialect = i.dialect;
-  front = i.front;
+  dialect = i.before.dialect;
+  front = i.before.front;
   state = state_of i.run.interpreter;
   path = i.path;
   waiting = i.waiting.items;

@@ -55,6 +55,7 @@ fn take_turn<A: Allocator + Copy>(
 }
 
 // Executes the turns of an arc.
+#[inline(never)]
 fn take_turns<A: Allocator + Copy>(
     interpreter: &mut WordInterpreter<A>,
     space: &mut Vec<Word, A>,
@@ -98,13 +99,14 @@ fn turning_in<A: Allocator + Copy>(
     if interpreter.path.is_some() {
         return None;
     }
-    match count_in(interpreter.dialect, words) {
+    match count_in(interpreter.before.dialect, words) {
         None => None,
         Some(count) => turning_on(&interpreter.known(), words, count),
     }
 }
 
 // Executes a line without polar words.
+#[inline(always)]
 fn take_turned<A: Allocator + Copy>(
     interpreter: &mut WordInterpreter<A>,
     space: &mut Vec<Word, A>,
@@ -198,6 +200,7 @@ fn polar_in<A: Allocator + Copy>(
 }
 
 // Executes a line with polar words.
+#[inline(never)]
 fn take_polar<A: Allocator + Copy>(
     interpreter: &mut WordInterpreter<A>,
     space: &mut LineSpace<A>,

@@ -41,6 +41,8 @@ pub(crate) struct PlainRun<A: Allocator> {
     alloc: A,
     pub(crate) interpreter: Interpreter<A>,
     pub(crate) kept: Option<Vec<KeptLine<A>, A>>,
+    // The words of the plain line that is next.
+    words: ArrayVec<Word, 64>,
     work: Work,
 }
 
@@ -88,22 +90,23 @@ impl<A: Allocator + Copy> PlainRun<A> {
             alloc,
             interpreter,
             kept: none_kept(alloc, wanted),
+            words: ArrayVec::new(),
             work: Work::new(),
         })
     }
 
-    // Executes the words of a plain line, and keeps it.
+    // Executes the plain line that is next, and keeps it.
     fn execute_line(
         &mut self,
         machine: &Machine<A>,
         tools: &Tools<A>,
         line: u32,
-        words: &[Word],
     ) -> Result<(), Refusal>
         ensures { Says (λ _. run_in self.new) result (caused causes.Plain
             (line_run (setup_of machine.now tools.now)
-            (record { line = line; words = pairs_of words.now }) (run_in self.old))) }
+            (record { line = line; words = pairs_of self.old.words.items }) (run_in self.old))) }
     {
+        let words = self.words.as_slice();
         match self
             .interpreter
             .take_words(machine, tools, line, words, &mut self.work)
@@ -133,19 +136,19 @@ impl<A: Allocator + Copy> PlainRun<A> {
             (spec.run (setup_of machine.now tools.now) (lines_at line plain.now.items)
             (run_in self.old))) }
     {
-        let mut words: ArrayVec<Word, 64> = ArrayVec::new();
+        self.words.clear();
         for part in plain.as_slice() {
             match part {
-                Plain::Word(word) => words.push(*word),
+                Plain::Word(word) => self.words.push(*word),
                 Plain::End => {
                     if self.interpreter.is_ended() {
                         return Ok(());
                     }
-                    match self.execute_line(machine, tools, line, words.as_slice()) {
+                    match self.execute_line(machine, tools, line) {
                         Ok(()) => {}
                         Err(refusal) => return Err(refusal),
                     }
-                    words.clear();
+                    self.words.clear();
                 }
             }
         }

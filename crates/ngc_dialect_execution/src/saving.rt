@@ -146,6 +146,7 @@ fn take_saving<A: Allocator + Copy>(
 }
 
 // Executes one of M70 to M73, unless cutter compensation is on.
+#[inline(never)]
 fn take_saving_line<A: Allocator + Copy>(
     interpreter: &mut WordInterpreter<A>,
     machine: &Machine<A>,
@@ -197,7 +198,7 @@ pub(crate) fn take_line_words<A: Allocator + Copy>(
     ensures { Says (λ _. between_of interpreter.new) result (spec.line_words_taken
         (setup_of machine.now tools.now) line words.now (between_of interpreter.old)) }
 {
-    match saving_in(interpreter.dialect, words) {
+    match saving_in(interpreter.before.dialect, words) {
         None => take_switched(interpreter, space, machine, tools, line, words),
         Some(saving) => take_saving_line(interpreter, machine, tools, line, saving),
     }

@@ -1,5 +1,5 @@
 //! Words of another control, executed.
-ghost use Rattle.std.specs.Prelude.{◌≡◌, ◌≤◌, ◌*◌, length, pos, IfOk, IfSome};
+ghost use Rattle.std.specs.Prelude.{◌≡◌, ◌≤◌, ◌*◌, [], length, pos, IfOk, IfSome};
 ghost use Rattle.ngc_line_reader.specs.declared.letter.Letter.TheVariants as letters;
 ghost use Rattle.ngc_machine_files.specs.Machine.{file_of};
 ghost use Rattle.ngc_canonical.specs.Interpreter.{setup_of};
@@ -7,6 +7,7 @@ ghost use Rattle.ngc_frames.specs.Changes.{frame_of};
 ghost use Rattle.ngc_dialect_execution.specs.Faults.{Says};
 ghost use Rattle.ngc_dialect_execution.specs.Mounting.{mounted};
 ghost use Rattle.ngc_dialect_path.specs.Paths.{programmed as programmed_of};
+ghost use Rattle.ngc_dialect_rules.specs.Straight.{straight_front, straight_result};
 ghost use Rattle.ngc_dialect_path.specs.Steps.{written_in};
 ghost use Rattle.ngc_dialect_execution.specs.Taken as spec;
 ghost use Rattle.ngc_dialect_execution.specs.Taken.{END};
@@ -28,7 +29,8 @@ use ngc_dialect_parameters::{Statement, Word};
 use ngc_dialect_path::{Path, PathLines, PathStep, held_line, path_end, path_step, programmed};
 use ngc_dialect_repeats::PolarEnd;
 use ngc_dialect_rules::{
-    Code, Front, Known, LineCycle, LineResult, Plain, PlainLines, plain_lines,
+    Code, Front, Known, LineCycle, LineResult, Plain, PlainLines, StraightLine, plain_lines,
+    straight_motion,
 };
 use ngc_dialect_saved::{SavedStack, Switches};
 use ngc_fixed_length::Value;
@@ -40,8 +42,10 @@ use std::alloc::{AllocError, Allocator};
 /// between two lines, and the commands so far.
 #[derive(Drop)]
 pub struct WordInterpreter<A: Allocator> {
-    pub(crate) dialect: Dialect,
-    pub(crate) front: Front,
+    // What the rules know. Only its dialect and its front are up to date between two lines: a straight
+    // motion needs neither the origins nor the place of the axes, and a copy of them takes longer than
+    // such a line.
+    pub(crate) before: Known,
     pub(crate) run: PlainRun<A>,
     plain: PlainLines,
     pub(crate) notes: Option<Notes>,
@@ -66,6 +70,17 @@ fn no_notes(wanted: bool) -> Option<Notes>
     ensures { result ≡ spec.start_notes wanted }
 {
     if wanted { Some(Notes::none()) } else { None }
+}
+
+// Changes what the dialect knows, as a line of one straight motion does.
+fn go_straight(front: &mut Front, made: StraightLine)
+    ensures { front.new ≡ straight_front made front.old }
+{
+    front.motion = Some(made.code);
+    front.feed = made.feed;
+    if !made.keeps_series {
+        front.series = None;
+    }
 }
 
 // Returns the word M2.
@@ -126,8 +141,13 @@ impl<A: Allocator + Copy> WordInterpreter<A> {
             return Err(AllocError);
         };
         Ok(WordInterpreter {
-            dialect,
-            front: Front::start(dialect, machine.home28, machine.home30),
+            before: Known {
+                dialect,
+                front: Front::start(dialect, machine.home28, machine.home30),
+                modes: run.interpreter.modes(),
+                frames: *run.interpreter.frames(),
+                place: run.interpreter.place(),
+            },
             run,
             plain: ArrayVec::new(),
             notes: no_notes(wanted.notes),
@@ -147,7 +167,7 @@ impl<A: Allocator + Copy> WordInterpreter<A> {
     pub fn dialect(&self) -> Dialect
         ensures { result ≡ (between_of self.now).dialect }
     {
-        self.dialect
+        self.before.dialect
     }
 
     /// Returns what the rules know before a line.
@@ -155,8 +175,8 @@ impl<A: Allocator + Copy> WordInterpreter<A> {
         ensures { result ≡ spec.known_of (between_of self.now) }
     {
         Known {
-            dialect: self.dialect,
-            front: self.front,
+            dialect: self.before.dialect,
+            front: self.before.front,
             modes: self.run.interpreter.modes(),
             frames: *self.run.interpreter.frames(),
             place: self.run.interpreter.place(),
@@ -252,7 +272,7 @@ impl<A: Allocator + Copy> WordInterpreter<A> {
             (setup_of machine.now tools.now) line stop start.kept start.moves
             (between_of self.old)) }
     {
-        self.front.series = Some(start.kept);
+        self.before.front.series = Some(start.kept);
         match self.take_moves(machine, tools, line, start.moves) {
             Ok(()) => {}
             Err(refusal) => return Err(refusal),
@@ -262,6 +282,7 @@ impl<A: Allocator + Copy> WordInterpreter<A> {
     }
 
     // Executes the cycle of a line, after the line's plain lines.
+    #[inline(never)]
     fn take_cycle(
         &mut self,
         machine: &Machine<A>,
@@ -298,7 +319,7 @@ impl<A: Allocator + Copy> WordInterpreter<A> {
             Ok(()) => {}
             Err(refusal) => return Err(refusal),
         }
-        self.front = made.front;
+        self.before.front = made.front;
         match made.cycle {
             None => Ok(()),
             Some(cycle) => self.take_cycle(machine, tools, line, words, &cycle),
@@ -339,12 +360,13 @@ impl<A: Allocator + Copy> WordInterpreter<A> {
             Ok(()) => {}
             Err(refusal) => return Err(refusal),
         }
-        self.front = step.front;
+        self.before.front = step.front;
         self.path = step.path;
         Ok(())
     }
 
     // Executes the words of a line where cutter compensation is on, begins or ends.
+    #[inline(never)]
     #[tactic(auto, unfolding(crate::specs::Taken::path_taken))]
     fn take_path(
         &mut self,
@@ -367,9 +389,31 @@ impl<A: Allocator + Copy> WordInterpreter<A> {
         }
     }
 
-    // Executes the words of a line where cutter compensation is off.
+    // Executes the plain line of a line of one straight motion.
+    #[tactic(auto, unfolding(crate::specs::Taken::made_taken))]
+    fn take_straight(
+        &mut self,
+        machine: &Machine<A>,
+        tools: &Tools<A>,
+        line: u32,
+        made: StraightLine,
+    ) -> Result<(), Refusal>
+        ensures { Says (λ _. between_of self.new) result (spec.made_taken
+            (setup_of machine.now tools.now) line [] (straight_result made (between_of self.old).front)
+            self.old.plain.items (between_of self.old)) }
+    {
+        match self.run.execute(machine, tools, line, &self.plain) {
+            Ok(()) => {}
+            Err(refusal) => return Err(refusal),
+        }
+        go_straight(&mut self.before.front, made);
+        Ok(())
+    }
+
+    // Executes the words of a line of any words where cutter compensation is off.
+    #[inline(never)]
     #[tactic(auto, unfolding(crate::specs::Taken::plain_words_taken))]
-    fn take_plain_words(
+    fn take_planned_words(
         &mut self,
         machine: &Machine<A>,
         tools: &Tools<A>,
@@ -388,6 +432,26 @@ impl<A: Allocator + Copy> WordInterpreter<A> {
                     self.take_made(machine, tools, line, words, &made)
                 }
             }
+            Err(fault) => Err(Refusal::Because(Cause::Rule(fault))),
+        }
+    }
+
+    // Executes the words of a line where cutter compensation is off.
+    #[tactic(auto, unfolding(crate::specs::Taken::plain_words_taken))]
+    fn take_plain_words(
+        &mut self,
+        machine: &Machine<A>,
+        tools: &Tools<A>,
+        line: u32,
+        words: &[Word],
+    ) -> Result<(), Refusal>
+        ensures { Says (λ _. between_of self.new) result (spec.plain_words_taken
+            (setup_of machine.now tools.now) line words.now (between_of self.old)) }
+    {
+        self.before.modes = self.run.interpreter.modes();
+        match straight_motion(&self.before, words, &mut self.plain) {
+            Ok(Some(made)) => self.take_straight(machine, tools, line, made),
+            Ok(None) => self.take_planned_words(machine, tools, line, words),
             Err(fault) => Err(Refusal::Because(Cause::Rule(fault))),
         }
     }
@@ -419,6 +483,7 @@ impl<A: Allocator + Copy> WordInterpreter<A> {
     }
 
     // Notes a line by what its words are read by.
+    #[inline(never)]
     fn note_words(&mut self, line: u32, words: &[Word])
         ensures { between_of self.new ≡ spec.words_noted line words.now (between_of self.old) }
     {
@@ -455,6 +520,7 @@ impl<A: Allocator + Copy> WordInterpreter<A> {
     /// canned cycle, after it is noted. While cutter compensation holds a move back, plain lines wait
     /// with it. A fault is the first one of the rules or of a plain line; nothing is then stated of
     /// what is known.
+    #[inline(always)]
     pub fn take_words(
         &mut self,
         machine: &Machine<A>,

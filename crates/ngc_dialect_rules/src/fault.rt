@@ -5,126 +5,118 @@ ghost use Rattle.ngc_dialect_rules.specs.Faults as spec;
 use crate::code::Code;
 use ngc_compensation::Refusal as CompensationRefusal;
 use ngc_dialect_arcs::ArcRefusal;
-use thiserror::Error;
 
 /// What no dialect has here.
-#[derive(Clone, Copy, Debug, Error)]
+#[derive(Clone, Copy)]
 pub enum LeftOut {
-    #[error("tapping")]
     Tapping,
-    #[error("boring on the way out of a hole")]
+    /// Boring on the way out of a hole.
     BackBoring,
-    #[error("threads")]
     Threads,
-    #[error("probing")]
     Probing,
-    #[error("splines")]
     Splines,
-    #[error("rotation or scaling of the coordinates")]
+    /// Rotation or scaling of the coordinates.
     Rotation,
-    #[error("polar coordinates")]
     Polar,
-    #[error("more coordinate systems than nine")]
+    /// More coordinate systems than nine.
     MoreSystems,
-    #[error("feed per turn or constant surface speed")]
+    /// Feed per turn or constant surface speed.
     FeedPerTurn,
-    #[error("diameters of a lathe")]
+    /// Diameters of a lathe.
     Diameters,
-    #[error("a second tool offset")]
+    /// A second tool offset.
     SecondOffset,
-    #[error("cutter compensation")]
     Compensation,
-    #[error("an angle of the spindle")]
+    /// An angle of the spindle.
     SpindleAngle,
-    #[error("outputs and inputs")]
+    /// Outputs and inputs.
     Outputs,
-    #[error("the number of the tool in the spindle")]
+    /// The number of the tool in the spindle.
     ToolInSpindle,
-    #[error("saved modes")]
+    /// Saved modes.
     ModeSaving,
-    #[error("subprograms")]
+    /// Subprograms.
     Calls,
-    #[error("G73 by a distance back that a setting of the control decides")]
+    /// G73 by a distance back that a setting of the control decides.
     ChipBreaking,
-    #[error("the tool table")]
+    /// The tool table.
     ToolTable,
-    #[error("rotary and secondary axes, except at 0")]
+    /// Rotary and secondary axes, except at 0.
     MoreAxes,
 }
 
 /// The reasons why a line isn't executed.
-#[derive(Clone, Copy, Debug, Error)]
+#[derive(Clone, Copy)]
 pub enum Cause {
-    #[error("the dialect has no such code")]
+    /// The dialect has no such code.
     UnknownCode,
-    #[error("{0}: not supported")]
+    /// A code or a word that no dialect has here.
     LeftOut(LeftOut),
-    #[error("a letter is on the line twice")]
+    /// A letter is on the line twice.
     LetterTwice,
-    #[error("two codes of one modal group")]
+    /// Two codes of one modal group.
     GroupTwice,
-    #[error("more than four M codes")]
+    /// More than four M codes.
     TooManyMCodes,
-    #[error("more than 24 codes")]
+    /// More than 24 codes.
     TooManyCodes,
-    #[error("two codes of the line use axis words")]
+    /// Two codes of the line use axis words.
     AxesTwice,
-    #[error("axis words without a motion code")]
+    /// Axis words without a motion code.
     NoMotionCode,
-    #[error("axis words beside G80")]
+    /// Axis words beside G80.
     AxesBesideEnd,
-    #[error("a motion beside G43.1")]
+    /// A motion beside G43.1.
     MotionBesideLength,
-    #[error("G43.1 with X or Y")]
+    /// G43.1 with X or Y.
     LengthOnOtherAxis,
-    #[error("G53 without G0 or G1")]
+    /// G53 without G0 or G1.
     NotStraight,
-    #[error("G53 in G91")]
+    /// G53 in G91.
     MachinePlaceInG91,
-    #[error("nothing uses the word")]
+    /// Nothing uses the word.
     NoUse,
-    #[error("a value below 0")]
+    /// A value below 0.
     Negative,
-    #[error("not a whole number")]
+    /// Not a whole number.
     NotWhole,
-    #[error("a word is missing that the code needs")]
+    /// A word is missing that the code needs.
     WordMissing,
-    #[error("a length over 100 metres")]
+    /// A length over 100 metres.
     LengthTooLarge,
-    #[error("a motion at feed 0")]
+    /// A motion at feed 0.
     FeedZero,
-    #[error("G10 with a number that isn't a coordinate system")]
+    /// G10 with a number that isn't a coordinate system.
     NoSuchSystem,
-    /// The offset of the line's G43 isn't known yet.
-    #[error("G43 beside G10 L20, G28, G30, G52 or an arc")]
+    /// G43 beside G10 L20, G28, G30, G52 or an arc: its offset isn't known yet.
     LengthBeside,
-    #[error("{0}")]
+    /// The arc is refused.
     Arc(ArcRefusal),
-    #[error("R is below the depth")]
+    /// R is below the depth.
     RetractBelowDepth,
-    #[error("the number of holes isn't from 1 to 9,999")]
+    /// The number of holes isn't from 1 to 9,999.
     HoleCount,
-    #[error("a peck that isn't above 0")]
+    /// A peck that isn't above 0.
     PeckNotAboveZero,
-    #[error("a dwell below 0")]
+    /// A dwell below 0.
     NegativeDwell,
-    #[error("the spindle does not turn")]
+    /// The spindle does not turn.
     SpindleOff,
-    #[error("a canned cycle in G93")]
+    /// A canned cycle in G93.
     CycleInInverseTime,
-    #[error("a height or a hole over 100 metres away")]
+    /// A height or a hole over 100 metres away.
     CycleTooFar,
-    #[error("not while cutter compensation is on")]
+    /// Not while cutter compensation is on.
     WhileCompensating,
-    #[error("not between G40 and the straight move after it")]
+    /// Not between G40 and the straight move after it.
     WhileLeaving,
-    #[error("cutter compensation in G93")]
+    /// Cutter compensation in G93.
     CompensationInInverseTime,
-    #[error("the tool isn't in the tool table")]
+    /// The tool isn't in the tool table.
     NoSuchTool,
-    #[error("over 1,000 lines between two moves beside a path")]
+    /// Over 1,000 lines between two moves beside a path.
     TooManyKept,
-    #[error("{0}")]
+    /// Cutter compensation is refused.
     Compensation(CompensationRefusal),
 }
 

@@ -32,5 +32,6 @@ pub use offsets::origin_of;
 pub use plain::{Plain, PlainLines, add_action, code_word, end_line};
 pub use plan::{Action, Amounts, InForce, LineCycle, LineResult, Plan};
 pub use rules::{add_feed, front_after, line_plan, plain_lines, write_modes};
+pub use straight_line::{StraightLine, straight_motion};
 pub use table::{code_in, has, is_among, is_fanuc, is_linuxcnc};
 pub use word::{add_codes, count, has_letter, value_of, word_of};

@@ -13,11 +13,10 @@ use crate::codes;
 use crate::fault::{Cause, Fault, about_code, about_letter};
 use crate::force::{centres_by, force_of, retract_by};
 use crate::front::{Front, KeptSeries, Known};
-use crate::moves::{has_axes, idle_fault, machine_place_fault, motion_of};
+use crate::moves::{idle_fault, machine_place_fault, motion_of};
 use crate::offsets::{go_home, local_offset, set_offset, set_origin, way_home};
 use crate::plain::{PlainLines, a_code, a_word, add, add_action, end_line};
 use crate::plan::{Action, Amounts, InForce, LineCycle, LineResult, Plan};
-use crate::straight_line::{are_motion_words, only_code, straight_lines};
 use crate::table::{code_in, has, is_among, is_linuxcnc};
 use crate::word::{add_codes, has_letter, refused_word, repeated};
 use arrayvec::ArrayVec;
@@ -27,8 +26,8 @@ use ngc_fixed_length::{FeedMode, Point3, Turn, Units, Value};
 use ngc_line_reader::Letter;
 use ngc_modal_state::MotionMode;
 
-// Returns F of a feed per minute.
-fn minute_feed(mode: FeedMode, f: Option<Value>) -> Option<Value>
+/// Returns F of a feed per minute.
+pub(crate) fn minute_feed(mode: FeedMode, f: Option<Value>) -> Option<Value>
     ensures { result ≡ spec.minute_feed mode f }
 {
     match mode {
@@ -331,33 +330,6 @@ fn cycle_by(line: &[Code], moves: Option<Code>) -> Option<LineCycle>
     }
 }
 
-fn planned(
-    amounts: Amounts,
-    force: InForce,
-    first: Option<Action>,
-    second: Option<Action>,
-    code: Option<Code>,
-    cycle: Option<LineCycle>,
-) -> Plan
-    ensures { result ≡ record {
-      amounts = amounts;
-      force = force;
-      first = first;
-      second = second;
-      code = code;
-      cycle = cycle;
-    } }
-{
-    Plan {
-        amounts,
-        force,
-        first,
-        second,
-        code,
-        cycle,
-    }
-}
-
 // Returns what a line becomes.
 #[tactic(auto, unfolding(crate::specs::Rules::plan_of))]
 fn plan_of(known: &Known, line: &[Code], words: &[Word]) -> Result<Plan, Fault>
@@ -376,7 +348,14 @@ fn plan_of(known: &Known, line: &[Code], words: &[Word]) -> Result<Plan, Fault>
     let code = code_after(known, line, &force, moves)?;
     let second = second_action(known, words, code_in(&codes::HOMES, line));
     let cycle = cycle_by(line, moves);
-    Ok(planned(amounts, force, first, second, code, cycle))
+    Ok(Plan {
+        amounts,
+        force,
+        first,
+        second,
+        code,
+        cycle,
+    })
 }
 
 fn add_some_action(lines: &mut PlainLines, units: Units, action: &Option<Action>)
@@ -566,6 +545,7 @@ pub fn line_plan(known: &Known, line: &[Code], words: &[Word]) -> Result<Plan, F
     plan_of(known, line, words)
 }
 
+// Writes what a line of these codes and words becomes.
 #[tactic(auto, unfolding(crate::specs::Rules::lines_of))]
 fn lines_of(
     known: &Known,
@@ -576,14 +556,6 @@ fn lines_of(
     ensures { Gives (λ r. (r, lines.new.items)) result
         (spec.lines_of known.now line.now words.now) }
 {
-    if let Some(code) = only_code(known, line) {
-        if are_motion_words(words)
-            && has_axes(known.dialect, line, words)
-            && repeated(words).is_none()
-        {
-            return straight_lines(known, line, words, code, lines);
-        }
-    }
     match line_plan(known, line, words) {
         Ok(plan) => Ok(carry_out(lines, known, line, words, &plan)),
         Err(fault) => Err(fault),

@@ -8,7 +8,7 @@ use Rattle.ngc_dialect_execution.proofs.run.PlainRun.execute.Given as goal
 
 abbrev pub invariant-loop-part : goal.invariant-loop-part
 invariant-loop-part g l = record {
-  words : length l.words.items ≤ l.part-index;
-  leads : left (setup_of l.machine l.tools) l.line l.part-items l.part-index l.words.items (run_in l.self)
+  words : length l.self.words.items ≤ l.part-index;
+  leads : left (setup_of l.machine l.tools) l.line l.part-items l.part-index l.self.words.items (run_in l.self)
       ≡ run (setup_of l.machine l.tools) (lines_at l.line l.part-items) (run_in l.fn.self);
 }

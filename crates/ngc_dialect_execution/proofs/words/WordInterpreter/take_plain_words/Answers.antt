@@ -1,10 +1,15 @@
-use Rattle.std.proofs.Common.{ap, sym, ◌∙◌}
-use Rattle.ngc_dialect_rules.specs.declared.front.Known.{Known}
-use Rattle.ngc_dialect_rules.specs.Rules.{plain_lines}
-use Rattle.ngc_dialect_execution.proofs.Passing.{words_go_on}
+use Rattle.ngc_canonical.specs.Interpreter.{setup_of}
+use Rattle.ngc_dialect_execution.specs.Views.{between_of}
+use Rattle.ngc_dialect_execution.proofs.Passing.{goes_straight, straight_refused}
 use Rattle.ngc_dialect_execution.proofs.words.WordInterpreter.take_plain_words.Goals as goal
 
-pub returns-else-is_some : goal.returns-else-is_some
-returns-else-is_some g c =
-    words_go_on _ _ _ _ _ _ _ _ (ap (λ (k : Known). plain_lines k c.args.words.now) (sym c.known-known.ensures) ∙ c.in-Ok.ensures)
-    c.is_some.ensures c.if-is_some.false c.take_made.ensures
+pub returns-in-Ok-Some : goal.returns-in-Ok-Some
+returns-in-Ok-Some g c =
+    let says = rw c.in-Ok-Some.field-0-is at c.in-Ok-Some.ensures.line in
+    goes_straight (setup_of c.args.machine.now c.args.tools.now) c.args.line c.args.words.now (between_of c.args.self.now) _ _ _ _ _ c.modes.ensures
+    (says (between_of c.args.self.now).state.frames (between_of c.args.self.now).state.place) c.take_straight.ensures
+
+pub returns-in-Err : goal.returns-in-Err
+returns-in-Err g c =
+    straight_refused (setup_of c.args.machine.now c.args.tools.now) c.args.line c.args.words.now (between_of c.args.self.now) _ _ c.modes.ensures
+    (c.in-Err.ensures.refused (between_of c.args.self.now).state.frames (between_of c.args.self.now).state.place)
