@@ -6,7 +6,6 @@ ghost use Rattle.ngc_dialect_rules.specs.Bytes as bytes;
 ghost use Rattle.ngc_dialect_rules.specs.Plain.{a_word, ended, with_action, with_word};
 ghost use Rattle.ngc_dialect_rules.specs.Rules.{lines_of, minute_feed, plain_lines};
 ghost use Rattle.ngc_dialect_rules.specs.Straight as spec;
-ghost use Rattle.ngc_dialect_rules.specs.Tables.{or_else};
 ghost use Rattle.ngc_dialect_rules.specs.Words.{amount, repeated};
 ghost use Rattle.ngc_fixed_length.specs.declared.points.Point3.{Point3};
 ghost use Rattle.ngc_line_reader.specs.Scan.{Gives};
@@ -63,25 +62,19 @@ fn only_code(known: &Known, line: &[Code]) -> Option<Code>
     }
 }
 
-// Returns the feed after a line with this F.
-fn feed_after(before: Option<Value>, f: &Option<Value>) -> Option<Value>
-    ensures { result ≡ or_else f.now before }
-{
-    match f {
-        Some(f) => Some(*f),
-        None => before,
-    }
-}
-
 // Returns what is in force for the motion of a line with this F.
 fn force_with(known: &Known, f: &Option<Value>) -> InForce
     ensures { result ≡ spec.force_with f.now known.now }
 {
+    let feed = match f {
+        Some(f) => Some(*f),
+        None => known.front.feed,
+    };
     InForce {
         units: known.modes.units,
         distance: known.modes.distance,
         feed_mode: known.modes.feed_mode,
-        feed: feed_after(known.front.feed, f),
+        feed,
         length: known.front.length,
     }
 }
@@ -124,7 +117,7 @@ fn write_motion(
             write_line(lines, known, f, &action);
             Ok(StraightLine {
                 code,
-                feed: feed_after(known.front.feed, f),
+                feed: force.feed,
                 keeps_series: line.is_empty(),
             })
         }
