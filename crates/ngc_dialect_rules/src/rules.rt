@@ -53,17 +53,6 @@ fn is_feed_apart(known: &Known, plan: &Plan) -> bool
         && !same_units(known.modes.units, plan.force.units)
 }
 
-fn add_feed_words(lines: &mut PlainLines, line: &[Code], plan: &Plan)
-    requires { array_vec_len lines.old ≤ 32 }
-    ensures items { lines.new.items
-        ≡ with_words (spec.feed_words line.now plan.now) lines.old.items }
-    ensures room { array_vec_len lines.new ≤ array_vec_len lines.old + 2 }
-{
-    add(lines, a_code(code_in(&codes::FEED_MODES, line)));
-    let f = minute_feed(plan.force.feed_mode, plan.amounts.feed);
-    add(lines, a_word(Letter::F, f));
-}
-
 /// Adds the words of the feed, in a line of their own if they count in other units than the line.
 #[tactic(auto, unfolding(crate::specs::Rules::with_feed))]
 pub fn add_feed(lines: &mut PlainLines, known: &Known, line: &[Code], plan: &Plan)
@@ -71,7 +60,9 @@ pub fn add_feed(lines: &mut PlainLines, known: &Known, line: &[Code], plan: &Pla
     ensures items { lines.new.items ≡ spec.with_feed known.now line.now plan.now lines.old.items }
     ensures room { array_vec_len lines.new ≤ array_vec_len lines.old + 3 }
 {
-    add_feed_words(lines, line, plan);
+    add(lines, a_code(code_in(&codes::FEED_MODES, line)));
+    let f = minute_feed(plan.force.feed_mode, plan.amounts.feed);
+    add(lines, a_word(Letter::F, f));
     if is_feed_apart(known, plan) {
         end_line(lines);
     }
@@ -379,16 +370,6 @@ fn last_stop(line: &[Code], cycle: Option<LineCycle>) -> Option<Code>
     }
 }
 
-fn add_last_words(lines: &mut PlainLines, line: &[Code], plan: &Plan)
-    requires { array_vec_len lines.old ≤ 60 }
-    ensures items { lines.new.items
-        ≡ with_words (spec.last_words line.now plan.now) lines.old.items }
-    ensures room { array_vec_len lines.new ≤ array_vec_len lines.old + 2 }
-{
-    add(lines, a_code(plan.code));
-    add(lines, a_code(last_stop(line, plan.cycle)));
-}
-
 /// Adds the words of a line that neither feed nor move: tool, spindle, coolant, dwell and modes.
 #[tactic(auto, unfolding(crate::specs::Rules::modes_written))]
 pub fn write_modes(lines: &mut PlainLines, line: &[Code], words: &[Word], amounts: &Amounts)
@@ -408,7 +389,8 @@ fn write_motions(lines: &mut PlainLines, line: &[Code], plan: &Plan)
 {
     add_some_action(lines, plan.force.units, &plan.first);
     add_some_action(lines, plan.force.units, &plan.second);
-    add_last_words(lines, line, plan);
+    add(lines, a_code(plan.code));
+    add(lines, a_code(last_stop(line, plan.cycle)));
     end_line(lines);
 }
 
