@@ -25,6 +25,8 @@ pub(crate) fn accept<A: Allocator>(job: Job<A>, plans: &Plans<A>) -> Accepted<A>
         (both_planned job.machine.step job.off (commands_in true job) plans.now).on }
     ensures { result ≡ accepted_of job }
 {
+    // Its contract says what holds for every job.
+    let _ = job.machine();
     Accepted::new(job)
 }
 

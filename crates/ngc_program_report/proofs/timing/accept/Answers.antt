@@ -6,7 +6,7 @@ use Rattle.ngc_program_report.proofs.timing.accept.Goals as goal
 pub new-requires : goal.new-requires
 new-requires g c =
     let job = c.args.job in
-    let good = c.job.invariant in
+    let good = c.machine.ensures.job in
     record {
       machine = good.machine;
       certificate = both_planned job.machine.step job.off (commands_in true job) c.args.plans.now;
