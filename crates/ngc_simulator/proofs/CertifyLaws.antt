@@ -1,11 +1,12 @@
 -- The result of certifying a program, from what is written of its plans.
-use Rattle.std.proofs.Common.{◌≡◌, ℕ, List, Option, true, Ok, Err, refl, ap₂, subst, sym}
+use Rattle.std.proofs.Common.{◌≡◌, ◌∙◌, ℕ, List, Option, true, Ok, Err, refl, ap, ap₂, subst, sym}
 use Rattle.std.specs.Prelude.{Result}
 use Rattle.std.specs.Io.KnownBytes.{Appends}
 use Rattle.ngc_text.specs.Written.{AppendsPrefix}
 use Rattle.ngc_text.specs.declared.writing.WriteFault.{WriteFault}
 use Rattle.ngc_line_reader.specs.ProgramText.{ProgramText, program_of, HaveReadings}
 use Rattle.ngc_canonical.specs.State.{Setup}
+use Rattle.ngc_machine_files.specs.Machine.{MachineFile}
 use Rattle.ngc_commands.specs.declared.command.Command.{Command}
 use Rattle.ngc_certificate_text.specs.Certificate.{Entry, CertificateData}
 use Rattle.ngc_certificate_text.specs.Joined.{Item, Parted, Joined, IsJoined}
@@ -13,6 +14,8 @@ use Rattle.ngc_certificate_text.specs.JoinedFirst.{joined_first}
 use Rattle.ngc_certificate_text.specs.Spelling.{version_2_text, version_1_text}
 use Rattle.ngc_certificate.specs.Common.{IsCommonBeginning, IsJoinedOf}
 use Rattle.ngc_certificate.specs.declared.fault.MakeFault.TheVariants.{Memory}
+use Rattle.ngc_certificate.specs.declared.plan.Plan.{Plan}
+use Rattle.ngc_certificate.specs.Planned.{planned}
 use Rattle.ngc_job.specs.Job.{JobData, commands_in}
 use Rattle.ngc_command_line.specs.declared.options.Format.{Format}
 use Rattle.ngc_command_line.specs.declared.options.Format.TheVariants.{One, Two}
@@ -96,3 +99,9 @@ plans_written setup bytes cuts format text j c old new (Err (answers.Write fault
   written.2,
 )
 plans_written setup bytes cuts format text j c old new (Err _) is_text have is_job made written = absurd written
+
+-- the motions of equal plans, for equal commands and machines
+pub same_planned : {A : Type 0} (machine own : MachineFile) (commands own_commands : List Command) (plan own_plan : Plan A) →
+    own ≡ machine → own_commands ≡ commands → own_plan ≡ plan → planned own.step own_commands own_plan ≡ planned machine.step commands plan
+same_planned {A} machine own commands own_commands plan own_plan m c p =
+    ap (λ (x : MachineFile). planned x.step own_commands own_plan) m ∙ ap₂ (λ (x : List Command) (y : Plan A). planned machine.step x y) c p

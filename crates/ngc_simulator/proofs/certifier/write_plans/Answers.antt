@@ -1,8 +1,7 @@
 use Rattle.std.proofs.Common.{sym, subst, true, ◌∙◌}
 use Rattle.ngc_certificate_text.specs.Certificate.{AreEntries}
 use Rattle.ngc_job.specs.Job.{commands_in}
-use Rattle.ngc_checker.proofs.JobLaws.{same_planned}
-use Rattle.ngc_simulator.proofs.CertifyLaws.{joined_as, parted_stopped, parted_written}
+use Rattle.ngc_simulator.proofs.CertifyLaws.{joined_as, parted_stopped, parted_written, same_planned}
 use Rattle.ngc_simulator.proofs.certifier.write_plans.Goals as goal
 
 pub motions-off_motions-requires-clause-are : goal.motions-off_motions-requires-clause-are
