@@ -64,7 +64,9 @@ class Comparison:
 
     def compare(self, export, names, options, words):
         """Compares a call with a command, and returns the command's output."""
-        return self.compare_call(f"outputOf({json.dumps(export)}, {json.dumps(names)}, {json.dumps(options)})", words)
+        # A message on a file begins with its name: these calls name the files by their kinds.
+        called = dict(zip(names[1:3], ("machine", "tools"))) if len(names) >= 3 else {}
+        return self.compare_call(f"outputOf({json.dumps(export)}, {json.dumps(names)}, {json.dumps(options)})", words, called)
 
     def compare_command(self, words, files, changes={}, options=()):
         """Compares a command line as the page makes it, with these files by their kinds and what replaces keys of the machine file, with
@@ -72,7 +74,7 @@ class Comparison:
         named = [f"--{kind}={name}" for kind, name in files.items()]
         return self.compare_call(f"commandOf({json.dumps(words)}, {json.dumps(changes)}, {json.dumps(files)})", [*words, *options, *named])
 
-    def compare_call(self, call, words):
+    def compare_call(self, call, words, called={}):
         try:
             status, output, errors = self.browser.value(call)
             ours = (status, base64.b64decode(output), base64.b64decode(errors))
@@ -80,7 +82,10 @@ class Comparison:
             ours = (None, b"", str(fault).encode())
         made = subprocess.run([self.program, *words], cwd=self.folder, stdin=subprocess.DEVNULL, capture_output=True)
         # The page keeps 65,536 bytes of the errors.
-        theirs = (made.returncode, made.stdout, made.stderr[:1 << 16])
+        written = made.stdout
+        for name, kind in called.items():
+            written = kind.encode() + written[len(name):] if written.startswith(f"{name}:".encode()) else written
+        theirs = (made.returncode, written, made.stderr[:1 << 16])
         kind = (words[0], made.returncode)
         self.seen[kind] = self.seen.get(kind, 0) + 1
         self.count(ours == theirs, f"{' '.join(words)}\n  page {ours[0], ours[1][:100], ours[2][:200]}\n  program {theirs[0], theirs[1][:100], theirs[2][:200]}")
