@@ -266,7 +266,7 @@ fn more_decimals(units: u64, s: &[u8]) -> Option<(u64, usize, &[u8])>
     Some((total, count, rest))
 }
 
-// Returns whether there is no digit, of so many before and after a point.
+// Returns whether a number has no digit, neither before nor after its point.
 #[inline]
 fn has_none(whole: usize, decimals: usize) -> bool
     ensures { result ≡ ((whole == 0) && (decimals == 0)) }

@@ -27,20 +27,20 @@ use Rattle.ngc_refused_files.specs.declared.example.Sample.TheVariants as sample
 
 -- the sentence on a cause, up to what `remedy` ends it with; the other causes have one of their own
 abbrev pub complaint : Cause → List ℕ
-complaint causes.LongText = codes "the text is longer than 256 bytes: write it like "
-complaint causes.NoNumber = codes "a number is missing or wrong: write it like "
+complaint causes.LongText = codes "the text is longer than 256 bytes; example: "
+complaint causes.NoNumber = codes "a number is missing or wrong; example: "
 complaint causes.ManyDigits = codes "a number has too many digits: write at most 12 on each side of the point"
-complaint causes.ZeroBelow = codes "a fraction is over zero: write it like "
+complaint causes.ZeroBelow = codes "a fraction is over zero; example: "
 complaint causes.Comma = codes "there is a comma too many: write decimals as "
-complaint causes.FractionUnit = codes "a fraction must be in inches: write it like "
-complaint (causes.OtherEnding endings.Nothing) = codes "there is more text after the unit: write it like "
-complaint (causes.OtherEnding endings.Pitch) = codes "the word pitch is missing: write it like "
-complaint (causes.OtherEnding endings.Belt) = codes "the word belt is missing: write it like "
-complaint causes.Negative = codes "a number is below zero: write it like "
-complaint causes.Zero = codes "a number is zero: write it like "
-complaint causes.NoTo = codes "the word to is missing: write it like "
-complaint causes.Reversed = codes "the end is below the start: write it like "
-complaint causes.NoGear = codes "the last part is no gear: write it like "
+complaint causes.FractionUnit = codes "a fraction must be in inches; example: "
+complaint (causes.OtherEnding endings.Nothing) = codes "there is more text after the unit; example: "
+complaint (causes.OtherEnding endings.Pitch) = codes "the word pitch is missing; example: "
+complaint (causes.OtherEnding endings.Belt) = codes "the word belt is missing; example: "
+complaint causes.Negative = codes "a number is below zero; example: "
+complaint causes.Zero = codes "a number is zero; example: "
+complaint causes.NoTo = codes "the word to is missing; example: "
+complaint causes.Reversed = codes "the end is below the start; example: "
+complaint causes.NoGear = codes "the last part is no gear; example: "
 complaint _ = codes ""
 
 abbrev pub kind_text : Kind → List ℕ
@@ -81,14 +81,14 @@ base_unit samples.Turning = codes " millionths of rpm"
 base_unit _ = codes ""
 
 unfoldable pub no_unit : List ℕ → List ℕ → List ℕ
-no_unit subject example = subject ++ codes " has no unit: write it like " ++ example
+no_unit subject example = subject ++ codes " has no unit; example: " ++ example
 
 unfoldable pub meant_unit : List ℕ → List ℕ → List ℕ
 meant_unit subject unit =
     subject ++ codes " has an unknown unit: did you mean " ++ unit ++ codes "?"
 
 unfoldable pub unmeant_unit : List ℕ → List ℕ
-unmeant_unit example = codes "the unit is unknown: write it like " ++ example
+unmeant_unit example = codes "the unit is unknown; example: " ++ example
 
 unfoldable pub unknown_unit : List ℕ → List ℕ → Option Unit → List ℕ
 unknown_unit subject example None = unmeant_unit example
@@ -96,7 +96,7 @@ unknown_unit subject example (Some unit) = meant_unit subject (unit_name unit)
 
 unfoldable pub other_kind : List ℕ → List ℕ → List ℕ → List ℕ
 other_kind example kind unit =
-    unit ++ codes " is no unit of " ++ kind ++ codes ": write it like " ++ example
+    unit ++ codes " is no unit of " ++ kind ++ codes "; example: " ++ example
 
 unfoldable pub too_large : List ℕ → List ℕ
 too_large most = codes "the number is too large: write at most " ++ most
@@ -208,7 +208,7 @@ unknown_text word meant =
 -- ---- the sentence
 
 unfoldable pub no_text : List ℕ → List ℕ
-no_text example = codes "the value isn't a text with a unit: write it like " ++ example
+no_text example = codes "the value isn't a text with a unit; example: " ++ example
 
 unfoldable pub no_table : List ℕ → List ℕ
 no_table header = codes "it isn't a table: write " ++ header ++ codes " and its keys below"

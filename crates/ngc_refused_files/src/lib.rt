@@ -1,7 +1,7 @@
 //! Why a machine file or a tool table of version 3 is refused, in words, with its line.
 //!
 //! ```text
-//! mill.toml:9: axis.x.speed: "8000" has no unit: write it like "8000 mm/min"
+//! mill.toml:9: axis.x.speed: "8000" has no unit; example: "8000 mm/min"
 //!   speed = "8000"
 //!                ^
 //! ```

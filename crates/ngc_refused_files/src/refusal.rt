@@ -102,7 +102,7 @@ fn say_all<W: Sink>(
 /// at fault.
 ///
 /// ```text
-/// mill.toml:9: axis.x.speed: "8000" has no unit: write it like "8000 mm/min"
+/// mill.toml:9: axis.x.speed: "8000" has no unit; example: "8000 mm/min"
 ///   speed = "8000"
 ///                ^
 /// ```

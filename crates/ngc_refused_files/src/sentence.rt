@@ -16,21 +16,21 @@ fn complaint(cause: Cause) -> &'static [u8]
     ensures { result.now ≡ spec.complaint cause }
 {
     match cause {
-        Cause::LongText => b"the text is longer than 256 bytes: write it like ",
-        Cause::NoNumber => b"a number is missing or wrong: write it like ",
+        Cause::LongText => b"the text is longer than 256 bytes; example: ",
+        Cause::NoNumber => b"a number is missing or wrong; example: ",
         Cause::ManyDigits =>
             b"a number has too many digits: write at most 12 on each side of the point",
-        Cause::ZeroBelow => b"a fraction is over zero: write it like ",
+        Cause::ZeroBelow => b"a fraction is over zero; example: ",
         Cause::Comma => b"there is a comma too many: write decimals as ",
-        Cause::FractionUnit => b"a fraction must be in inches: write it like ",
-        Cause::OtherEnding(Ending::Nothing) => b"there is more text after the unit: write it like ",
-        Cause::OtherEnding(Ending::Pitch) => b"the word pitch is missing: write it like ",
-        Cause::OtherEnding(Ending::Belt) => b"the word belt is missing: write it like ",
-        Cause::Negative => b"a number is below zero: write it like ",
-        Cause::Zero => b"a number is zero: write it like ",
-        Cause::NoTo => b"the word to is missing: write it like ",
-        Cause::Reversed => b"the end is below the start: write it like ",
-        Cause::NoGear => b"the last part is no gear: write it like ",
+        Cause::FractionUnit => b"a fraction must be in inches; example: ",
+        Cause::OtherEnding(Ending::Nothing) => b"there is more text after the unit; example: ",
+        Cause::OtherEnding(Ending::Pitch) => b"the word pitch is missing; example: ",
+        Cause::OtherEnding(Ending::Belt) => b"the word belt is missing; example: ",
+        Cause::Negative => b"a number is below zero; example: ",
+        Cause::Zero => b"a number is zero; example: ",
+        Cause::NoTo => b"the word to is missing; example: ",
+        Cause::Reversed => b"the end is below the start; example: ",
+        Cause::NoGear => b"the last part is no gear; example: ",
         _ => b"",
     }
 }
@@ -85,7 +85,7 @@ fn say_no_unit<'x, W: Sink>(subject: &'x [u8], example: &'x [u8], page: &mut Pag
         (W.failures output.old) (W.failures output.new) page.old page.new
         (spec.no_unit subject.now example.now) }
 {
-    say!(page, output; Part::Text(subject), b" has no unit: write it like ", Part::Text(example));
+    say!(page, output; Part::Text(subject), b" has no unit; example: ", Part::Text(example));
 }
 
 #[tactic(auto, unfolding(crate::specs::Sentences::meant_unit))]
@@ -103,7 +103,7 @@ fn say_unmeant_unit<W: Sink>(example: &[u8], page: &mut Page, output: &mut W)
         (W.failures output.old) (W.failures output.new) page.old page.new
         (spec.unmeant_unit example.now) }
 {
-    say!(page, output; b"the unit is unknown: write it like ", Part::Text(example));
+    say!(page, output; b"the unit is unknown; example: ", Part::Text(example));
 }
 
 #[tactic(auto, unfolding(crate::specs::Sentences::unknown_unit))]
@@ -136,7 +136,7 @@ fn say_other_kind<'x, W: Sink>(
         (W.failures output.old) (W.failures output.new) page.old page.new
         (spec.other_kind example.now kind.now unit.now) }
 {
-    say!(page, output; Part::Text(unit), b" is no unit of ", Part::Text(kind), b": write it like ", Part::Text(example));
+    say!(page, output; Part::Text(unit), b" is no unit of ", Part::Text(kind), b"; example: ", Part::Text(example));
 }
 
 #[tactic(auto, unfolding(crate::specs::Sentences::too_large))]
@@ -374,7 +374,7 @@ fn say_no_text<W: Sink>(example: &[u8], page: &mut Page, output: &mut W)
         (W.failures output.old) (W.failures output.new) page.old page.new
         (spec.no_text example.now) }
 {
-    say!(page, output; b"the value isn't a text with a unit: write it like ", Part::Text(example));
+    say!(page, output; b"the value isn't a text with a unit; example: ", Part::Text(example));
 }
 
 #[tactic(auto, unfolding(crate::specs::Sentences::no_table))]
