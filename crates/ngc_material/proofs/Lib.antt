@@ -1,3 +1,5 @@
+-- The discs of a cutter, one after another.
+pub mod Discs
 -- Products that fit, and the heights of tips.
 pub mod Tips
 -- The deepest of the cells in the way of a traverse, found part by part.

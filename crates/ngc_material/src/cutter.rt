@@ -2,27 +2,38 @@ ghost use Rattle.std.specs.Prelude.{◌≡◌, ◌≤◌, ◌<◌, nat_lt, lengt
 ghost use Rattle.std.specs.Int.{int_min};
 ghost use Rattle.ngc_fixed_length.specs.Limits.{LENGTH_LIMIT};
 ghost use Rattle.ngc_cells.specs.Stretches.{REACH, RADIUS_LIMIT};
-ghost use Rattle.ngc_stock.specs.Stocks.{above, first_part, kappa, sigma, margin, radius, reduction, level_of};
+ghost use Rattle.ngc_stock.specs.Stocks.{above, first_part, kappa, sigma, lowest_part, margin, radius, reduction, level_of};
 
 use ngc_cells::Grid;
 use ngc_fixed_length::{Nm, root_ceil};
 use ngc_machine_files::{Parts, Tool};
-use ngc_stock::Stock;
+use ngc_stock::{Cylinder, Stock};
 
-/// Returns the radius of a tool's cutter, which is its lowest part.
-pub(crate) fn radius(tool: &Tool) -> u32
-    ensures value { result ≡ radius tool.now }
+/// Returns the radius of a cylinder, at most a metre.
+pub(crate) fn radius(cylinder: &Cylinder) -> u32
+    ensures value { result ≡ radius cylinder.now }
     ensures bound { result ≤ RADIUS_LIMIT }
 {
-    let part = tool.parts.as_slice()[0];
-    1_000_000_000.min(part.radius.nanometres().unsigned_abs()) as u32
+    1_000_000_000.min(cylinder.radius) as u32
 }
 
-fn length(nanometres: i64) -> Nm
+/// Returns the lowest part of a tool, which is its cutter.
+pub(crate) fn lowest_part(tool: &Tool) -> Cylinder
+    ensures { result ≡ lowest_part tool.now }
+{
+    let part = tool.parts.as_slice()[0];
+    Cylinder {
+        bottom: tool.bottom,
+        radius: part.radius.nanometres().unsigned_abs(),
+    }
+}
+
+/// Returns a number of nanometres as a length.
+pub(crate) fn length(nanometres: i128) -> Nm
     requires { unsigned_abs nanometres ≤ LENGTH_LIMIT }
     ensures { result ≡ nanometres }
 {
-    Nm::from_nanometres(i128::from(nanometres)).unwrap()
+    Nm::from_nanometres(nanometres).unwrap()
 }
 
 // Returns how long the lowest part of a tool is.
@@ -40,7 +51,7 @@ fn foot_above(tool: &Tool) -> Nm
         (tool.now.bottom +ℤ pos (unsigned_abs (first_part tool.now.parts).length)) }
 {
     let foot = tool.bottom.nanometres() + lowest_length(tool);
-    length(100_000_000_000.min(foot))
+    length(i128::from(100_000_000_000.min(foot)))
 }
 
 /// Returns a tool without its lowest part, or the same tool if it has one part.
@@ -93,7 +104,7 @@ pub(crate) fn level_of(stock: &Stock, height: i64) -> u32
     }
 }
 
-/// Returns how much smaller than a tool's cutter the one is that is tested.
+/// Returns how much smaller than a cylinder of a tool the one is that is tested.
 pub(crate) fn reduction(grid: &Grid) -> u64
     requires { grid.now.half ≤ REACH }
     ensures value { result ≡ reduction grid.now }
@@ -102,7 +113,7 @@ pub(crate) fn reduction(grid: &Grid) -> u64
     kappa(grid) + sigma(grid)
 }
 
-/// Returns how much smaller than a tool's cutter the one is of which a walk says that it meets nothing
+/// Returns how much smaller than a cylinder of a tool the one is of which a walk says that it meets nothing
 /// in the traverses that aren't found, in nanometres.
 pub fn margin(grid: &Grid) -> u64
     requires { grid.now.half ≤ REACH }
@@ -115,7 +126,7 @@ pub fn margin(grid: &Grid) -> u64
 /// Returns whether a tool's cutter is so thin that its traverses aren't tested.
 pub fn is_thin(grid: &Grid, tool: &Tool) -> bool
     requires { grid.now.half ≤ REACH }
-    ensures { result ≡ nat_lt (radius tool.now) (reduction grid.now) }
+    ensures { result ≡ nat_lt (radius (lowest_part tool.now)) (reduction grid.now) }
 {
-    u64::from(radius(tool)) < reduction(grid)
+    u64::from(radius(&lowest_part(tool))) < reduction(grid)
 }

@@ -8,7 +8,7 @@ use Rattle.ngc_material.proofs.depth.depth_of.Goals as goal
 pub returns-in-Some-touch_at : goal.returns-in-Some-touch_at
 returns-in-Some-touch_at c =
     let s = c.args.stock.now in
-    let t = c.args.tool.now in
+    let t = c.args.cylinder.now in
     let a = c.args.line.now.start in
     let b = c.args.line.now.end in
     let k = kept64 c.lower_tip-tip.result (omega (arith, c.lower_tip-tip.ensures.bound)) in
@@ -21,7 +21,7 @@ returns-in-Some-touch_at c =
 pub returns-in-None : goal.returns-in-None
 returns-in-None c =
     let s = c.args.stock.now in
-    let t = c.args.tool.now in
+    let t = c.args.cylinder.now in
     let a = c.args.line.now.start in
     let b = c.args.line.now.end in
     let k = kept64 c.lower_tip-tip.result (omega (arith, c.lower_tip-tip.ensures.bound)) in

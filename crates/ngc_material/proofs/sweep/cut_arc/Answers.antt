@@ -3,5 +3,5 @@ use Rattle.ngc_material.proofs.sweep.cut_arc.Goals as goal
 
 pub returns : goal.returns
 returns c =
-    arc_cut c.args.stock.now c.args.tool.now c.args.arc.now c.end.result c.end-2.result c.args.heights.now c.cut_chords.new.heights c.cut.new.heights
+    arc_cut c.args.stock.now c.args.cylinder.now c.args.arc.now c.end.result c.end-2.result c.args.heights.now c.cut_chords.new.heights c.cut.new.heights
     c.end.ensures.value c.end-2.ensures.value c.cut_chords.ensures c.cut.ensures
