@@ -38,7 +38,7 @@ none_depth s t a b heights r e below = record {
   some = λ h. absurd (omega (arith, h));
 }
 
-natural_most : (x y : ℤ) → x ≤ℤ y → natural_of x ≤ natural_of y
+pub natural_most : (x y : ℤ) → x ≤ℤ y → natural_of x ≤ natural_of y
 natural_most (pos m) (pos n) h = omega (arith, ints, h)
 natural_most (pos m) (negsuc n) h = absurd (omega (arith, ints, h))
 natural_most (negsuc m) (pos n) h = omega arith

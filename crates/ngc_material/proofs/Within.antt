@@ -14,6 +14,7 @@ use Rattle.ngc_stock.specs.declared.cylinder.Cylinder.{Cylinder}
 use Rattle.ngc_stock.specs.declared.stock.Stock.{Stock}
 use Rattle.ngc_stock.specs.Stocks.{kappa, radius, pieces}
 use Rattle.ngc_stock.specs.Walk.{ArePiecesCut, AreCut, AreDiscsCut, AreChordsCut, IsArcCut, AreArcsCut, uncut}
+use Rattle.ngc_material.specs.Chords.{AreSomeCut}
 use Rattle.ngc_material.specs.Heights.{AreWithin}
 
 lowered : (s : Stock) (t : Stretch) (r level : ℕ) (old new : List ℕ) → AreLowered s.grid t r level old new → AreWithin s old → AreWithin s new
@@ -44,6 +45,9 @@ chords_within : (s : Stock) (t : Cylinder) (a : ArcShape) (n : ℕ) (old new : L
 chords_within s t a zero old new e within = subst (λ (l : List ℕ). AreWithin s l) (sym e) within
 chords_within s t a (suc n) old new (middle, room, d, e, before, plane, fits, chord, low) within =
     lowered s _ _ _ middle new low (chords_within s t a n old middle before within)
+
+pub some_within : (s : Stock) (t : Cylinder) (a : ArcShape) (old new : List ℕ) → AreSomeCut s t a old new → AreWithin s old → AreWithin s new
+some_within s t a old new some within = chords_within s t a some.0 old new some.1 within
 
 pub arc_within : (s : Stock) (t : Cylinder) (a : ArcShape) (old new : List ℕ) → IsArcCut s t a old new → AreWithin s old → AreWithin s new
 arc_within s t a old new cut within = cut_within s t a.end a.end cut.middle new cut.end (chords_within s t a cut.count old cut.middle cut.chords within)

@@ -2,7 +2,7 @@
 ghost use Rattle.std.specs.Prelude.{◌≡◌, ◌≤◌, ◌<◌, ◌+ℤ◌, IsTrue};
 ghost use Rattle.ngc_stock.specs.Stocks.{level_of, highest_tip, pieces};
 ghost use Rattle.ngc_stock.specs.Walk.{AreCut, AreDiscsCut};
-ghost use Rattle.ngc_material.specs.Heights.{AreHeights, is_reached};
+ghost use Rattle.ngc_material.specs.Heights.{AreHeights, AreWithin, is_reached};
 
 use crate::cutter::{kappa, level_of, radius};
 use crate::line::Line;
@@ -24,8 +24,8 @@ fn end_level(stock: &Stock, cylinder: &Cylinder, line: &Line) -> u32
     level_of(stock, line.last_tip(cylinder))
 }
 
-/// Lowers the cells that a disc of a feed's cutter covers.
-pub(crate) fn cut(stock: &Stock, heights: &mut [u32], cylinder: &Cylinder, line: &Line)
+// Lowers the cells that a disc of a feed's cutter covers.
+fn cut(stock: &Stock, heights: &mut [u32], cylinder: &Cylinder, line: &Line)
     requires heights { AreHeights stock.now heights.old }
     requires start { IsTrue (is_reached line.now.start) }
     requires end { IsTrue (is_reached line.now.end) }
@@ -48,14 +48,29 @@ pub(crate) fn cut(stock: &Stock, heights: &mut [u32], cylinder: &Cylinder, line:
     }
 }
 
+/// Lowers the cells that a disc of a feed's cutter covers, if its foot is somewhere below the stock's top.
+pub(crate) fn cut_disc(stock: &Stock, heights: &mut [u32], disc: &Cylinder, line: &Line)
+    requires heights { AreHeights stock.now heights.old }
+    requires within { AreWithin stock.now heights.old }
+    requires start { IsTrue (is_reached line.now.start) }
+    requires end { IsTrue (is_reached line.now.end) }
+    ensures { AreCut stock.now disc.now line.now.start line.now.end heights.old heights.new }
+{
+    // In a shallow feed the wide discs of a ball or a vee are mostly above the stock, and would take long.
+    if level_of(stock, line.lower_tip(disc)) < stock.height {
+        cut(stock, heights, disc, line);
+    }
+}
+
 /// Lowers the cells that the discs of a feed's cutter cover, one disc after another.
 pub(crate) fn cut_discs(stock: &Stock, heights: &mut [u32], discs: &[Cylinder], line: &Line)
     requires heights { AreHeights stock.now heights.old }
+    requires within { AreWithin stock.now heights.old }
     requires start { IsTrue (is_reached line.now.start) }
     requires end { IsTrue (is_reached line.now.end) }
     ensures { AreDiscsCut stock.now discs.now line.now.start line.now.end heights.old heights.new }
 {
     for disc in discs {
-        cut(stock, heights, disc, line);
+        cut_disc(stock, heights, disc, line);
     }
 }

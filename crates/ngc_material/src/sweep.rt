@@ -7,11 +7,11 @@ ghost use Rattle.ngc_stock.specs.Stocks.{sigma};
 ghost use Rattle.ngc_stock.specs.Arcs.{upper_tip, chord};
 ghost use Rattle.ngc_stock.specs.Walk.{AreArcsCut, IsArcCut};
 ghost use Rattle.ngc_material.specs.Chords.{IsSwept, AreSomeCut};
-ghost use Rattle.ngc_material.specs.Heights.{AreHeights, is_reached};
+ghost use Rattle.ngc_material.specs.Heights.{AreHeights, AreWithin, is_reached};
 
 use crate::chord::{Band, Sector};
 use crate::cutter::{level_of, sigma};
-use crate::cutting::cut;
+use crate::cutting::cut_disc;
 use crate::line::Line;
 use crate::spoke::Spoke;
 use crate::touch::tested_radius;
@@ -275,6 +275,7 @@ fn cut_chords(stock: &Stock, heights: &mut [u32], cylinder: &Cylinder, arc: &Arc
 // Lowers the cells that a disc covers along an arc, as far as its chords show it, and at its end.
 fn cut_arc(stock: &Stock, heights: &mut [u32], cylinder: &Cylinder, arc: &Arc)
     requires heights { AreHeights stock.now heights.old }
+    requires within { AreWithin stock.now heights.old }
     requires end { IsTrue (is_reached arc.now.end) }
     ensures { IsArcCut stock.now cylinder.now arc.now heights.old heights.new }
 {
@@ -283,12 +284,13 @@ fn cut_arc(stock: &Stock, heights: &mut [u32], cylinder: &Cylinder, arc: &Arc)
         start: arc.end(),
         end: arc.end(),
     };
-    cut(stock, heights, cylinder, &line);
+    cut_disc(stock, heights, cylinder, &line);
 }
 
 /// Lowers the cells that the discs of a cutter cover along an arc, one disc after another.
 pub(crate) fn cut_arcs(stock: &Stock, heights: &mut [u32], discs: &[Cylinder], arc: &Arc)
     requires heights { AreHeights stock.now heights.old }
+    requires within { AreWithin stock.now heights.old }
     requires end { IsTrue (is_reached arc.now.end) }
     ensures { AreArcsCut stock.now discs.now arc.now heights.old heights.new }
 {

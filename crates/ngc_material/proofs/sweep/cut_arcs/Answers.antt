@@ -1,6 +1,6 @@
 use Rattle.std.proofs.Common.{◌∙◌}
 use Rattle.ngc_material.proofs.Discs.{arc_next, arc_all}
-use Rattle.ngc_material.proofs.Within.{arc_count}
+use Rattle.ngc_material.proofs.Within.{arc_count, arc_within}
 use Rattle.ngc_material.proofs.sweep.cut_arcs.Goals as goal
 
 pub loop-disc-preserved : goal.loop-disc-preserved
@@ -10,6 +10,7 @@ loop-disc-preserved c =
     let v = c.loop-disc.invariant in
     record {
       count = arc_count s c.disc-item.result a c.loop-disc.heights c.cut_arc.new.heights c.cut_arc.ensures ∙ v.count;
+      within = arc_within s c.disc-item.result a c.loop-disc.heights c.cut_arc.new.heights c.cut_arc.ensures v.within;
       cut = arc_next s c.args.discs.now c.loop-disc.disc-index c.disc-item.result a c.args.heights.now c.loop-disc.heights c.cut_arc.new.heights
           c.loop-disc-test.true c.disc-item.is v.cut c.cut_arc.ensures;
     }
