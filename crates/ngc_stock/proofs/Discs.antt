@@ -2,6 +2,7 @@
 use Rattle.std.proofs.Common.{◌≡◌, ℕ, ◌+◌, ◌*◌, ◌-◌, ◌/◌, ◌^◌, ◌<◌, ◌≤◌, inl, inr, subst, arith, max}
 use Rattle.std.specs.Int.{div_ceil}
 use Rattle.std.proofs.lemmas.Bool.{cases_lt}
+use Rattle.std.proofs.lemmas.Grind.{div_ceil_times}
 use Rattle.std.proofs.lemmas.Nat.{mul-le}
 use Rattle.ngc_fixed_length.specs.Roots.{whole_root}
 use Rattle.ngc_fixed_length.proofs.RootLaws.{whole_root-greatest, at_most}
@@ -38,7 +39,7 @@ ball_inside r n few small =
     in_ball r d (whole_root (r * r - d * d)) (step_most r n few) (root_least r d small) root.square
 
 ceiling_most : (x r : ℕ) → 0 < r → x ≤ div_ceil x r * r
-ceiling_most x r some = omega arith
+ceiling_most x r some = (div_ceil_times x r some).0
 
 pub cone_inside : ConeInside
 unfolding cone_up
