@@ -1,13 +1,16 @@
 -- The parts of a tool, tested one after another from the lowest up.
-use Rattle.std.proofs.Common.{◌≡◌, ℕ, zero, suc, ◌+◌, ◌-◌, ◌<◌, ◌≤◌, inl, inr, ◌∙◌, ap, subst, arith, List, length}
+use Rattle.std.proofs.Common.{◌≡◌, ℕ, zero, suc, ◌+◌, ◌-◌, ◌<◌, ◌≤◌, inl, inr, ◌∙◌, ap, subst, arith, List, length, Option, Some, None}
+use Rattle.std.specs.Prelude.{IfNone, IfSome}
 use Rattle.std.proofs.lemmas.Bool.{cases_lt}
 use Rattle.std.proofs.lemmas.List.{length-drop}
 use Rattle.ngc_fixed_length.specs.declared.points.Point3.{Point3}
 use Rattle.ngc_machine_files.specs.declared.tools.Tool.{Tool}
+use Rattle.ngc_stock.specs.declared.cylinder.Cylinder.{Cylinder}
 use Rattle.ngc_stock.specs.declared.stock.Stock.{Stock}
 use Rattle.ngc_stock.specs.Stocks.{above, lowest_part, from_part}
-use Rattle.ngc_stock.specs.Walk.{IsClear, AreClear}
-use Rattle.ngc_material.specs.Touches.{IsInWay, IsDeepest, IsUpperTouch}
+use Rattle.ngc_stock.specs.Walk.{IsClear, AreDiscsClear, AreClear}
+use Rattle.ngc_material.specs.Touches.{IsInWay, IsDeepest, IsUpperTouch, IsFirstTouch}
+use Rattle.ngc_material.specs.declared.touch.PartTouch.{PartTouch}
 use Rattle.ngc_material.specs.declared.touch.Touch.{Touch}
 
 pub length_from : (t : Tool) (p : ℕ) → length (from_part t p).parts ≡ length t.parts - p
@@ -55,3 +58,15 @@ pub all_clear : (s : Stock) (t : Tool) (a b : Point3) (heights : List ℕ) (part
     ((p : ℕ) → 0 < p → p < part → IsClear s (lowest_part (from_part t p)) a b heights) → AreClear s t a b heights
 all_clear s t a b heights part whole lower p from less = lower p from (omega (arith, whole, less))
 
+
+-- ---- after the cutter
+
+pub none_with : (o : Option PartTouch) (P Q : Type 0) → P → IfNone o Q → IfNone o (P × Q)
+none_with None P Q p q = (p, q)
+none_with (Some f) P Q p q = tt
+
+-- the discs are clear, and a part above them isn't
+pub upper_first : (s : Stock) (ds : List Cylinder) (t : Tool) (a b : Point3) (heights : List ℕ) (o : Option PartTouch) → AreDiscsClear s ds a b heights →
+    IfSome o (λ f. IsUpperTouch s t a b heights f.part f.touch) → IfSome o (λ f. IsFirstTouch s ds t a b heights f.part f.touch)
+upper_first s ds t a b heights None clear h = tt
+upper_first s ds t a b heights (Some f) clear h = inr (clear, h)

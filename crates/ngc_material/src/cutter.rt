@@ -28,12 +28,11 @@ pub(crate) fn lowest_part(tool: &Tool) -> Cylinder
     }
 }
 
-/// Returns a number of nanometres as a length.
-pub(crate) fn length(nanometres: i128) -> Nm
+fn length(nanometres: i64) -> Nm
     requires { unsigned_abs nanometres ≤ LENGTH_LIMIT }
     ensures { result ≡ nanometres }
 {
-    Nm::from_nanometres(nanometres).unwrap()
+    Nm::from_nanometres(i128::from(nanometres)).unwrap()
 }
 
 // Returns how long the lowest part of a tool is.
@@ -51,7 +50,7 @@ fn foot_above(tool: &Tool) -> Nm
         (tool.now.bottom +ℤ pos (unsigned_abs (first_part tool.now.parts).length)) }
 {
     let foot = tool.bottom.nanometres() + lowest_length(tool);
-    length(i128::from(100_000_000_000.min(foot)))
+    length(100_000_000_000.min(foot))
 }
 
 /// Returns a tool without its lowest part, or the same tool if it has one part.

@@ -34,7 +34,7 @@ impl<A: Allocator + Copy> Mounted<A> {
     }
 
     /// Follows an action. The discs are made again at a tool change alone. It fails if memory is refused.
-    pub(crate) fn follow(
+    pub(crate) fn advance(
         &mut self,
         alloc: A,
         table: &[ToolLimits],

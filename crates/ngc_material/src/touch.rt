@@ -236,8 +236,8 @@ pub(crate) fn first_touch(
     requires within { AreWithin stock.now heights.now }
     requires start { IsTrue (is_reached line.now.start) }
     requires end { IsTrue (is_reached line.now.end) }
-    ensures discs { IfNone result (AreDiscsClear stock.now discs.now line.now.start line.now.end heights.now) }
-    ensures uppers { IfNone result (AreClear stock.now tool.now line.now.start line.now.end heights.now) }
+    ensures none { IfNone result (AreDiscsClear stock.now discs.now line.now.start line.now.end heights.now
+        × AreClear stock.now tool.now line.now.start line.now.end heights.now) }
     ensures some { IfSome result (λ f.
         IsFirstTouch stock.now discs.now tool.now line.now.start line.now.end heights.now f.part f.touch) }
 {

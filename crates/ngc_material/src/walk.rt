@@ -159,7 +159,7 @@ fn walk<A: Allocator + Copy>(
         measure(&material, &mut cuts, &mounted, index, command)?;
         follow(&mut material, &mut traverses, &mounted, index, command)?;
         test(&material, &mut feeds, &mounted, index, command)?;
-        mounted.follow(alloc, table, &command.action)?;
+        mounted.advance(alloc, table, &command.action)?;
         left = later;
     }
     Ok(Touches {

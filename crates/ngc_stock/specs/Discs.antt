@@ -56,10 +56,10 @@ ball_disc t r n = disc t (step r n) (ball_up r (step r n))
 abbrev pub cone_disc : Tool → ℕ → ℕ → ℕ → Cylinder
 cone_disc t r h n = disc t (step r n) (cone_up r h (step r n))
 
-abbrev pub ball_discs : Tool → ℕ → List Cylinder
+unfoldable pub ball_discs : Tool → ℕ → List Cylinder
 ball_discs t r = map (ball_disc t r) BALL_STEPS
 
-abbrev pub cone_discs : Tool → ℕ → ℕ → List Cylinder
+unfoldable pub cone_discs : Tool → ℕ → ℕ → List Cylinder
 cone_discs t r h = map (cone_disc t r h) CONE_STEPS
 
 -- of a tool whose cutter has this shape, and this height of its cone; a flat cutter is one disc

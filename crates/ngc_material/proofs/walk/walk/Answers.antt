@@ -9,17 +9,17 @@ loop-command-preserved g c =
     let m = c.loop-command.mounted in
     let e = c.in-Some.ensures.cases.0 in record {
       stock = c.in_ok-follow.ensures.stock ∙ v.stock;
-      discs = c.in_ok-follow-2.ensures.discs;
+      discs = c.in_ok-advance.ensures.discs;
       near = later_reached c.loop-command.left.now c.in-Some.later.now c.in-Some.command.now e v.near;
       few = omega (arith, v.few, c.in-Some.ensures.cases.1);
-      found = kept_found c.args.stock.now c.args.table.now c.args.start.now m.reached c.follow-2.new.self.reached c.args.commands.now c.loop-command.left.now c.in-Some.later.now c.in-Some.command.now
+      found = kept_found c.args.stock.now c.args.table.now c.args.start.now m.reached c.advance.new.self.reached c.args.commands.now c.loop-command.left.now c.in-Some.later.now c.in-Some.command.now
           c.loop-command.material.heights.items c.follow.new.material.heights.items c.loop-command.traverses.items c.follow.new.traverses.items
           c.loop-command.feeds.items c.test.new.feeds.items
-          e v.few c.in_ok-follow-2.ensures.reached (rw (v.stock, v.discs) at c.in_ok-follow.ensures.found) (rw (c.in_ok-follow.ensures.stock ∙ v.stock) at c.in_ok-test.ensures) v.found;
-      cuts = kept_cuts c.args.stock.now c.args.table.now c.args.start.now m.reached c.follow-2.new.self.reached c.args.commands.now c.loop-command.left.now c.in-Some.later.now c.in-Some.command.now
+          e v.few c.in_ok-advance.ensures.reached (rw (v.stock, v.discs) at c.in_ok-follow.ensures.found) (rw (c.in_ok-follow.ensures.stock ∙ v.stock) at c.in_ok-test.ensures) v.found;
+      cuts = kept_cuts c.args.stock.now c.args.table.now c.args.start.now m.reached c.advance.new.self.reached c.args.commands.now c.loop-command.left.now c.in-Some.later.now c.in-Some.command.now
           c.loop-command.material.heights.items c.follow.new.material.heights.items c.loop-command.traverses.items c.follow.new.traverses.items
           c.loop-command.cuts.items c.measure.new.cuts.items
-          e v.few c.in_ok-follow-2.ensures.reached (rw (v.stock, v.discs) at c.in_ok-follow.ensures.found) (rw (v.stock, v.discs) at c.in_ok-measure.ensures) v.cuts;
+          e v.few c.in_ok-advance.ensures.reached (rw (v.stock, v.discs) at c.in_ok-follow.ensures.found) (rw (v.stock, v.discs) at c.in_ok-measure.ensures) v.cuts;
     }
 
 pub returns-clause-found : goal.returns-clause-found
