@@ -1,5 +1,5 @@
 -- The discs of a cutter, one after another.
-pub mod Discs
+pub mod EachDisc
 -- A disc whose foot is nowhere below the stock's top lowers no cell.
 pub mod Uncut
 -- Products that fit, and the heights of tips.

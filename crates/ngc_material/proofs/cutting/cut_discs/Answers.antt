@@ -1,5 +1,5 @@
 use Rattle.std.proofs.Common.{◌∙◌}
-use Rattle.ngc_material.proofs.Discs.{cut_next, cut_all}
+use Rattle.ngc_material.proofs.EachDisc.{cut_next, cut_all}
 use Rattle.ngc_material.proofs.Within.{cut_count, cut_within}
 use Rattle.ngc_material.proofs.cutting.cut_discs.Goals as goal
 

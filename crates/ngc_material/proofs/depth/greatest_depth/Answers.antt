@@ -1,4 +1,4 @@
-use Rattle.ngc_material.proofs.Discs.{depth_next, depth_all}
+use Rattle.ngc_material.proofs.EachDisc.{depth_next, depth_all}
 use Rattle.ngc_material.proofs.depth.greatest_depth.Goals as goal
 
 pub loop-disc-preserved : goal.loop-disc-preserved

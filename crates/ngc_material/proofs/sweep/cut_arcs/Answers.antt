@@ -1,5 +1,5 @@
 use Rattle.std.proofs.Common.{◌∙◌}
-use Rattle.ngc_material.proofs.Discs.{arc_next, arc_all}
+use Rattle.ngc_material.proofs.EachDisc.{arc_next, arc_all}
 use Rattle.ngc_material.proofs.Within.{arc_count, arc_within}
 use Rattle.ngc_material.proofs.sweep.cut_arcs.Goals as goal
 

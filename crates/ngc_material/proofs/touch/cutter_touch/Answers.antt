@@ -1,5 +1,5 @@
 use Rattle.std.proofs.Common.{◌≡◌, sym, subst, Option}
-use Rattle.ngc_material.proofs.Discs.{touch_next, touch_none, touch_some}
+use Rattle.ngc_material.proofs.EachDisc.{touch_next, touch_none, touch_some}
 use Rattle.ngc_material.proofs.touch.cutter_touch.Goals as goal
 
 pub loop-disc-init : goal.loop-disc-init
