@@ -13,7 +13,7 @@ use Rattle.ngc_stock.specs.declared.cut.Cut.{Cut}
 use Rattle.ngc_stock.specs.declared.stock.Stock.{Stock}
 use Rattle.ngc_stock.specs.Below.{all_below}
 use Rattle.ngc_stock.specs.Changes.{changes}
-use Rattle.ngc_stock.specs.Stocks.{margin, radius, reduction}
+use Rattle.ngc_stock.specs.Stocks.{lowest_part, margin, radius, reduction}
 use Rattle.ngc_material.specs.declared.walk.Found.{Found}
 use Rattle.ngc_material_report.specs.declared.touches.Kind.{Kind}
 use Rattle.ngc_material_report.specs.declared.touches.Kind.TheVariants.{Traverse, Feed}
@@ -242,7 +242,7 @@ thin_line Json g t = thin_fact t
 
 -- of a tool that is too thin
 abbrev pub thin_text : Form → Grid → Tool → List ℕ
-thin_text form g t = if nat_lt (radius t) (reduction g) then thin_line form g t else []
+thin_text form g t = if nat_lt (radius (lowest_part t)) (reduction g) then thin_line form g t else []
 
 abbrev pub untested_text : Form → Grid → List Tool → List Cut → List ℕ
 untested_text form g tools cuts = margin_line form g cuts ++ flat_map (thin_text form g) tools
