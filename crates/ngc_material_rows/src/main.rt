@@ -193,7 +193,7 @@ impl Program {
         match find_touches(alloc, &stock, table, &start, self.commands.as_slice()) {
             Ok(touches) => {
                 match write_found(&origin_of(self.stock), &touches, output) {
-                    Ok(()) => self.write_depths(&touches, output),
+                    Ok(()) => self.write_depths(alloc, &touches, output),
                     Err(fault) => Err(fault),
                 }
             }
@@ -204,6 +204,7 @@ impl Program {
 
     fn write_depths<W: Sink>(
         &self,
+        alloc: Global,
         touches: &Touches<Global>,
         output: &mut W,
     ) -> Result<(), WriteFault> {
@@ -211,8 +212,12 @@ impl Program {
         if !self.has_depths || cuts.is_empty() {
             return Ok(());
         }
-        match write_cuts(Form::Words, cuts, output) {
-            Ok(()) => end_line(write_cuts(Form::Json, cuts, output), output),
+        let Some(table) = tools(alloc) else {
+            return write_all(output, b"  no memory\n");
+        };
+        let tools = table.tools();
+        match write_cuts(Form::Words, tools, cuts, output) {
+            Ok(()) => end_line(write_cuts(Form::Json, tools, cuts, output), output),
             Err(fault) => Err(fault),
         }
     }
