@@ -94,9 +94,10 @@ discs_below : (s : Stock) (t : Tool) (ds : List Cylinder) (a b : Point3) (grid :
     AreMetBelow s Left a b (lower_tip (lowest_part t) a b +ℤ pos d) ds
 discs_below s t [] a b grid heights Left d stock bounds h = tt
 discs_below s t (x ∷ xs) a b grid heights Left d stock bounds (e, rest, one, others, is) =
-    let z = lower_tip (lowest_part t) a b in
-    (higher s Left a b z (from_tip t x e) d x (omega (arith, is)) (from_tip_below s t x a b grid heights Left e stock bounds one),
-    all_higher s Left a b z rest d xs (omega (arith, is)) (discs_below s t xs a b grid heights Left rest stock bounds others))
+    let z = lower_tip (lowest_part t) a b in (
+      higher s Left a b z (from_tip t x e) d x (omega (arith, is)) (from_tip_below s t x a b grid heights Left e stock bounds one),
+      all_higher s Left a b z rest d xs (omega (arith, is)) (discs_below s t xs a b grid heights Left rest stock bounds others),
+    )
 
 way_shallow : (s : Stock) (ds : List Cylinder) (t : Tool) (way : Way) (pace : Pace) (grid : IsGrid s.grid) (heights : List ℕ) (Left : Point3 → Type 0) (d : ℕ) →
     ((q : Point3) → Left q → IsInStock s q) → AreBounds s heights Left → IsDepthOn s ds t way pace heights d → IsShallowOn s Left ds t way pace d
