@@ -64,11 +64,11 @@ cone_discs t r h = map (cone_disc t r h) CONE_STEPS
 
 -- of a tool whose cutter has this shape, and this height of its cone; a flat cutter is one disc
 abbrev pub shaped : Tool → Option Cutter → Option ℕ → List Cylinder
-shaped t (Some Ball) cone = ball_discs t (radius (lowest_part t))
-shaped t (Some Vee) cone = cone_discs t (radius (lowest_part t)) (vee_height (radius (lowest_part t)) cone)
-shaped t (Some Drill) cone = cone_discs t (radius (lowest_part t)) (drill_height (radius (lowest_part t)) cone)
-shaped t (Some Flat) cone = lowest_part t ∷ []
-shaped t None cone = lowest_part t ∷ []
+shaped t (Some Ball) height = ball_discs t (radius (lowest_part t))
+shaped t (Some Vee) height = cone_discs t (radius (lowest_part t)) (vee_height (radius (lowest_part t)) height)
+shaped t (Some Drill) height = cone_discs t (radius (lowest_part t)) (drill_height (radius (lowest_part t)) height)
+shaped t (Some Flat) height = lowest_part t ∷ []
+shaped t None height = lowest_part t ∷ []
 
 abbrev pub shaped_by : Tool → Option ToolLimits → List Cylinder
 shaped_by t None = lowest_part t ∷ []
