@@ -75,9 +75,9 @@ pub uncut : (s : Stock) (t : Cylinder) (a b : Point3) (heights : List ℕ) → s
 uncut s t a b heights high within = record {
   thin = λ thin. refl;
   thick = λ thick. (
-      heights,
-      pieces_stay s t a b (pieces a b) heights (omega arith) high within,
-      stays s (point_at b) (radius t - kappa s.grid) (level_of s (b.z +ℤ t.bottom)) heights
-      (level_top s (lower_tip t a b) (b.z +ℤ t.bottom) high (end_most t a b)) within,
-    );
+    heights,
+    pieces_stay s t a b (pieces a b) heights (omega arith) high within,
+    stays s (point_at b) (radius t - kappa s.grid) (level_of s (b.z +ℤ t.bottom)) heights
+        (level_top s (lower_tip t a b) (b.z +ℤ t.bottom) high (end_most t a b)) within,
+  );
 }
