@@ -84,7 +84,7 @@ deeper_of g In Next (Some t) None h i = record {
 }
 deeper_of g In Next (Some t) (Some u) h i = deeper_some (ltb t.depth u.depth) g In Next t u (less_of t.depth u.depth) (more_of t.depth u.depth) h i
 
-deepest_as : (g : Grid) (In Same : ℕ → ℕ → Type 0) (o : Option Touch) → ((k d : ℕ) → In k d → Same k d) → ((k d : ℕ) → Same k d → In k d) → IsDeepestOf g In o → IsDeepestOf g Same o
+pub deepest_as : (g : Grid) (In Same : ℕ → ℕ → Type 0) (o : Option Touch) → ((k d : ℕ) → In k d → Same k d) → ((k d : ℕ) → Same k d → In k d) → IsDeepestOf g In o → IsDeepestOf g Same o
 deepest_as g In Same None there back h = λ k d x. h k d (back k d x)
 deepest_as g In Same (Some t) there back h = record { cell = h.cell; found = there h.cell t.depth h.found; place = h.place; greatest = λ k d x. h.greatest k d (back k d x) }
 

@@ -1,10 +1,9 @@
 -- The deepest feeds of a walk, one of each tool, and what that means.
-use Rattle.std.proofs.Common.{◌≡◌, ℕ, suc, ◌+◌, ◌-◌, ◌<◌, ◌≤◌, inl, inr, sym, subst, refl, ap, ◌∙◌, append_assoc, append-nil, arith, max, List, [], ◌∷◌, ◌++◌, Option, Some, None, Bool, true, false, not, cond, eq-eqb, length}
+use Rattle.std.proofs.Common.{◌≡◌, ℕ, suc, ◌+◌, ◌-◌, ◌≤◌, inl, inr, sym, subst, refl, ap, ◌∙◌, append_assoc, append-nil, arith, max, List, [], ◌∷◌, ◌++◌, Option, Some, None, Bool, true, false, not, cond, eq-eqb, length}
 use Rattle.std.specs.Prelude.{◌==◌, if◌then◌else◌}
 use Rattle.std.specs.List.{position_or_len}
 use Rattle.std.proofs.Math.Dec.{ltb}
 use Rattle.std.proofs.lemmas.Bool.{eqb-true, ltb-true, lt-ltb}
-use Rattle.std.proofs.lemmas.Int.{ints}
 use Rattle.ngc_fixed_length.specs.declared.points.Point3.{Point3}
 use Rattle.ngc_file_figures.specs.declared.limits.ToolLimits.{ToolLimits}
 use Rattle.ngc_machine_files.specs.declared.tools.Tool.{Tool}
@@ -23,13 +22,13 @@ use Rattle.ngc_stock.specs.declared.cylinder.Cylinder.{Cylinder}
 use Rattle.ngc_stock.specs.declared.stock.Stock.{Stock}
 use Rattle.ngc_stock.specs.Discs.{discs_in}
 use Rattle.ngc_stock.specs.Changes.{tool_number}
-use Rattle.ngc_stock.specs.Cuts.{is_with, deeper_cut, with_cut_at, with_cut, with_depth, depth_for, lower_tip, IsDepthOf, IsShallowOn, IsShallow}
+use Rattle.ngc_stock.specs.Cuts.{is_with, deeper_cut, with_cut_at, with_cut, depth_for, lower_tip, IsDepthOf, IsShallowOn, IsShallow}
 use Rattle.ngc_stock.specs.Feeds.{AreAfter}
 use Rattle.ngc_stock.specs.Stocks.{lowest_part}
 use Rattle.ngc_stock.specs.Walk.{IsStep, IsLeft, uncut}
 use Rattle.ngc_stock.proofs.CutDepths.{all_higher, cut_depth}
 use Rattle.ngc_material.specs.Cuts.{IsCutNext, AreCuts, DeepestCuts}
-use Rattle.ngc_material.specs.Walks.{IsFollowed, IsFound, as_feed, with_feeds}
+use Rattle.ngc_material.specs.Walks.{IsFollowed, as_feed, with_feeds}
 use Rattle.ngc_material.specs.declared.walk.Found.{Found}
 use Rattle.ngc_material.proofs.Deepest.{less_of, more_of}
 use Rattle.ngc_material.proofs.Reports.{fed_step, fed_after, not_yet, tool_after, no_commands}

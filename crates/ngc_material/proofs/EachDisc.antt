@@ -1,6 +1,9 @@
 -- The discs of a cutter, one after another.
-use Rattle.std.proofs.Common.{◌≡◌, ℕ, ◌+◌, ◌<◌, ◌≤◌, ◌⊎◌, inl, inr, max, refl, sym, subst, ap, ◌∙◌, arith, List, [], ◌∷◌, ◌++◌, length, take, get_or, Option, Some, None}
-use Rattle.std.specs.Prelude.{IfNone, IfSome}
+use Rattle.std.proofs.Common.{◌≡◌, ℕ, ◌+◌, ◌<◌, ◌≤◌, ◌⊎◌, inl, inr, max, refl, sym, subst, ap, ◌∙◌, arith, List, [], ◌∷◌, ◌++◌, length, take, get_or, Option, Some, None, Bool, true, false}
+use Rattle.std.proofs.Math.Dec.{ltb}
+use Rattle.std.proofs.Common.{Less, Equal, Greater}
+use Rattle.std.specs.Ordering.{is_lt, nat_cmp, ord_max}
+use Rattle.std.specs.Prelude.{IfNone, IfSome, cond, ◌==◌}
 use Rattle.std.proofs.lemmas.List.{take_more, take_all}
 use Rattle.ngc_fixed_length.specs.declared.points.Point3.{Point3}
 use Rattle.ngc_arc_geometry.specs.Shape.{ArcShape}
@@ -11,7 +14,7 @@ use Rattle.ngc_stock.specs.Cuts.{IsDepth, AreDepths, from_tip}
 use Rattle.ngc_stock.specs.Walk.{AreCut, IsArcCut, AreDiscsCut, AreArcsCut, IsClear, AreDiscsClear}
 use Rattle.ngc_material.specs.Touches.{IsInWay, IsInWayOfAny, IsDeepest, deeper}
 use Rattle.ngc_material.specs.declared.touch.Touch.{Touch}
-use Rattle.ngc_material.proofs.Deepest.{IsDeepestOf, clear_none, none_clear, deeper_of, deepest_as}
+use Rattle.ngc_material.proofs.Deepest.{IsDeepestOf, clear_none, none_clear, deeper_of, deepest_as, less_of, more_of}
 
 -- ---- what holds of the first of them, one more, and all
 
@@ -20,7 +23,7 @@ next_of P xs i x inside found h =
     subst P (ap (λ (y : Cylinder). take i xs ++ y ∷ []) found ∙ sym (take_more xs i x inside)) h
 
 all_of : (P : List Cylinder → Type 0) (xs : List Cylinder) (i : ℕ) → length xs ≤ i → P (take i xs) → P xs
-all_of P xs i ends h = subst P (take_all xs i ends) h
+all_of P xs i ends h = subst P (take_all i xs ends) h
 
 -- ---- a feed
 
@@ -109,6 +112,15 @@ touch_some s xs i a b heights (Some touch) ends h =
     all_of (λ (ds : List Cylinder). IsDeepest s.grid (IsInWayOfAny s ds a b heights) touch) xs i ends h
 
 -- ---- how deep they are
+
+most_by : (v w : Bool) (d e : ℕ) → (v ≡ true → e ≤ d) → (v ≡ false → d ≤ e) → cond (is_lt (cond v Less (cond w Equal Greater))) d e ≡ max d e
+most_by true w d e less more = let h = less refl in omega (arith, h)
+most_by false true d e less more = let h = more refl in omega (arith, h)
+most_by false false d e less more = let h = more refl in omega (arith, h)
+
+-- the greater of two depths
+pub most_of : (d e : ℕ) → ord_max nat_cmp d e ≡ max d e
+most_of d e = most_by (ltb e d) (e == d) d e (less_of e d) (more_of e d)
 
 depth_one_more : (s : Stock) (t : Tool) (xs : List Cylinder) (x : Cylinder) (a b : Point3) (heights : List ℕ) (d e : ℕ) → AreDepths s t xs a b heights d → IsDepth s x a b heights e →
     AreDepths s t (xs ++ x ∷ []) a b heights (max d (from_tip t x e))

@@ -1,5 +1,5 @@
 -- How deep a feed is, from what a probe finds.
-use Rattle.std.proofs.Common.{◌≡◌, ℕ, ◌+◌, ◌-◌, ◌≤◌, ◌<◌, ℤ, pos, negsuc, ◌+ℤ◌, ◌-ℤ◌, ◌≤ℤ◌, sym, ◌∙◌, subst, refl, inl, inr, arith, List, length, min}
+use Rattle.std.proofs.Common.{◌≡◌, ℕ, ◌+◌, ◌-◌, ◌≤◌, ◌<◌, ℤ, pos, negsuc, ◌+ℤ◌, ◌-ℤ◌, ◌≤ℤ◌, sym, subst, refl, inl, inr, arith, List}
 use Rattle.std.specs.Prelude.{slice_index}
 use Rattle.std.proofs.lemmas.Bool.{cases_lt}
 use Rattle.std.proofs.lemmas.Int.{ints}
@@ -8,7 +8,7 @@ use Rattle.ngc_cells.specs.Stretches.{IsNear}
 use Rattle.ngc_cells.specs.Grids.{AreBelow, centre}
 use Rattle.ngc_stock.specs.declared.cylinder.Cylinder.{Cylinder}
 use Rattle.ngc_stock.specs.declared.stock.Stock.{Stock}
-use Rattle.ngc_stock.specs.Cuts.{lower_tip, whole, IsInCut, IsDepth}
+use Rattle.ngc_stock.specs.Cuts.{lower_tip, whole, IsDepth}
 use Rattle.ngc_stock.specs.Stocks.{radius, reduction, natural_of, level_of}
 use Rattle.ngc_material.specs.Touches.{IsDeep, IsDeepest}
 use Rattle.ngc_material.specs.declared.touch.Touch.{Touch}

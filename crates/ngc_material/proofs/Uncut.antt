@@ -1,7 +1,6 @@
 -- A disc whose foot is nowhere below the stock's top lowers no cell.
-use Rattle.std.proofs.Common.{◌≡◌, ℕ, zero, suc, ◌+◌, ◌*◌, ◌-◌, ◌<◌, ◌≤◌, ℤ, pos, ◌+ℤ◌, ◌-ℤ◌, ◌*ℤ◌, ◌≤ℤ◌, refl, arith, List, [], ◌∷◌, length, min, Bool, true, false}
+use Rattle.std.proofs.Common.{◌≡◌, ℕ, zero, suc, ◌+◌, ◌-◌, ◌<◌, ◌≤◌, ℤ, pos, ◌+ℤ◌, ◌-ℤ◌, ◌*ℤ◌, ◌≤ℤ◌, refl, arith, List, [], ◌∷◌}
 use Rattle.std.specs.Int.{int_min}
-use Rattle.std.specs.Prelude.{slice_index}
 use Rattle.std.proofs.lemmas.Int.{ints, int_min_is}
 use Rattle.std.proofs.lemmas.Nat.{mul-le}
 use Rattle.ngc_fixed_length.specs.declared.points.Point3.{Point3}
@@ -12,7 +11,7 @@ use Rattle.ngc_cells.proofs.Vectors.{L, times_out}
 use Rattle.ngc_stock.specs.declared.cylinder.Cylinder.{Cylinder}
 use Rattle.ngc_stock.specs.declared.stock.Stock.{Stock}
 use Rattle.ngc_stock.specs.Cuts.{lower_tip}
-use Rattle.ngc_stock.specs.Stocks.{kappa, radius, natural_of, tip, pieces, piece, point_at, highest_tip, level_of}
+use Rattle.ngc_stock.specs.Stocks.{kappa, radius, tip, pieces, piece, point_at, highest_tip, level_of}
 use Rattle.ngc_stock.specs.Walk.{ArePiecesCut, AreCut}
 use Rattle.ngc_stock.proofs.AboveFeeds.{lower_weighted}
 use Rattle.ngc_stock.proofs.Distances.{tip_below}
@@ -75,9 +74,9 @@ pub uncut : (s : Stock) (t : Cylinder) (a b : Point3) (heights : List ℕ) → s
 uncut s t a b heights high within = record {
   thin = λ thin. refl;
   thick = λ thick. (
-      heights,
-      pieces_stay s t a b (pieces a b) heights (omega arith) high within,
-      stays s (point_at b) (radius t - kappa s.grid) (level_of s (b.z +ℤ t.bottom)) heights
-      (level_top s (lower_tip t a b) (b.z +ℤ t.bottom) high (end_most t a b)) within,
-    );
+    heights,
+    pieces_stay s t a b (pieces a b) heights (omega arith) high within,
+    stays s (point_at b) (radius t - kappa s.grid) (level_of s (b.z +ℤ t.bottom)) heights
+        (level_top s (lower_tip t a b) (b.z +ℤ t.bottom) high (end_most t a b)) within,
+  );
 }

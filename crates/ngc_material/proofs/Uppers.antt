@@ -58,7 +58,6 @@ pub all_clear : (s : Stock) (t : Tool) (a b : Point3) (heights : List ℕ) (part
     ((p : ℕ) → 0 < p → p < part → IsClear s (lowest_part (from_part t p)) a b heights) → AreClear s t a b heights
 all_clear s t a b heights part whole lower p from less = lower p from (omega (arith, whole, less))
 
-
 -- ---- after the cutter
 
 pub none_with : (o : Option PartTouch) (P Q : Type 0) → P → IfNone o Q → IfNone o (P × Q)

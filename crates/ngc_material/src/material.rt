@@ -88,12 +88,7 @@ impl<A: Allocator> Material<A> {
         }
     }
 
-    fn follow_rapid(
-        &mut self,
-        tool: &Tool,
-        discs: &[Cylinder],
-        way: &Way,
-    ) -> Option<PartTouch>
+    fn follow_rapid(&mut self, tool: &Tool, discs: &[Cylinder], way: &Way) -> Option<PartTouch>
         requires { IsTrue (is_way_reached way.now) }
         ensures stock { self.new.stock ≡ self.old.stock }
         ensures none { IfNone result
@@ -125,12 +120,7 @@ impl<A: Allocator> Material<A> {
         }
     }
 
-    fn traverse(
-        &mut self,
-        tool: &Tool,
-        discs: &[Cylinder],
-        line: &Line,
-    ) -> Option<PartTouch>
+    fn traverse(&mut self, tool: &Tool, discs: &[Cylinder], line: &Line) -> Option<PartTouch>
         requires start { IsTrue (is_reached line.now.start) }
         requires end { IsTrue (is_reached line.now.end) }
         ensures stock { self.new.stock ≡ self.old.stock }

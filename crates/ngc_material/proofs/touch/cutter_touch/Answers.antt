@@ -1,4 +1,3 @@
-use Rattle.std.proofs.Common.{◌≡◌, sym, subst, Option}
 use Rattle.ngc_material.proofs.EachDisc.{touch_next, touch_none, touch_some}
 use Rattle.ngc_material.proofs.touch.cutter_touch.Goals as goal
 

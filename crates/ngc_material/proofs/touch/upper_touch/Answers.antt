@@ -15,6 +15,6 @@ loop-part-preserved c =
     record {
       some = omega arith;
       lower = one_lower s t u a b c.args.heights.now c.loop-part.part
-          (omega (arith, c.loop-part-test.true, c.loop-part.auto.part-end, size)) v.upper c.in_default.ensures.none v.lower;
-      upper = λ less. next_upper t u c.above-upper-2.result c.loop-part.part v.upper c.above-upper-2.ensures less;
+          (omega (arith, c.loop-part-test.true, c.loop-part.auto.part-end, size)) v.upper (rw c.lowest_part.ensures at c.in_default.ensures.none) v.lower;
+      upper = λ less. next_upper t u c.above-upper-in-loop-part.result c.loop-part.part v.upper c.above-upper-in-loop-part.ensures less;
     }

@@ -26,10 +26,10 @@ pub returns-clause-found : goal.returns-clause-found
 returns-clause-found g c =
     let v = c.loop-command.invariant in
     all_found c.args.stock.now c.args.table.now c.args.start.now c.loop-command.mounted.reached c.args.commands.now c.loop-command.left.now c.loop-command.material.heights.items
-    (length c.args.commands.now - length c.loop-command.left.now) c.loop-command.traverses.items c.loop-command.feeds.items c.in_default-split_first.ensures.cases v.found
+    (length c.args.commands.now - length c.loop-command.left.now) c.loop-command.traverses.items c.loop-command.feeds.items c.in_default.ensures.cases v.found
 
 pub returns-clause-cuts : goal.returns-clause-cuts
 returns-clause-cuts g c =
     let v = c.loop-command.invariant in
     all_cuts c.args.stock.now c.args.table.now c.args.start.now c.loop-command.mounted.reached c.args.commands.now c.loop-command.left.now c.loop-command.material.heights.items
-    (length c.args.commands.now - length c.loop-command.left.now) c.loop-command.traverses.items c.loop-command.cuts.items c.in_default-split_first.ensures.cases v.cuts
+    (length c.args.commands.now - length c.loop-command.left.now) c.loop-command.traverses.items c.loop-command.cuts.items c.in_default.ensures.cases v.cuts
