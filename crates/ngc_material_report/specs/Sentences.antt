@@ -200,9 +200,12 @@ shorter c (Some t) = if nat_lt (cutter_length t) c.depth then Some (cutter_lengt
 abbrev pub short_cutter : List Tool → Cut → Option ℕ
 short_cutter tools c = shorter c (tool_at tools c.tool)
 
+unfoldable pub length_words : ℕ → List ℕ
+length_words l = codes " Its cutter is only " ++ size_text l ++ codes " mm long."
+
 abbrev pub short_words : Option ℕ → List ℕ
 short_words None = []
-short_words (Some l) = codes " Its cutter is only " ++ size_text l ++ codes " mm long."
+short_words (Some l) = length_words l
 
 unfoldable pub depth_sentence : Cut → List ℕ
 depth_sentence c =
@@ -212,9 +215,12 @@ depth_sentence c =
 unfoldable pub cut_words : List Tool → Cut → List ℕ
 cut_words tools c = depth_sentence c ++ (short_words (short_cutter tools c) ++ codes "\n")
 
+unfoldable pub length_value : ℕ → List ℕ
+length_value l = codes ",\"cutter\":" ++ decimal l
+
 abbrev pub short_value : Option ℕ → List ℕ
 short_value None = []
-short_value (Some l) = codes ",\"cutter\":" ++ decimal l
+short_value (Some l) = length_value l
 
 unfoldable pub depth_values : Cut → List ℕ
 depth_values c =

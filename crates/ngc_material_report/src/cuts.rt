@@ -3,6 +3,7 @@ ghost use Rattle.std.specs.Prelude.{◌≡◌, flat_map, OnOk, OnErr};
 ghost use Rattle.std.specs.Io.KnownBytes.{Appends};
 ghost use Rattle.ngc_text.specs.Failures.{CountsFailure};
 ghost use Rattle.ngc_text.specs.Written.{AppendsPrefix};
+ghost use Rattle.ngc_machine_files.specs.Tools.{tool_at};
 ghost use Rattle.ngc_sentences.specs.Saying.{Says};
 ghost use Rattle.ngc_material_report.specs.Sentences as spec;
 
@@ -13,26 +14,51 @@ use ngc_sentences::{Page, say};
 use ngc_stock::Cut;
 use ngc_text::{Sink, WriteFault};
 
-// Returns how long a tool's cutter is, which is its lowest part, if it is shorter than the tool's deepest
-// feed cuts.
-fn short_cutter(tools: &[Tool], cut: &Cut) -> Option<u64>
-    ensures { result ≡ spec.short_cutter tools.now cut.now }
+// Returns the tool of a number, or `None` if there is none.
+fn tool_at(tools: &[Tool], number: u32) -> Option<Tool>
+    ensures { result ≡ tool_at tools.now number }
 {
-    let tool = tools.iter().find(|tool| tool.number == cut.tool)?;
-    let length = tool.parts.as_slice()[0].length.nanometres().unsigned_abs();
-    if length < cut.depth {
-        Some(length)
-    } else {
-        None
+    tools.iter().find(|tool| tool.number == number).copied()
+}
+
+// Returns how long a tool's cutter is, its lowest part.
+fn cutter_length(tool: &Tool) -> u64
+    ensures { result ≡ spec.cutter_length tool.now }
+{
+    let part = tool.parts.as_slice()[0];
+    part.length.nanometres().unsigned_abs()
+}
+
+// Returns the length of a cutter that is shorter than a cut is deep.
+fn shorter(cut: &Cut, tool: Option<Tool>) -> Option<u64>
+    ensures { result ≡ spec.shorter cut.now tool }
+{
+    match tool {
+        Some(tool) if cutter_length(&tool) < cut.depth => Some(cutter_length(&tool)),
+        _ => None,
     }
 }
 
-fn say_short_words<W: Sink>(shorter: Option<u64>, page: &mut Page, output: &mut W)
+// Returns the length of a tool's cutter, if it is shorter than the tool's deepest feed cuts.
+fn short_cutter(tools: &[Tool], cut: &Cut) -> Option<u64>
+    ensures { result ≡ spec.short_cutter tools.now cut.now }
+{
+    shorter(cut, tool_at(tools, cut.tool))
+}
+
+fn say_length<W: Sink>(length: u64, page: &mut Page, output: &mut W)
+    ensures { Says (W.written output.old) (W.written output.new)
+        (W.failures output.old) (W.failures output.new) page.old page.new (spec.length_words length) }
+{
+    say!(page, output; b" Its cutter is only ", depth(length), b" mm long.");
+}
+
+fn say_short<W: Sink>(shorter: Option<u64>, page: &mut Page, output: &mut W)
     ensures { Says (W.written output.old) (W.written output.new)
         (W.failures output.old) (W.failures output.new) page.old page.new (spec.short_words shorter) }
 {
     if let Some(length) = shorter {
-        say!(page, output; b" Its cutter is only ", depth(length), b" mm long.");
+        say_length(length, page, output);
     }
 }
 
@@ -48,8 +74,15 @@ fn say_words<W: Sink>(tools: &[Tool], cut: &Cut, page: &mut Page, output: &mut W
         (W.failures output.old) (W.failures output.new) page.old page.new (spec.cut_words tools.now cut.now) }
 {
     say_depth(cut, page, output);
-    say_short_words(short_cutter(tools, cut), page, output);
+    say_short(short_cutter(tools, cut), page, output);
     say!(page, output; b"\n");
+}
+
+fn say_length_value<W: Sink>(length: u64, page: &mut Page, output: &mut W)
+    ensures { Says (W.written output.old) (W.written output.new)
+        (W.failures output.old) (W.failures output.new) page.old page.new (spec.length_value length) }
+{
+    say!(page, output; b",\"cutter\":", whole_depth(length));
 }
 
 fn say_short_value<W: Sink>(shorter: Option<u64>, page: &mut Page, output: &mut W)
@@ -57,7 +90,7 @@ fn say_short_value<W: Sink>(shorter: Option<u64>, page: &mut Page, output: &mut 
         (W.failures output.old) (W.failures output.new) page.old page.new (spec.short_value shorter) }
 {
     if let Some(length) = shorter {
-        say!(page, output; b",\"cutter\":", whole_depth(length));
+        say_length_value(length, page, output);
     }
 }
 
