@@ -1,0 +1,5 @@
+pub mod Braking
+pub mod Leg
+pub mod Laws
+pub mod OneChange
+pub mod Work
