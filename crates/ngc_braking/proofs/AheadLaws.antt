@@ -9,7 +9,7 @@ use Rattle.ngc_fixed_length.specs.Limits.{MILLION}
 use Rattle.ngc_braking.specs.declared.leg.Leg.{Leg}
 use Rattle.ngc_braking.specs.Leg.{IsLeg, passes}
 use Rattle.ngc_braking.specs.Laws.{PassesOn}
-use Rattle.ngc_braking.specs.Work.{work, leg_work, slack, slows, is_enough, can_brake, beyond}
+use Rattle.ngc_braking.specs.Work.{work, leg_work, slack, slows, is_enough, can_brake, beyond, work_ahead}
 use Rattle.ngc_braking.proofs.WorkLaws.{split_at, work_step, work_least, work_rises, costs_deduction, needs_too_much}
 
 -- ---- tests
@@ -30,7 +30,7 @@ slows_at w a d limit h = elim (or_cases (nat_le w limit) (nat_lt (work w a) (a *
   | inr short ↦ (inr (ltb-true (work w a) (a * d + slack limit a) short))
 ]
 
-slow_passes : (w a d limit : ℕ) → w ≤ limit → slows w a d limit ≡ true
+pub slow_passes : (w a d limit : ℕ) → w ≤ limit → slows w a d limit ≡ true
 slow_passes w a d limit low = or_first _ _ (le-leb w limit low)
 
 pub short_passes : (w a d limit : ℕ) → work w a < a * d + slack limit a → slows w a d limit ≡ true
@@ -293,4 +293,37 @@ least_matters n s a e (l ∷ ls) = elim (cases_Bool l.joined) [
       let to = ap (λ b. cond b (min (slack (passes e l) a) (leg_work a e l + beyond l.change l.exit ls)) 0) off in
       let same : s + 0 ≡ s = omega arith in
       enough_up_to n s a e l ls off ∙ sym (ap (λ z. nat_lt n (s + z)) to ∙ ap (λ z. nat_lt n z) same))
+]
+
+-- ---- the work to brake is within the known path
+
+within_sum : (n s x y z : ℕ) → z ≡ x + y → n < s + x + y → n < s + z
+within_sum n s x y z is short = omega (arith, is, short)
+
+enough_ahead : (n s a e : ℕ) (ls : List Leg) → is_enough n s a e ls ≡ true → n < s + work_ahead a e ls
+enough_ahead n s a e [] h = let short = ltb-true n s h in omega (arith, short)
+enough_ahead n s a e (l ∷ ls) h = elim (cases_Bool l.joined) [
+  | inl on ↦ (
+      let both = and_parts (nat_lt n (s + slack (passes e l) a)) (is_enough n (s + leg_work a e l) l.change l.exit ls) (sym (enough_on n s a e l ls on) ∙ h) in
+      let afterwards = enough_ahead n (s + leg_work a e l) l.change l.exit ls both.1 in
+      let known = ap (λ b. cond b (leg_work a e l + work_ahead l.change l.exit ls) 0) on in
+      within_sum n s (leg_work a e l) (work_ahead l.change l.exit ls) (work_ahead a e (l ∷ ls)) known afterwards)
+  | inr off ↦ (
+      let short = ltb-true n s (sym (enough_up_to n s a e l ls off) ∙ h) in
+      farther n s (work_ahead a e (l ∷ ls)) short)
+]
+
+pub ends_on_path : (w rest : ℕ) (h : Leg) (ls : List Leg) → can_brake w rest h ls ≡ true →
+    work w h.change < h.change * rest + work_ahead h.change h.exit ls
+ends_on_path w rest h [] brakes = farther (work w h.change) (h.change * rest) 0 (ltb-true (work w h.change) (h.change * rest) brakes)
+ends_on_path w rest h (l ∷ ls) brakes = elim (cases_Bool l.joined) [
+  | inl on ↦ (
+      let both = and_parts (slows w h.change rest (passes h.exit l)) (after_head w rest h l ls) (sym (brakes_on w rest h l ls on) ∙ brakes) in
+      let afterwards = enough_ahead (work w h.change) (h.change * rest + leg_work h.change h.exit l) l.change l.exit ls both.1 in
+      let known = ap (λ b. cond b (leg_work h.change h.exit l + work_ahead l.change l.exit ls) 0) on in
+      within_sum (work w h.change) (h.change * rest) (leg_work h.change h.exit l) (work_ahead l.change l.exit ls) (work_ahead h.change h.exit (l ∷ ls)) known
+      afterwards)
+  | inr off ↦ (
+      let short = ltb-true (work w h.change) (h.change * rest) (sym (brakes_up_to w rest h l ls off) ∙ brakes) in
+      farther (work w h.change) (h.change * rest) (work_ahead h.change h.exit (l ∷ ls)) short)
 ]

@@ -1,31 +1,23 @@
 -- The rule for legs that all have one change.
 use Rattle.std.proofs.Common.{◌≡◌, ℕ, ◌+◌, ◌-◌, ◌*◌, ◌≤◌, ◌<◌, nat_lt, nat_le, Bool, true, false, cond, ◌&&◌, ◌||◌, List, [], ◌∷◌, inl, inr}
 use Rattle.std.proofs.Common.{ap, ap₂, sym, subst, ◌∙◌, arith}
-use Rattle.std.proofs.Math.Nat.{mul-le-mul_left}
-use Rattle.std.proofs.lemmas.Bool.{cases_lt, cases_Bool, lt-ltb, le-ltb, lt-leb}
+use Rattle.std.proofs.lemmas.Bool.{cases_lt, cases_Bool, lt-ltb, le-ltb, le-leb, lt-leb, and_from}
 use Rattle.std.specs.List.{All}
 use Rattle.std.proofs.lemmas.List.Elements.{All-head, All-tail}
 use Rattle.ngc_fixed_length.specs.Limits.{MILLION}
 use Rattle.ngc_braking.specs.declared.leg.Leg.{Leg}
-use Rattle.ngc_braking.specs.Leg.{IsLeg, passes}
+use Rattle.ngc_braking.specs.Leg.{passes}
 use Rattle.ngc_braking.specs.Braking.{braking}
-use Rattle.ngc_braking.specs.Work.{work, leg_work, slows, is_enough, can_brake}
-use Rattle.ngc_braking.specs.OneChange.{slows_within, brakes_within, HasChange}
+use Rattle.ngc_braking.specs.Work.{work, leg_work, slows, is_enough, can_brake, work_ahead}
+use Rattle.ngc_braking.specs.OneChange.{slows_within, brakes_within, HasChange, IsLong}
+use Rattle.ngc_braking.specs.Reach.{may_enter, free_ahead, ahead, free}
 use Rattle.ngc_braking.proofs.Ticks.{braking_step}
-use Rattle.ngc_braking.proofs.WorkLaws.{work_faster}
-use Rattle.ngc_braking.proofs.AheadLaws.{or_second, enough_on, enough_up_to, brakes_on, brakes_up_to}
+use Rattle.ngc_braking.proofs.BrakingLaws.{braking_faster}
+use Rattle.ngc_braking.proofs.ReachLaws.{entered, free_none, free_more}
+use Rattle.ngc_braking.proofs.WorkLaws.{scaled}
+use Rattle.ngc_braking.proofs.AheadLaws.{or_first, or_second, enough_on, enough_up_to, brakes_on, brakes_up_to}
 
 -- ---- a factor on both sides
-
-scaled : (a x y : ℕ) → 1 ≤ a → nat_lt (a * x) (a * y) ≡ nat_lt x y
-scaled a x y some = elim (cases_lt x y) [
-  | inl less ↦ (
-      let product = mul-le-mul_left a (let next : x + 1 ≤ y = omega arith in next) in
-      lt-ltb (a * x) (a * y) (omega (arith, product, some)) ∙ sym (lt-ltb x y less))
-  | inr more ↦ (
-      let product = mul-le-mul_left a more in
-      le-ltb (a * x) (a * y) product ∙ sym (le-ltb x y more))
-]
 
 scaled_sum : (a x d y : ℕ) → 1 ≤ a → nat_lt (a * x) (a * d + a * y) ≡ nat_lt x (d + y)
 scaled_sum a x d y some =
@@ -38,16 +30,6 @@ slows_same w a d limit some =
 
 -- ---- a joint that the tick does not reach
 
-faster : (v w a : ℕ) → 1 ≤ a → v ≤ w → braking v a ≤ braking w a
-faster v w a some less =
-    let more = work_faster v w a some less in
-    elim (cases_lt (braking w a) (braking v a)) [
-      | inl above ↦ (
-          let product = mul-le-mul_left a (let next : braking w a + 1 ≤ braking v a = omega arith in next) in
-          absurd (omega (arith, more, product, some)))
-      | inr low ↦ low
-    ]
-
 or_none : (x y : Bool) → x ≡ false → y ≡ false → (x || y) ≡ false
 or_none true y h k = cc
 or_none false y h k = k
@@ -58,7 +40,7 @@ slows_far w a d limit some far = elim (cases_lt (braking w a) (d + braking (limi
   | inr long ↦ (elim (cases_lt limit w) [
     | inl above ↦ (or_none (nat_le w limit) _ (lt-leb w limit above) (le-ltb _ _ long) ∙ sym (le-ltb _ _ long))
     | inr low ↦ (
-        let more = faster (w - a) (limit + 1 - a) a some (omega arith) in
+        let more = braking_faster (w - a) (limit + 1 - a) a some (omega arith) in
         let step = braking_step w a some in
         absurd (omega (arith, long, more, step, far)))
   ])
@@ -105,16 +87,16 @@ same_ahead w a d e (l ∷ ls) some far all = elim (cases_Bool l.joined) [
 ]
 
 -- the change of the head as a variable of its own
-same_on : (w a rest : ℕ) (h : Leg) (ls : List Leg) → w ≤ MILLION → 1 ≤ h.change → 1 ≤ rest → a ≡ h.change → All (HasChange a) ls → All IsLeg ls →
+same_on : (w a rest : ℕ) (h : Leg) (ls : List Leg) → w ≤ MILLION → 1 ≤ h.change → 1 ≤ rest → a ≡ h.change → All (HasChange a) ls → All IsLong ls →
     can_brake w rest h ls ≡ brakes_within w h.change rest h.exit ls
 same_on w a rest h [] small some left is all each = scaled h.change (braking w h.change) rest some
 same_on w a rest h (l ∷ ls) small some left is all each = elim (cases_Bool l.joined) [
   | inl on ↦ (
-      let leg = All-head IsLeg l ls each in
+      let long = All-head IsLong l ls each in
       let change = All-head (HasChange a) l ls all ∙ is in
       let others = subst (λ c. All (HasChange c) ls) is (All-tail (HasChange a) l ls all) in
       let here = slows_same w h.change rest (passes h.exit l) some in
-      let afterwards = same_ahead w h.change (rest + l.millionths) l.exit ls some (omega (arith, leg.some, small, left)) others in
+      let afterwards = same_ahead w h.change (rest + l.millionths) l.exit ls some (omega (arith, long, small, left)) others in
       let there = ap₂ (λ s c. is_enough (work w h.change) s c l.exit ls) (sum_to h.change rest h.exit l change) change in
       brakes_on w rest h l ls on ∙ ap₂ (λ x y. x && y) here (there ∙ afterwards) ∙ sym (within_on w h.change rest h.exit l ls on))
   | inr off ↦ (
@@ -122,7 +104,63 @@ same_on w a rest h (l ∷ ls) small some left is all each = elim (cases_Bool l.j
 ]
 
 pub same_with_one_change : (w a rest : ℕ) (h : Leg) (ls : List Leg) → w ≤ MILLION → 1 ≤ a → 1 ≤ rest → HasChange a h → All (HasChange a) ls →
-    All IsLeg ls → can_brake w rest h ls ≡ brakes_within w a rest h.exit ls
+    All IsLong ls → can_brake w rest h ls ≡ brakes_within w a rest h.exit ls
 same_with_one_change w a rest h ls small some left is all each =
     let least : 1 ≤ h.change = omega (arith, is, some) in
     same_on w a rest h ls small least left (sym is) all each ∙ ap (λ c. brakes_within w c rest h.exit ls) is
+
+-- ---- the legs ahead that a rate may enter
+
+slow_within : (w a d limit : ℕ) → w ≤ limit → slows_within w a d limit ≡ true
+slow_within w a d limit low = or_first _ _ (le-leb w limit low)
+
+short_within : (w a d limit : ℕ) → braking w a < d + braking (limit + 1 - a) a → slows_within w a d limit ≡ true
+short_within w a d limit short = or_second (nat_le w limit) _ (lt-ltb (braking w a) (d + braking (limit + 1 - a) a) short)
+
+-- enough distance up to the next joint is enough
+short_brakes : (w a d e : ℕ) (ls : List Leg) → braking w a < d → brakes_within w a d e ls ≡ true
+short_brakes w a d e [] short = lt-ltb (braking w a) d short
+short_brakes w a d e (l ∷ ls) short = elim (cases_Bool l.joined) [
+  | inl on ↦ (
+      let here = short_within w a d (passes e l) (omega (arith, short)) in
+      let afterwards = short_brakes w a (d + l.millionths) l.exit ls (omega (arith, short)) in
+      within_on w a d e l ls on ∙ and_from _ _ here afterwards)
+  | inr off ↦ (within_up_to w a d e l ls off ∙ lt-ltb (braking w a) d short)
+]
+
+free_brakes : (w a d e : ℕ) (ls : List Leg) → braking w a < d + free_ahead w e ls → brakes_within w a d e ls ≡ true
+free_brakes w a d e [] short = short_brakes w a d e [] (omega arith)
+free_brakes w a d e (l ∷ ls) short = elim (cases_Bool (may_enter w e l)) [
+  | inl open' ↦ (
+      let p = entered w e l open' in
+      let more = free_more w e l ls open' in
+      let here = slow_within w a d (passes e l) (omega (arith, p.1)) in
+      let afterwards = free_brakes w a (d + l.millionths) l.exit ls (omega (arith, more, short)) in
+      within_on w a d e l ls p.0 ∙ and_from _ _ here afterwards)
+  | inr shut ↦ (let none = free_none w e l ls shut in short_brakes w a d e (l ∷ ls) (omega (arith, none, short)))
+]
+
+pub brakes_where_free : (w a rest : ℕ) (h : Leg) (ls : List Leg) → w ≤ MILLION → 1 ≤ a → 1 ≤ rest → HasChange a h → All (HasChange a) ls →
+    All IsLong ls → braking w a < free w rest h ls → can_brake w rest h ls ≡ true
+brakes_where_free w a rest h ls small some left is all each short =
+    same_with_one_change w a rest h ls small some left is all each ∙ free_brakes w a rest h.exit ls short
+
+-- ---- the work ahead
+
+pub same_work_ahead : (a e : ℕ) (ls : List Leg) → All (HasChange a) ls → work_ahead a e ls ≡ a * ahead ls
+same_work_ahead a e [] all = omega arith
+same_work_ahead a e (l ∷ ls) all = elim (cases_Bool l.joined) [
+  | inl on ↦ (
+      let is = All-head (HasChange a) l ls all in
+      let here = work_of_leg a e l is in
+      let afterwards = ap (λ c. work_ahead c l.exit ls) is ∙ same_work_ahead a l.exit ls (All-tail (HasChange a) l ls all) in
+      let known = ap (λ b. cond b (leg_work a e l + work_ahead l.change l.exit ls) 0) on in
+      let long = ap (λ b. a * cond b (l.millionths + ahead ls) 0) on in
+      let spread : a * (l.millionths + ahead ls) ≡ a * l.millionths + a * ahead ls = omega arith in
+      known ∙ ap₂ (λ x y. x + y) here afterwards ∙ sym (long ∙ spread))
+  | inr off ↦ (
+      let known = ap (λ b. cond b (leg_work a e l + work_ahead l.change l.exit ls) 0) off in
+      let long = ap (λ b. a * cond b (l.millionths + ahead ls) 0) off in
+      let nothing : a * 0 ≡ 0 = omega arith in
+      known ∙ sym (long ∙ nothing))
+]

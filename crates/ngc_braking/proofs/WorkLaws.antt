@@ -1,7 +1,7 @@
 -- Work: what a tick uses, and what another change costs.
-use Rattle.std.proofs.Common.{◌≡◌, ℕ, zero, suc, ◌+◌, ◌-◌, ◌*◌, ◌≤◌, ◌<◌, inl, inr, ap, ◌∙◌, arith}
+use Rattle.std.proofs.Common.{◌≡◌, ℕ, zero, suc, ◌+◌, ◌-◌, ◌*◌, ◌≤◌, ◌<◌, nat_lt, inl, inr, ap, sym, ◌∙◌, arith}
 use Rattle.std.proofs.Math.Nat.{mul-le-mul_left, mul-le-mul_right}
-use Rattle.std.proofs.lemmas.Bool.{cases_lt}
+use Rattle.std.proofs.lemmas.Bool.{cases_lt, lt-ltb, le-ltb}
 use Rattle.std.proofs.lemmas.Nat.{mul-le}
 use Rattle.ngc_braking.specs.Braking.{braking}
 use Rattle.ngc_braking.specs.Work.{work, deduction, slack}
@@ -17,6 +17,17 @@ pub split_at : (a x y : ℕ) → y ≤ x → a * x ≡ a * (x - y) + a * y
 split_at a x y less =
     let whole : x ≡ x - y + y = omega arith in
     ap (λ z. a * z) whole ∙ spread a (x - y) y
+
+-- a factor on both sides
+pub scaled : (a x y : ℕ) → 1 ≤ a → nat_lt (a * x) (a * y) ≡ nat_lt x y
+scaled a x y some = elim (cases_lt x y) [
+  | inl less ↦ (
+      let product = mul-le-mul_left a (let next : x + 1 ≤ y = omega arith in next) in
+      lt-ltb (a * x) (a * y) (omega (arith, product, some)) ∙ sym (lt-ltb x y less))
+  | inr more ↦ (
+      let product = mul-le-mul_left a more in
+      le-ltb (a * x) (a * y) product ∙ sym (le-ltb x y more))
+]
 
 -- ---- what a tick uses
 
@@ -84,6 +95,9 @@ climbs (suc n) y a within some = elim (cases_lt a y) [
       omega (arith, first, later, product, less))
   | inr low ↦ (let first = work_low y a low some in omega (arith, first))
 ]
+
+pub work_most : (w a : ℕ) → 1 ≤ a → work w a ≤ w * (w + a)
+work_most w a some = climbs w w a (omega arith) some
 
 -- by d times the sum of the rate and the change at most
 low_start : (x d a : ℕ) → x ≤ a → 1 ≤ a → work (x + d) a ≤ work x a + d * (x + d + a)

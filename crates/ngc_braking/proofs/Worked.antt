@@ -1,8 +1,17 @@
 -- Worked rows. A rate of 7 that falls by 3 travels 7 + 4 + 1, and uses three times that.
 use Rattle.std.proofs.Common.{◌≡◌, ℕ, true, false, [], ◌∷◌, List, Bool, refl}
 use Rattle.ngc_braking.specs.declared.leg.Leg.{Leg}
-use Rattle.ngc_braking.specs.Braking.{braking_terms}
+use Rattle.ngc_braking.specs.Braking.{braking, braking_terms}
+use Rattle.ngc_braking.specs.Reach.{reach, free}
 use Rattle.ngc_braking.specs.Work.{work, leg_work, can_brake}
+
+braking_low : braking 2500 1000 ≡ 4500
+unfolding braking_terms
+braking_low = refl
+
+braking_high : braking 400000 1000 ≡ 80200000
+unfolding braking_terms
+braking_high = refl
 
 work_three : work 7 3 ≡ 36
 unfolding braking_terms
@@ -74,3 +83,37 @@ near = refl
 near_slow : brakes 3 1 (leg 1 10 4 ∷ []) ≡ true
 unfolding braking_terms
 near_slow = refl
+
+-- ---- how far the path is known and free
+
+-- a leg of this length with the change 1,000, a bound, and this joint at both of its ends
+abbrev bounded : ℕ → ℕ → ℕ → Bool → Leg
+bounded millionths bound joint joined = record { millionths = millionths; change = 1000; bound = bound; entry = joint; exit = joint; joined = joined }
+
+-- a corner limits the rates above it, a slow leg those above its bound, and a stop ends the known
+-- path
+reach_on : reach 7 (bounded 2000000 400000 50000 true ∷ bounded 3000000 20000 1000000 true ∷ bounded 5000000 400000 1000000 false ∷ []) ≡ 5000007
+reach_on = refl
+
+free_at_corner : free 50000 7 (bounded 1000000 400000 50000 false) (bounded 2000000 400000 50000 true ∷ bounded 3000000 20000 1000000 true ∷ []) ≡ 2000007
+free_at_corner = refl
+
+free_above_corner : free 50001 7 (bounded 1000000 400000 50000 false) (bounded 2000000 400000 50000 true ∷ bounded 3000000 20000 1000000 true ∷ []) ≡ 7
+free_above_corner = refl
+
+free_slow : free 20000 7 (bounded 1000000 400000 50000 false) (bounded 2000000 400000 50000 true ∷ bounded 3000000 20000 1000000 true ∷ []) ≡ 5000007
+free_slow = refl
+
+-- from 60,000 to 50,000 within the leg, but not to 0
+room_at_corner : can_brake 60000 610000 (bounded 1000000 400000 50000 false) (bounded 2000000 400000 50000 true ∷ []) ≡ true
+unfolding braking_terms
+room_at_corner = refl
+
+no_room_at_corner : can_brake 60000 600000 (bounded 1000000 400000 50000 false) (bounded 2000000 400000 50000 true ∷ []) ≡ false
+unfolding braking_terms
+no_room_at_corner = refl
+
+-- the known path ends after 1.6 path steps
+no_room_to_stop : can_brake 60000 610000 (bounded 1000000 400000 50000 false) (bounded 1000000 400000 50000 true ∷ []) ≡ false
+unfolding braking_terms
+no_room_to_stop = refl

@@ -3,7 +3,7 @@ use Rattle.std.specs.Prelude.{◌≡◌, ℕ, ◌+◌, ◌-◌, ◌*◌, ◌≤�
 use Rattle.ngc_fixed_length.specs.Limits.{MILLION}
 use Rattle.ngc_braking.specs.declared.leg.Leg.{Leg}
 use Rattle.ngc_braking.specs.Leg.{IsLeg, passes}
-use Rattle.ngc_braking.specs.Work.{work, deduction, slack, is_enough, can_brake, beyond}
+use Rattle.ngc_braking.specs.Work.{work, deduction, slack, is_enough, can_brake, beyond, work_ahead}
 
 -- a tick uses its change times what it travels
 abbrev pub TickUsesItsWork : Type 0
@@ -67,3 +67,9 @@ abbrev pub LeastMatters : Type 0
 LeastMatters =
     (needed ahead a exit : ℕ) (legs : List Leg) →
     is_enough needed ahead a exit legs ≡ nat_lt needed (ahead + beyond a exit legs)
+
+-- the work to brake ends on the known path
+abbrev pub EndsOnThePath : Type 0
+EndsOnThePath =
+    (w rest : ℕ) (head : Leg) (legs : List Leg) → can_brake w rest head legs ≡ true →
+    work w head.change < head.change * rest + work_ahead head.change head.exit legs

@@ -1,11 +1,13 @@
 -- The rule for legs that all have one change, in distances. Our own.
-use Rattle.std.specs.Prelude.{◌≡◌, ℕ, ◌+◌, ◌-◌, ◌≤◌, nat_le, nat_lt, List, [], ◌∷◌, Bool, ◌&&◌, ◌||◌, if◌then◌else◌}
+use Rattle.std.specs.Prelude.{◌≡◌, ℕ, ◌+◌, ◌-◌, ◌*◌, ◌≤◌, ◌<◌, nat_le, nat_lt, List, [], ◌∷◌}
+use Rattle.std.specs.Prelude.{Bool, true, ◌&&◌, ◌||◌, if◌then◌else◌}
 use Rattle.std.specs.List.{All}
 use Rattle.ngc_fixed_length.specs.Limits.{MILLION}
 use Rattle.ngc_braking.specs.declared.leg.Leg.{Leg}
 use Rattle.ngc_braking.specs.Braking.{braking}
-use Rattle.ngc_braking.specs.Leg.{IsLeg, passes}
-use Rattle.ngc_braking.specs.Work.{can_brake}
+use Rattle.ngc_braking.specs.Leg.{passes}
+use Rattle.ngc_braking.specs.Reach.{ahead, free}
+use Rattle.ngc_braking.specs.Work.{can_brake, work_ahead}
 
 -- whether a rate w, which each tick may reduce by a, is at most the limit of a joint in the tick
 -- that reaches it, with the distance d up to it: either it is so already, or less than d is
@@ -26,9 +28,25 @@ brakes_within w a d exit (l ∷ ls) =
 abbrev pub HasChange : ℕ → Leg → Type 0
 HasChange a l = l.change ≡ a
 
+-- at least one path step
+abbrev pub IsLong : Leg → Type 0
+IsLong l = MILLION ≤ l.millionths
+
 -- with one change the two rules are the same
 abbrev pub IsSameWithOneChange : Type 0
 IsSameWithOneChange =
     (w a rest : ℕ) (head : Leg) (legs : List Leg) → w ≤ MILLION → 1 ≤ a → 1 ≤ rest →
-    HasChange a head → All (HasChange a) legs → All IsLeg legs →
+    HasChange a head → All (HasChange a) legs → All IsLong legs →
     can_brake w rest head legs ≡ brakes_within w a rest head.exit legs
+
+-- so a rate can brake if its braking distance ends on the legs that it may enter
+abbrev pub CanBrakeWhereFree : Type 0
+CanBrakeWhereFree =
+    (w a rest : ℕ) (head : Leg) (legs : List Leg) → w ≤ MILLION → 1 ≤ a → 1 ≤ rest →
+    HasChange a head → All (HasChange a) legs → All IsLong legs →
+    braking w a < free w rest head legs → can_brake w rest head legs ≡ true
+
+-- and the work ahead is the change times the distance ahead
+abbrev pub IsWorkOfDistance : Type 0
+IsWorkOfDistance =
+    (a exit : ℕ) (legs : List Leg) → All (HasChange a) legs → work_ahead a exit legs ≡ a * ahead legs

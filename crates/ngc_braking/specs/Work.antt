@@ -59,3 +59,23 @@ beyond a exit (l ∷ ls) =
     if l.joined
     then min (slack (passes exit l) a) (leg_work a exit l + beyond l.change l.exit ls)
     else 0
+
+-- the work on the legs joined to a leg with the change a and this exit, up to the end of the known
+-- path
+abbrev pub work_ahead : ℕ → ℕ → List Leg → ℕ
+work_ahead a exit [] = 0
+work_ahead a exit (l ∷ ls) =
+    if l.joined then leg_work a exit l + work_ahead l.change l.exit ls else 0
+
+-- what may be needed beyond the first of some legs, in 64 bits
+abbrev pub GREATEST : ℕ
+GREATEST = 18446744073709551615
+
+abbrev pub next_beyond : List Leg → ℕ
+next_beyond [] = 0
+next_beyond (l ∷ ls) = min GREATEST (beyond l.change l.exit ls)
+
+-- and beyond the second
+abbrev pub legs_beyond : List Leg → ℕ
+legs_beyond [] = 0
+legs_beyond (head ∷ legs) = next_beyond legs

@@ -1,8 +1,8 @@
 //! Laws about the definitions only.
 ghost use Rattle.ngc_braking.specs.Laws.{TickUsesItsWork, WorkRises, CostsDeduction, NeedsTooMuch};
 ghost use Rattle.ngc_braking.specs.Laws.{LoadTakesNothing, CanBrakeOnTheHead, CanBrakeAfterJoint};
-ghost use Rattle.ngc_braking.specs.Laws.{StopsAtTheEnd, HeadIsEnough, LeastMatters};
-ghost use Rattle.ngc_braking.specs.OneChange.{IsSameWithOneChange};
+ghost use Rattle.ngc_braking.specs.Laws.{StopsAtTheEnd, HeadIsEnough, LeastMatters, EndsOnThePath};
+ghost use Rattle.ngc_braking.specs.OneChange.{IsSameWithOneChange, CanBrakeWhereFree, IsWorkOfDistance};
 
 /// States that a tick uses its change times what it travels, that the work to brake from a rate rises
 /// with the change, and that it rises by at most the deduction of a joint that lets the rate pass.
@@ -40,7 +40,16 @@ pub fn least_matters()
     ensures { LeastMatters }
 {}
 
-/// States that the rule is the one in distances where all motions have one change.
+/// States that the work to brake from a rate that can brake ends on the known path.
+pub fn ends_on_the_path()
+    ensures { EndsOnThePath }
+{}
+
+/// States that where all motions have one change, the rule is the one in distances, a rate can brake
+/// if its braking distance ends on the motions that it may enter, and the work ahead is the change
+/// times the distance ahead.
 pub fn same_with_one_change()
-    ensures { IsSameWithOneChange }
+    ensures same { IsSameWithOneChange }
+    ensures free { CanBrakeWhereFree }
+    ensures work { IsWorkOfDistance }
 {}

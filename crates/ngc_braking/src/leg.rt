@@ -14,3 +14,39 @@ pub struct Leg {
     /// Whether the axes come from the leg before without a stop.
     pub joined: bool,
 }
+
+impl Leg {
+    ghost use Rattle.std.specs.Prelude.{◌≡◌, ◌-◌, ◌%◌, ◌≤◌};
+    ghost use Rattle.ngc_fixed_length.specs.Limits.{MILLION};
+    ghost use Rattle.ngc_braking.specs.Leg.{tick_bound, travelled, is_due};
+
+    /// Returns the greatest rate of the next tick, with `rest` of the leg remaining.
+    pub fn tick_bound(&self, rest: u64) -> u64
+        ensures { result ≡ tick_bound self.now rest }
+    {
+        if rest == self.millionths {
+            self.bound.min(self.entry)
+        } else {
+            self.bound
+        }
+    }
+
+    /// Returns whether the next `rate` millionths reach the end of a path step of the leg, with
+    /// `rest` of it remaining.
+    pub fn is_due(&self, rest: u64, rate: u64) -> bool
+        requires { rest ≤ self.now.millionths }
+        ensures { result ≡ is_due self.now rest rate }
+    {
+        let before = self.millionths - rest;
+        before / 1_000_000 < (before + rate.min(rest)) / 1_000_000
+    }
+
+    /// Returns how many millionths can be travelled without reaching the end of a path step, with
+    /// `rest` of the leg remaining.
+    pub fn within_step(&self, rest: u64) -> u64
+        requires { rest ≤ self.now.millionths }
+        ensures { result ≡ MILLION - 1 - travelled self.now rest % MILLION }
+    {
+        999_999 - (self.millionths - rest) % 1_000_000
+    }
+}

@@ -3,5 +3,11 @@
 
 pub mod laws;
 mod leg;
+mod outlook;
+mod slowing;
+mod stretch;
 
 pub use leg::Leg;
+pub use outlook::Outlook;
+pub use slowing::{brakes_within, braking};
+pub use stretch::{beyond, can_brake, legs_beyond};

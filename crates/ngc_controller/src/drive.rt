@@ -3,7 +3,7 @@ ghost use Rattle.std.specs.Prelude.{◌≡◌, ◌≤◌, ◌<◌, ◌+◌, leng
 ghost use Rattle.ngc_machine_files.specs.Machine.{file_of};
 ghost use Rattle.ngc_planner.specs.Bounds.{bound_of};
 ghost use Rattle.ngc_planner.specs.Trail.{joints_before};
-ghost use Rattle.ngc_planner.specs.Leg.{IsLeg};
+ghost use Rattle.ngc_braking.specs.Leg.{IsLeg};
 ghost use Rattle.ngc_machine_model.specs.Headline.{job_of};
 ghost use Rattle.ngc_machine_model.specs.State.{path_steps, millionths};
 ghost use Rattle.ngc_machine_model.specs.Reach.{stops};
@@ -53,6 +53,7 @@ fn leg_between<K: ArcKernel + Drop, A: Allocator>(
     requires exit { 1 ≤ exit }
     ensures value { result ≡ record {
       millionths = millionths loaded.now.queued;
+      change = (file_of machine.now).change;
       bound = bound_of (file_of machine.now) loaded.now.queued.command.action
           (path_steps loaded.now.queued);
       entry = entry;
@@ -65,6 +66,7 @@ fn leg_between<K: ArcKernel + Drop, A: Allocator>(
     let steps = loaded.path_steps();
     Leg {
         millionths: steps * 1_000_000,
+        change: u64::from(machine.change),
         bound: bound_of(&command.action, steps, machine),
         entry,
         exit,
@@ -102,9 +104,10 @@ impl<A: Allocator> Drive<A> {
         self.continues_travel = moves && !stops(&loaded.command().action);
     }
 
-    /// Makes a tick without travel. The last rate must be at most the change.
+    /// Makes a tick without travel. The last rate must be at most the change of the motion on which
+    /// the last tick began.
     pub fn halt(&mut self)
-        requires { self.old.ramp.rate ≤ self.old.ramp.change }
+        requires { self.old.ramp.rate ≤ self.old.ramp.last_change }
         ensures { self.new ≡ record self.old { ramp = record self.old.ramp { rate = 0 } } }
     {
         self.ramp.rest();
