@@ -10,9 +10,10 @@ ghost use Rattle.ngc_machine_model.specs.Reach.{stops};
 ghost use Rattle.ngc_controller.specs.Drive.{continues_travel, with_one_more};
 
 use crate::route::Loaded;
+use ngc_braking::Leg;
 use ngc_commands::{Action, Command};
 use ngc_machine_files::Machine;
-use ngc_planner::{Joints, Leg, Ramp, bound_of};
+use ngc_planner::{Joints, Ramp, bound_of};
 use ngc_step_kernel::ArcKernel;
 use std::alloc::Allocator;
 

@@ -135,22 +135,22 @@ all_long job k l (m ∷ ms) = all_by IsLong (nat_lt 0 (path_steps m)) (leg_of jo
     (λ some. long (path_steps m) some) (all_long job (suc k) m ms)
 
 -- the work to brake ends on the known path: so does the braking distance
-brakes_within : (a v rest e : ℕ) (ls : List Leg) → 1 ≤ a → All (HasChange a) ls → a * braking v a ≤ a * rest + work_ahead a e ls →
-    braking v a ≤ ramp_reach rest ls
-brakes_within a v rest e ls some all short =
+brakes_within : (a v d e : ℕ) (ls : List Leg) → 1 ≤ a → All (HasChange a) ls → a * braking v a ≤ a * d + work_ahead a e ls →
+    braking v a ≤ ramp_reach d ls
+brakes_within a v d e ls some all short =
     let is = same_work_ahead a e ls all in
-    let sum : a * braking v a ≤ a * (rest + ahead ls) = omega (arith, short, is) in
+    let sum : a * braking v a ≤ a * (d + ahead ls) = omega (arith, short, is) in
     le_of_mul-le-mul_left {k = a} sum (omega (arith, some))
 
 -- a rate whose path is free can brake, so the ramp is at least as fast
-paced : (job : Job) (l : Queued) (ls : List Queued) (s : State) (rest p q v : ℕ) (joined : Bool) → 1 ≤ job.machine.change → p ≡ q → p ≤ MILLION → 1 ≤ rest →
-    (can_brake q rest (leg_of job s.done joined l) (legs_after job (suc s.done) l ls) ≡ true → q ≤ v) →
-    braking p job.machine.change < ramp_free p rest (leg_of job s.done joined l) (legs_after job (suc s.done) l ls) → p ≤ v
-paced job l ls s rest p q v joined some same small left keeps short =
+paced : (job : Job) (l : Queued) (ls : List Queued) (s : State) (d p q v : ℕ) (joined : Bool) → 1 ≤ job.machine.change → p ≡ q → p ≤ MILLION → 1 ≤ d →
+    (can_brake q d (leg_of job s.done joined l) (legs_after job (suc s.done) l ls) ≡ true → q ≤ v) →
+    braking p job.machine.change < ramp_free p d (leg_of job s.done joined l) (legs_after job (suc s.done) l ls) → p ≤ v
+paced job l ls s d p q v joined some same small left keeps short =
     let leg = leg_of job s.done joined l in
     let legs = legs_after job (suc s.done) l ls in
-    let can = brakes_where_free p job.machine.change rest leg legs small some left refl (all_change job (suc s.done) l ls) (all_long job (suc s.done) l ls) short in
-    let fast = keeps (subst (λ n. can_brake n rest leg legs ≡ true) same can) in
+    let can = brakes_where_free p job.machine.change d leg legs small some left refl (all_change job (suc s.done) l ls) (all_long job (suc s.done) l ls) short in
+    let fast = keeps (subst (λ n. can_brake n d leg legs ≡ true) same can) in
     omega (arith, same, fast)
 
 -- a ramp with the ring's motions as its legs travels at rates that the machine allows

@@ -5,7 +5,7 @@ use Rattle.std.proofs.lemmas.Bool.{lt-ltb, ltb-true, and_parts}
 use Rattle.std.proofs.lemmas.Nat.{mul-le}
 use Rattle.std.proofs.Math.Nat.{div-mul-le_self, mul-le-mul_left}
 use Rattle.std.specs.List.{All}
-use Rattle.std.proofs.lemmas.List.Elements.{All-head}
+use Rattle.std.proofs.lemmas.List.Elements.{All-head, All-tail}
 use Rattle.ngc_braking.specs.declared.leg.Leg.{Leg}
 use Rattle.ngc_braking.specs.Braking.{braking}
 use Rattle.ngc_braking.specs.Leg.{IsLeg, tick_bound, is_due}
@@ -13,7 +13,7 @@ use Rattle.ngc_braking.specs.Work.{GREATEST, work, can_brake, beyond, work_ahead
 use Rattle.ngc_braking.proofs.Ticks.{braking_step}
 use Rattle.ngc_braking.proofs.BrakingLaws.{braking_faster, brakes_in, few_ticks}
 use Rattle.ngc_braking.proofs.BeyondLaws.{short_after, too_far, ceil_capped}
-use Rattle.ngc_planner.specs.Ramp.{RampState, IsRamp, MayTick, on_legs, slowest, pace, after_tick, next_rest}
+use Rattle.ngc_planner.specs.Ramp.{RampState, IsRamp, MayTick, on_legs, pace, after_tick, next_rest}
 use Rattle.ngc_planner.specs.Stretches.{TicksFrom, Ticks, rise, fall, MayRise, may_rise, MayRiseOn, risen, SpeedsUp, MayGoOn, MayGoOnOn, gone_on, GoesOn, MayFall, SlowsDown, highest_rate, chosen_rate, after_ticks, MayBrake, BrakesDown, ChoosesWell, MayBrakeDown, MayBrakeOn, fallen, MayFallTo}
 use Rattle.ngc_planner.proofs.CoastLaws.{bound_after}
 use Rattle.ngc_planner.proofs.RampLaws.{tick_bound_greatest, may_go_fast, may_go_slow, slow_suits, suits_fast, ramp_after}
@@ -345,10 +345,16 @@ low_bound highest wish rest head legs all were each h =
     let most = tick_bound_greatest head rest in
     omega (arith, h, most, leg.bound_greatest)
 
+pub first_leg : (head : Leg) (legs all : List Leg) → all ≡ head ∷ legs → All IsLeg all → IsLeg head
+first_leg head legs all were each = All-head IsLeg head legs (subst (All IsLeg) were each)
+
+pub other_legs : (head : Leg) (legs all : List Leg) → all ≡ head ∷ legs → All IsLeg all → All IsLeg legs
+other_legs head legs all were each = All-tail IsLeg head legs (subst (All IsLeg) were each)
+
 -- the change of the first leg is at least 1
 pub some_change : (a : ℕ) (head : Leg) (legs all : List Leg) → all ≡ head ∷ legs → All IsLeg all → a ≡ head.change → 1 ≤ a
 some_change a head legs all were each same =
-    let leg = All-head IsLeg head legs (subst (All IsLeg) were each) in
+    let leg = first_leg head legs all were each in
     omega (arith, same, leg.change)
 
 pub rise_as : (r : RampState) (head : Leg) (legs : List Leg) (wish n : ℕ) → r.legs ≡ head ∷ legs →

@@ -5,7 +5,7 @@ use Rattle.ngc_braking.specs.Work.{GREATEST, beyond}
 use Rattle.ngc_planner.specs.Inside.{state_of}
 use Rattle.ngc_planner.specs.Ramp.{RampState}
 use Rattle.ngc_planner.specs.Stretches.{MayBrakeOn}
-use Rattle.ngc_planner.proofs.StretchLaws.{low_bound, some_change, may_brake_as, may_brake_by}
+use Rattle.ngc_planner.proofs.StretchLaws.{low_bound, first_leg, other_legs, some_change, may_brake_as, may_brake_by}
 use Rattle.ngc_planner.proofs.ramp.Ramp.falling_ticks.Goals as goal
 
 pub returns-clause-may : goal.returns-clause-may
@@ -28,3 +28,11 @@ returns-clause-may g c =
     subst (λ (r : RampState). MayBrakeOn r.legs r c.args.wish n) c.self.view_is
     (may_brake_as (state_of i) head legs c.args.wish n were (λ one. may_brake_by n i.last_change i.rate i.left c.args.wish c.div_ceil-distance.result head legs same
     wished within distance small some (c.falling_ticks.ensures.may one)))
+
+pub beyond-requires-clause-head : goal.beyond-requires-clause-head
+beyond-requires-clause-head g c =
+    first_leg c.in-Some.head.now c.in-Some.afterwards.now c.self.inside.legs.legs (sym c.as_slice.ensures ∙ c.in-Some.ensures.cases.0) c.self.invariant.ramp.each
+
+pub beyond-requires-clause-each : goal.beyond-requires-clause-each
+beyond-requires-clause-each g c =
+    other_legs c.in-Some.head.now c.in-Some.afterwards.now c.self.inside.legs.legs (sym c.as_slice.ensures ∙ c.in-Some.ensures.cases.0) c.self.invariant.ramp.each
