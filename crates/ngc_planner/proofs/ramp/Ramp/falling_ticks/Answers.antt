@@ -36,3 +36,27 @@ beyond-requires-clause-head g c =
 pub beyond-requires-clause-each : goal.beyond-requires-clause-each
 beyond-requires-clause-each g c =
     other_legs c.in-Some.head.now c.in-Some.afterwards.now c.self.inside.legs.legs (sym c.as_slice.ensures ∙ c.in-Some.ensures.cases.0) c.self.invariant.ramp.each
+
+pub div_ceil-distance-requires : goal.div_ceil-distance-requires
+div_ceil-distance-requires g c =
+    let i = c.self.inside in
+    let were = sym c.as_slice.ensures ∙ c.in-Some.ensures.cases.0 in
+    let some = some_change i.last_change c.in-Some.head.now c.in-Some.afterwards.now i.legs.legs were c.self.invariant.ramp.each c.if-self-head.false in
+    omega (arith, some)
+
+pub falling_ticks-requires-clause-change_least : goal.falling_ticks-requires-clause-change_least
+falling_ticks-requires-clause-change_least g c =
+    let i = c.self.inside in
+    let were = sym c.as_slice.ensures ∙ c.in-Some.ensures.cases.0 in
+    some_change i.last_change c.in-Some.head.now c.in-Some.afterwards.now i.legs.legs were c.self.invariant.ramp.each c.if-self-head.false
+
+pub falling_ticks-requires-clause-rate_greatest : goal.falling_ticks-requires-clause-rate_greatest
+falling_ticks-requires-clause-rate_greatest g c =
+    let i = c.self.inside in
+    let head = c.in-Some.head.now in
+    let were = sym c.as_slice.ensures ∙ c.in-Some.ensures.cases.0 in
+    let wished : c.self.inside.rate + c.self.inside.last_change ≤ c.args.wish = omega (arith, c.if-wish-faster.false) in
+    let within : c.self.inside.rate + c.self.inside.last_change ≤ tick_bound c.in-Some.head.now c.self.inside.left =
+    omega (arith, c.if-tick_bound-faster.false, c.tick_bound.ensures) in
+    let low = low_bound (min c.args.wish (tick_bound head i.left)) c.args.wish i.left head c.in-Some.afterwards.now i.legs.legs were c.self.invariant.ramp.each refl in
+    omega (arith, wished, within, low)
