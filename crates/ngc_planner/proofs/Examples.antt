@@ -18,13 +18,9 @@ use Rattle.ngc_commands.specs.declared.movement.Way.{Way}
 use Rattle.ngc_commands.specs.declared.movement.Way.TheVariants as ways
 use Rattle.ngc_fixed_length.specs.declared.points.StepPos.{StepPos}
 use Rattle.ngc_planner.specs.ArcFeed.{axis_distance, place_turn, target_on}
-use Rattle.ngc_planner.specs.Braking.{braking, braking_terms}
 use Rattle.ngc_planner.specs.Caps.{cap_of}
 use Rattle.ngc_planner.specs.Bounds.{turn_rate, diagonal_rate, bound_of, target_at, least_travel}
 use Rattle.ngc_planner.specs.Joints.{joint_of}
-use Rattle.ngc_planner.specs.Reach.{reach, free}
-use Rattle.ngc_planner.specs.Room.{can_brake}
-use Rattle.ngc_planner.specs.declared.leg.Leg.{Leg}
 
 abbrev pub at : ℤ → ℤ → ℤ → Point3
 at x y z = record { x = x; y = y; z = z }
@@ -41,14 +37,6 @@ along a f = Move (record { way = ways.Arc a; pace = paces.Feed f; stop = false }
 -- about a point on the x axis, from zero
 abbrev arc : ℤ → Point3 → ArcShape
 arc centre end = record { plane = XY; turn = Clockwise; start = at (pos 0) (pos 0) (pos 0); end = end; centre = record { u = centre; v = pos 0 } }
-
-braking_low : braking 2500 1000 ≡ 4500
-unfolding braking_terms
-braking_low = refl
-
-braking_high : braking 400000 1000 ≡ 80200000
-unfolding braking_terms
-braking_high = refl
 
 -- 60 mm per minute over 10 mm
 cap_long : cap_of (feed (at (pos 10000000) (pos 0) (pos 0)) (PerMinute 60000000)) 1000 built_in_machine ≡ 10000
@@ -111,38 +99,6 @@ joint_back = refl
 joint_straight : joint_of built_in_machine (traverse (at (pos 0) (pos 0) (pos 0)) (at (pos 1000000) (pos 0) (pos 0)))
     (traverse (at (pos 1000000) (pos 0) (pos 0)) (at (pos 3000000) (pos 0) (pos 0))) ≡ 1000000
 joint_straight = refl
-
--- a leg of this length, with a bound, and with this joint at both of its ends
-abbrev leg : ℕ → ℕ → ℕ → Bool → Leg
-leg millionths bound joint joined = record { millionths = millionths; bound = bound; entry = joint; exit = joint; joined = joined }
-
--- a corner limits the rates above it, a slow leg those above its bound, and a stop ends the known
--- path
-reach_on : reach 7 (leg 2000000 400000 50000 true ∷ leg 3000000 20000 1000000 true ∷ leg 5000000 400000 1000000 false ∷ []) ≡ 5000007
-reach_on = refl
-
-free_at_corner : free 50000 7 (leg 1000000 400000 50000 false) (leg 2000000 400000 50000 true ∷ leg 3000000 20000 1000000 true ∷ []) ≡ 2000007
-free_at_corner = refl
-
-free_above_corner : free 50001 7 (leg 1000000 400000 50000 false) (leg 2000000 400000 50000 true ∷ leg 3000000 20000 1000000 true ∷ []) ≡ 7
-free_above_corner = refl
-
-free_slow : free 20000 7 (leg 1000000 400000 50000 false) (leg 2000000 400000 50000 true ∷ leg 3000000 20000 1000000 true ∷ []) ≡ 5000007
-free_slow = refl
-
--- from 60,000 to 50,000 within the leg, but not to 0
-room_at_corner : can_brake 60000 1000 610000 (leg 1000000 400000 50000 false) (leg 2000000 400000 50000 true ∷ []) ≡ true
-unfolding braking_terms
-room_at_corner = refl
-
-no_room_at_corner : can_brake 60000 1000 600000 (leg 1000000 400000 50000 false) (leg 2000000 400000 50000 true ∷ []) ≡ false
-unfolding braking_terms
-no_room_at_corner = refl
-
--- the known path ends after 1.6 path steps
-no_room_to_stop : can_brake 60000 1000 610000 (leg 1000000 400000 50000 false) (leg 1000000 400000 50000 true ∷ []) ≡ false
-unfolding braking_terms
-no_room_to_stop = refl
 
 -- ---- joints by headings
 
