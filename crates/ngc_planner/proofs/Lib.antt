@@ -8,7 +8,7 @@ pub mod CapLaws
 pub mod CoastLaws
 -- A coordinate of a displacement fits in 64 bits.
 pub mod CoordinateLaws
--- Caps, bounds and braking on worked motions, by evaluating the definitions.
+-- Caps, bounds, joints and rates on worked motions, by evaluating the definitions.
 pub mod Examples
 -- The size of the coordinates of headings, and their distance from the vector's.
 pub mod HeadingLaws

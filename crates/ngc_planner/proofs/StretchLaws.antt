@@ -159,7 +159,8 @@ only_rise (suc n) a v rest head legs room wish new some within may h =
     let p = first_rise n a v rest head wish some may in
     let mid = only_tick a v rest (v + a) head legs room wish h.0 may.same p.2
     (rising a v rest wish (v + a) head legs room some may.same refl p.0 p.1 p.3) h.1 in
-    let others = subst (λ m. Ticks n m wish new) mid h.2 in
+    let next = on_legs a (v + a) (rest - (v + a)) head legs room in
+    let others = subst (λ m. Ticks n m wish new) {x = h.0} {y = next} mid h.2 in
     only_rise n a (v + a) (rest - (v + a)) head legs room wish new some (omega (arith, within)) (later_rise n a v rest head wish within may) others
     ∙ risen_state n a v rest head legs room
 
@@ -171,12 +172,18 @@ some_rise (suc n) a v rest head legs room wish some within may =
     let p = first_rise n a v rest head wish some may in
     let tick = one_tick a v rest (v + a) head legs room wish may.same p.2 (may_speed_up a v rest wish (v + a) head legs room may.same refl p.0 p.1 p.2 p.3) in
     let others = some_rise n a (v + a) (rest - (v + a)) head legs room wish some (omega (arith, within)) (later_rise n a v rest head wish within may) in
-    (on_legs a (v + a) (rest - (v + a)) head legs room, tick, subst (λ s. Ticks n (on_legs a (v + a) (rest - (v + a)) head legs room) wish s) (risen_state n a v rest head legs room) others)
+    let mid = on_legs a (v + a) (rest - (v + a)) head legs room in
+    let there = on_legs a (v + a + n * a) (rest - (v + a) - rise n (v + a) a) head legs room in
+    let new = on_legs a (v + suc n * a) (rest - rise (suc n) v a) head legs room in
+    (mid, tick, subst (λ s. Ticks n mid wish s) {x = there} {y = new} (risen_state n a v rest head legs room) others)
 
 pub speeds_up : SpeedsUp
 speeds_up n a v rest head legs room wish new some within may = (
   λ h. only_rise n a v rest head legs room wish new some within may h,
-  λ same. subst (λ s. Ticks n (on_legs a v rest head legs room) wish s) (sym same) (some_rise n a v rest head legs room wish some within may),
+  λ same. (
+      let old = on_legs a v rest head legs room in
+      let there = on_legs a (v + n * a) (rest - rise n v a) head legs room in
+      subst (λ s. Ticks n old wish s) {x = there} {y = new} (sym same) (some_rise n a v rest head legs room wish some within may)),
 )
 
 -- ---- going on
@@ -239,7 +246,8 @@ only_even zero a v rest head legs room wish new some within may h = h ∙ sym (e
 only_even (suc n) a v rest head legs room wish new some within may h =
     let p = first_even n a v rest head wish some may in
     let mid = only_tick a v rest v head legs room wish h.0 may.same p.0 (going_on a v rest wish head legs room some may.same may.wished may.within p.1) h.1 in
-    let others = subst (λ m. Ticks n m wish new) mid h.2 in
+    let next = on_legs a v (rest - v) head legs room in
+    let others = subst (λ m. Ticks n m wish new) {x = h.0} {y = next} mid h.2 in
     only_even n a v (rest - v) head legs room wish new some (omega (arith, within)) (later_even n a v rest head wish within may) others
     ∙ even_state n a v rest head legs room
 
@@ -250,12 +258,18 @@ some_even (suc n) a v rest head legs room wish some within may =
     let p = first_even n a v rest head wish some may in
     let tick = one_tick a v rest v head legs room wish may.same p.0 (may_go_on a v rest wish head legs room may.same may.wished may.within p.0 p.1) in
     let others = some_even n a v (rest - v) head legs room wish some (omega (arith, within)) (later_even n a v rest head wish within may) in
-    (on_legs a v (rest - v) head legs room, tick, subst (λ s. Ticks n (on_legs a v (rest - v) head legs room) wish s) (even_state n a v rest head legs room) others)
+    let mid = on_legs a v (rest - v) head legs room in
+    let there = on_legs a v (rest - v - n * v) head legs room in
+    let new = on_legs a v (rest - suc n * v) head legs room in
+    (mid, tick, subst (λ s. Ticks n mid wish s) {x = there} {y = new} (even_state n a v rest head legs room) others)
 
 pub goes_on : GoesOn
 goes_on n a v rest head legs room wish new some within may = (
   λ h. only_even n a v rest head legs room wish new some within may h,
-  λ same. subst (λ s. Ticks n (on_legs a v rest head legs room) wish s) (sym same) (some_even n a v rest head legs room wish some within may),
+  λ same. (
+      let old = on_legs a v rest head legs room in
+      let there = on_legs a v (rest - n * v) head legs room in
+      subst (λ s. Ticks n old wish s) {x = there} {y = new} (sym same) (some_even n a v rest head legs room wish some within may)),
 )
 
 -- ---- slowing down
@@ -295,7 +309,8 @@ only_fall (suc n) a v rest head legs room wish new same may h =
     let step = fall_step n v a (omega (arith, may.wished)) in
     let mid = only_tick a v rest (v - a) head legs room wish h.0 same (omega (arith, may.on_head, step))
     (slowing a v rest wish head legs room same (omega (arith, may.wished))) h.1 in
-    let others = subst (λ m. Ticks n m wish new) mid h.2 in
+    let next = on_legs a (v - a) (rest - (v - a)) head legs room in
+    let others = subst (λ m. Ticks n m wish new) {x = h.0} {y = next} mid h.2 in
     let rate : v - a - n * a ≡ v - suc n * a = omega arith in
     let left : rest - (v - a) - fall n (v - a) a ≡ rest - fall (suc n) v a = omega (arith, step) in
     only_fall n a (v - a) (rest - (v - a)) head legs room wish new same (later_fall n a v rest wish may) others
@@ -544,7 +559,8 @@ chosen_by true places a r rest wish c v h ls ramp highest brakes same =
     let within = tick_bound_greatest h rest in
     let may = may_go_fast places a r rest wish (tick_bound h rest) c h ls ramp.each refl ramp.kept.bounded highest brakes in
     let kept = ramp_after places a r rest c h ls ramp (omega (arith, highest, within, leg.bound_greatest)) (omega (arith, highest, within)) (λ fast. brakes) in
-    (subst (λ x. MayTick (on_legs a r rest h ls places) wish h ls x) (sym same) may, subst (λ x. IsRamp (after_tick (on_legs a r rest h ls places) h ls x)) (sym same) kept)
+    let old = on_legs a r rest h ls places in
+    (subst (λ x. MayTick old wish h ls x) (sym same) may, subst (λ x. IsRamp (after_tick old h ls x)) (sym same) kept)
 chosen_by false places a r rest wish c v h ls ramp highest none same =
     let leg = All-head IsLeg h ls ramp.each in
     let within = tick_bound_greatest h rest in
@@ -566,8 +582,10 @@ pub may_brake_down : MayBrakeDown
 may_brake_down zero a v rest head legs room wish ramp may =
     let rate : v - 0 * a ≡ v = omega arith in
     let left : rest - fall 0 v a ≡ rest = omega arith in
-    let same = ap₂ (λ r l. on_legs a r l head legs room) rate left in
-    (same, subst IsRamp (sym same) ramp)
+    let old = on_legs a v rest head legs room in
+    let new = on_legs a (v - 0 * a) (rest - fall 0 v a) head legs room in
+    let same : new ≡ old = ap₂ (λ r l. on_legs a r l head legs room) rate left in
+    (same, subst IsRamp {x = old} {y = new} (sym same) ramp)
 may_brake_down (suc n) a v rest head legs room wish ramp may =
     let leg = All-head IsLeg head legs ramp.each in
     let some : 1 ≤ a = omega (arith, may.same, leg.change) in
@@ -576,14 +594,21 @@ may_brake_down (suc n) a v rest head legs room wish ramp may =
     (first_short n a rest (div_ceil (beyond a head.exit legs) a) (braking (v + a) a) may.short) in
     let choice = chooses_well a v rest head legs room wish ramp in
     let less : v - a < rest = omega (arith, may.on_head, step) in
-    let tick = one_tick a v rest (v - a) head legs room wish may.same less (subst (λ x. MayTick (on_legs a v rest head legs room) wish head legs x) low choice.may) in
-    let kept = subst IsRamp (ap (λ x. after_tick (on_legs a v rest head legs room) head legs x) low ∙ on_head a v rest (v - a) head legs room may.same less) choice.kept in
+    let old = on_legs a v rest head legs room in
+    let mid = on_legs a (v - a) (rest - (v - a)) head legs room in
+    let chosen = after_tick old head legs (chosen_rate old wish head legs) in
+    let allowed = subst (λ x. MayTick old wish head legs x) low choice.may in
+    let tick = one_tick a v rest (v - a) head legs room wish may.same less allowed in
+    let here : chosen ≡ mid = ap (λ x. after_tick old head legs x) low ∙ on_head a v rest (v - a) head legs room may.same less in
+    let kept = subst IsRamp {x = chosen} {y = mid} here choice.kept in
     let others = may_brake_down n a (v - a) (rest - (v - a)) head legs room wish kept (later_brake n a v rest head legs wish some ramp.left.1 may) in
     let rate : v - a - n * a ≡ v - suc n * a = omega arith in
     let left : rest - (v - a) - fall n (v - a) a ≡ rest - fall (suc n) v a = omega (arith, step) in
-    let same = ap₂ (λ r l. on_legs a r l head legs room) rate left in (
-      (on_legs a (v - a) (rest - (v - a)) head legs room, tick, subst (λ s. Ticks n (on_legs a (v - a) (rest - (v - a)) head legs room) wish s) same others.0),
-      subst IsRamp same others.1,
+    let there = on_legs a (v - a - n * a) (rest - (v - a) - fall n (v - a) a) head legs room in
+    let new = on_legs a (v - suc n * a) (rest - fall (suc n) v a) head legs room in
+    let same : there ≡ new = ap₂ (λ r l. on_legs a r l head legs room) rate left in (
+      (mid, tick, subst (λ s. Ticks n mid wish s) {x = there} {y = new} same others.0),
+      subst IsRamp {x = there} {y = new} same others.1,
     )
 
 -- ---- the ramp after ticks that slow down
@@ -636,8 +661,10 @@ fallen_by : (places n a v rest wish : ℕ) (legs : List Leg) → IsRamp (record 
 fallen_by places zero a v rest wish legs ramp may =
     let rate : v - 0 * a ≡ v = omega arith in
     let left : rest - fall 0 v a ≡ rest = omega arith in
-    let same = ap₂ (λ x l. record { last_change = a; rate = x; rest = l; legs = legs; room = places }) rate left in
-    (same, subst IsRamp (sym same) ramp)
+    let old : RampState = record { last_change = a; rate = v; rest = rest; legs = legs; room = places } in
+    let new : RampState = record { last_change = a; rate = v - 0 * a; rest = rest - fall 0 v a; legs = legs; room = places } in
+    let same : new ≡ old = ap₂ (λ x l. record { last_change = a; rate = x; rest = l; legs = legs; room = places }) rate left in
+    (same, subst IsRamp {x = old} {y = new} (sym same) ramp)
 fallen_by places (suc n) a v rest wish [] ramp may = absurd (omega (arith, may))
 fallen_by places (suc n) a v rest wish (head ∷ legs) ramp may = may_brake_down (suc n) a v rest head legs places wish ramp (may (omega arith))
 
