@@ -6,7 +6,7 @@ use Rattle.ngc_fixed_length.specs.Limits.{MILLION}
 use Rattle.ngc_fixed_length.specs.declared.points.StepPos.{StepPos}
 use Rattle.ngc_machine_files.specs.Machine.{MachineFile}
 use Rattle.ngc_planner.specs.ArcFeed.{target_on}
-use Rattle.ngc_planner.specs.declared.leg.Leg.{Leg}
+use Rattle.ngc_braking.specs.declared.leg.Leg.{Leg}
 use Rattle.ngc_planner.specs.Ramp.{RampState, TicksTo}
 use Rattle.ngc_machine_model.specs.State.{Job, Queued, path_steps, millionths}
 use Rattle.ngc_machine_model.specs.Reach.{leg_of, legs_after}

@@ -73,7 +73,7 @@ pub record IsEven (job : Job) (l : Queued) (ls : List Queued) (s : State) (r : R
   pub runs : s.stopped ≡ false
   pub ring : s.ring ≡ l ∷ ls
   pub legs : r.legs ≡ leg_of job s.done joined l ∷ legs_after job (suc s.done) l ls
-  pub change : r.change ≡ job.machine.change
+  pub last : r.last_change ≤ job.machine.change
   pub rate : r.rate ≡ s.rate
   pub within : r.rest ≤ millionths l
   pub at : s.travelled ≡ millionths l - r.rest
@@ -93,14 +93,14 @@ even_tick job l ls s r joined wish n h = record {
   motion = h.motion;
   moves = h.moves;
   legs = h.legs;
-  change = h.change;
+  last = h.last;
   rate = h.rate;
   some = omega (arith, h.may.brakes);
   within = h.within;
   at = h.at;
   place_at = refl;
   aim = h.aim;
-  tick = coast_ticks r wish n (leg_of job s.done joined l) (legs_after job (suc s.done) l ls) (omega (arith, h.change, h.machine.change.least)) h.within h.may;
+  tick = coast_ticks r wish n (leg_of job s.done joined l) (legs_after job (suc s.done) l ls) h.machine.change.least h.within h.may;
   place_next = refl;
   point_at = refl;
 }
@@ -123,7 +123,7 @@ even_on job l ls s r joined wish n h less place = record {
   runs = h.runs;
   ring = h.ring;
   legs = h.legs;
-  change = h.change;
+  last = h.last;
   rate = h.rate;
   within = omega (arith, h.within);
   at = omega (arith, h.at, h.within, h.rate);
@@ -173,7 +173,7 @@ pub record IsEvenOn (job : Job) (queue : List Queued) (s : State) (r : RampState
   pub ring : s.ring ≡ queue
   pub legs : (joined : Bool) × (r.legs ≡ legs_of job s.done joined queue)
   pub left : IsRest r.rest r.legs
-  pub change : r.change ≡ job.machine.change
+  pub last : r.last_change ≤ job.machine.change
   pub rate : r.rate ≡ s.rate
   pub at : s.travelled ≡ travelled_of queue r.rest
   pub place_at : place ≡ s.travelled / MILLION
@@ -196,7 +196,7 @@ even_head job l ls s r wish aimed n place p h =
       runs = h.runs;
       ring = h.ring;
       legs = legs;
-      change = h.change;
+      last = h.last;
       rate = h.rate;
       within = left.1;
       at = h.at ∙ moving_travelled l ls r.rest h.moves;
@@ -223,7 +223,7 @@ even_by job done ring after drive dwelt position tool panel s wish n p o moves r
   ring = refl;
   legs = o.legs;
   left = o.left;
-  change = o.change;
+  last = o.last;
   rate = refl;
   at = refl;
   place_at = o.place;

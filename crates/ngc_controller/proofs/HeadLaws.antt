@@ -10,7 +10,7 @@ use Rattle.ngc_machine_files.specs.MachineRanges.{IsMachine}
 use Rattle.ngc_machine_files.specs.declared.tools.Tool.{Tool}
 use Rattle.ngc_fixed_length.specs.LinePath.{point}
 use Rattle.ngc_planner.specs.ArcFeed.{target_on}
-use Rattle.ngc_planner.specs.declared.leg.Leg.{Leg}
+use Rattle.ngc_braking.specs.declared.leg.Leg.{Leg}
 use Rattle.ngc_fixed_length.specs.Limits.{MILLION}
 use Rattle.ngc_planner.specs.Ramp.{RampState, IsRest, TicksTo, next_rest, after_tick}
 use Rattle.ngc_planner.proofs.RampLaws.{ends_slowly}
@@ -36,7 +36,7 @@ pub record IsTravelOn (job : Job) (ring : List Queued) (old : State) (r s : Ramp
   pub moves : IsMoving ring
   pub legs : (joined : Bool) × (r.legs ≡ legs_of job old.done joined ring)
   pub left : IsRest r.rest r.legs
-  pub change : r.change ≡ job.machine.change
+  pub last : r.last_change ≤ job.machine.change
   pub places : r.room ≡ job.machine.ring
   pub rate : r.rate ≡ old.rate
   pub at : old.travelled ≡ travelled_of ring r.rest
@@ -63,7 +63,7 @@ travel job l ls old r s wish aimed v place due ended next p h =
       motion = h.point_at.1;
       moves = h.moves;
       legs = legs;
-      change = h.change;
+      last = h.last;
       rate = h.rate;
       some = left.0;
       within = left.1;
@@ -78,47 +78,51 @@ travel job l ls old r s wish aimed v place due ended next p h =
 
 -- ---- the ramp after the tick
 
-pub record Goes (r s : RampState) (v : ℕ) : Type 0 where
+-- on a leg with the change a
+pub record Goes (r s : RampState) (a v : ℕ) : Type 0 where
   pub less : v < r.rest
   pub rate : s.rate ≡ v
   pub rest : s.rest ≡ r.rest - v
   pub legs : s.legs ≡ r.legs
-  pub change : s.change ≡ r.change
+  pub last : s.last_change ≡ a
   pub room : s.room ≡ r.room
 
-pub record Ends (r s : RampState) (afterwards : List Leg) (v : ℕ) : Type 0 where
+pub record Ends (r s : RampState) (afterwards : List Leg) (a v : ℕ) : Type 0 where
   pub all : r.rest ≤ v
   pub rate : s.rate ≡ v
   pub rest : s.rest ≡ next_rest (v - r.rest) afterwards
   pub legs : s.legs ≡ afterwards
-  pub change : s.change ≡ r.change
+  pub last : s.last_change ≡ a
   pub room : s.room ≡ r.room
 
-pub goes : (r s : RampState) (legs : List Leg) (v : ℕ) (ended : Bool) → ended ≡ nat_le r.rest v → ended ≡ false → s ≡ after_tick r legs v → Goes r s v
-goes r s legs v ended test on e =
+pub goes : (r s : RampState) (head : Leg) (legs : List Leg) (v : ℕ) (ended : Bool) → ended ≡ nat_le r.rest v → ended ≡ false → s ≡ after_tick r head legs v →
+    Goes r s head.change v
+goes r s head legs v ended test on e =
     let less : v < r.rest = grind (arith, nat_tests) in
-    let ends : RampState = record r { rate = v; rest = next_rest (v - r.rest) legs; legs = legs } in
-    let whole : s ≡ record r { rate = v; rest = r.rest - v } = e ∙ ap (λ b. cond b (record r { rate = v; rest = r.rest - v }) ends) (lt-ltb v r.rest less) in
+    let ends : RampState = record r { last_change = head.change; rate = v; rest = next_rest (v - r.rest) legs; legs = legs } in
+    let whole : s ≡ record r { last_change = head.change; rate = v; rest = r.rest - v } =
+    e ∙ ap (λ b. cond b (record r { last_change = head.change; rate = v; rest = r.rest - v }) ends) (lt-ltb v r.rest less) in
     record {
       less = less;
       rate = ap (λ (x : RampState). x.rate) whole;
       rest = ap (λ (x : RampState). x.rest) whole;
       legs = ap (λ (x : RampState). x.legs) whole;
-      change = ap (λ (x : RampState). x.change) whole;
+      last = ap (λ (x : RampState). x.last_change) whole;
       room = ap (λ (x : RampState). x.room) whole;
     }
 
-pub ends : (r s : RampState) (legs : List Leg) (v : ℕ) (ended : Bool) → ended ≡ nat_le r.rest v → ended ≡ true → s ≡ after_tick r legs v → Ends r s legs v
-ends r s legs v ended test done e =
+pub ends : (r s : RampState) (head : Leg) (legs : List Leg) (v : ℕ) (ended : Bool) → ended ≡ nat_le r.rest v → ended ≡ true → s ≡ after_tick r head legs v →
+    Ends r s legs head.change v
+ends r s head legs v ended test done e =
     let all : r.rest ≤ v = grind (arith, nat_tests) in
-    let there : RampState = record r { rate = v; rest = next_rest (v - r.rest) legs; legs = legs } in
-    let whole : s ≡ there = e ∙ ap (λ b. cond b (record r { rate = v; rest = r.rest - v }) there) (le-ltb v r.rest all) in
+    let there : RampState = record r { last_change = head.change; rate = v; rest = next_rest (v - r.rest) legs; legs = legs } in
+    let whole : s ≡ there = e ∙ ap (λ b. cond b (record r { last_change = head.change; rate = v; rest = r.rest - v }) there) (le-ltb v r.rest all) in
     record {
       all = all;
       rate = ap (λ (x : RampState). x.rate) whole;
       rest = ap (λ (x : RampState). x.rest) whole;
       legs = ap (λ (x : RampState). x.legs) whole;
-      change = ap (λ (x : RampState). x.change) whole;
+      last = ap (λ (x : RampState). x.last_change) whole;
       room = ap (λ (x : RampState). x.room) whole;
     }
 
@@ -141,7 +145,7 @@ travel_goes_on job [] old new r s wish aimed v place due ended next p t xs h on 
 travel_goes_on job (l ∷ ls) old new r s wish aimed v place due ended next p t xs h on far queue same is =
     let k = travel job l ls old r s wish aimed v place due ended next p h in
     let has = has_travelled job l ls old r s h.legs.0 wish v place due ended next p k in
-    let g = goes r s (legs_after job (suc old.done) l ls) v ended k.tick.ends on k.tick.next in
+    let g = goes r s (leg_of job old.done h.legs.0 l) (legs_after job (suc old.done) l ls) v ended k.tick.ends on k.tick.next in
     let there : t ≡ millionths l - s.rest = far ∙ ap (λ ys. travelled_of ys s.rest) queue ∙ moving_travelled l ls s.rest h.moves in
     let rate : new.rate ≡ v = ap (λ (x : State). x.rate) is ∙ g.rate in (
       goes_on job l ls old new r v next due p t xs s.rate has k.at k.within g.less (omega (arith, there, g.rest, g.less, k.at, k.within))
@@ -152,17 +156,17 @@ travel_goes_on job (l ∷ ls) old new r s wish aimed v place due ended next p t 
 -- the invariant of the ramp and the ring
 place_on : (job : Job) (ring : List Queued) (old : State) (r s : RampState) (wish aimed v place : ℕ) (due ended : Bool) (next : ℕ) (p : StepPos) →
     IsTravelOn job ring old r s wish aimed v place due ended next p → ended ≡ false →
-    (next ≡ travelled_of ring s.rest / MILLION) × (s.legs ≡ r.legs) × (s.change ≡ r.change) × IsRest s.rest s.legs × (s.room ≡ r.room)
+    (next ≡ travelled_of ring s.rest / MILLION) × (s.legs ≡ r.legs) × (s.last_change ≡ job.machine.change) × IsRest s.rest s.legs × (s.room ≡ r.room)
 place_on job [] old r s wish aimed v place due ended next p h on = elim h.moves [ ]
 place_on job (l ∷ ls) old r s wish aimed v place due ended next p h on =
     let k = travel job l ls old r s wish aimed v place due ended next p h in
     let has = has_travelled job l ls old r s h.legs.0 wish v place due ended next p k in
-    let g = goes r s (legs_after job (suc old.done) l ls) v ended k.tick.ends on k.tick.next in
+    let g = goes r s (leg_of job old.done h.legs.0 l) (legs_after job (suc old.done) l ls) v ended k.tick.ends on k.tick.next in
     let there = moving_travelled l ls s.rest h.moves in
     let far : min (old.travelled + v) (millionths l) ≡ travelled_of (l ∷ ls) s.rest = omega (arith, there, g.rest, g.less, k.at, k.within) in (
       has.place ∙ ap (λ x. x / MILLION) far,
       g.legs,
-      g.change,
+      g.last,
       subst (λ ks. IsRest s.rest ks) (sym (g.legs ∙ k.legs)) (omega (arith, g.rest, g.less), omega (arith, g.rest, k.within)),
       g.room,
     )
@@ -178,7 +182,7 @@ order_goes_on {A = A} job done ring after drive new dwelt panel old s wish v due
     let here : IsInOrder {A = A} job done (record { loaded = ring.loaded; place = after.place; room = ring.room })
     (record { ramp = s; target = new.target; joints = drive.joints; continues_travel = drive.continues_travel }) dwelt panel = record {
       machine = o.machine;
-      change = on.2 ∙ o.change;
+      last = omega (arith, on.2);
       room = o.room;
       places = on.4 ∙ o.places;
       legs = (o.legs.0, on.1 ∙ o.legs.1);
@@ -212,12 +216,12 @@ ends_on job (l ∷ ls) old r s wish aimed v place due ended next p h done =
     let k = travel job l ls old r s wish aimed v place due ended next p h in
     let has = has_travelled job l ls old r s h.legs.0 wish v place due ended next p k in
     let afterwards = legs_after job (suc old.done) l ls in
-    let e = ends r s afterwards v ended k.tick.ends done k.tick.next in
+    let e = ends r s (leg_of job old.done h.legs.0 l) afterwards v ended k.tick.ends done k.tick.next in
     let few : v - r.rest < MILLION = omega (arith, has.small, k.some) in
-    let some : 1 ≤ r.change = omega (arith, k.change, h.machine.change.least) in
+    let some = h.machine.change.least in
     let b = behind_is job (suc old.done) l ls in
     let rest : s.rest ≡ next_rest (v - r.rest) s.legs = e.rest ∙ ap (λ ks. next_rest (v - r.rest) ks) (sym e.legs) in
-    let slows : (IsMoving ls → ⊥) → (v ≡ r.rest) × (v ≤ r.change) =
+    let slows : (IsMoving ls → ⊥) → (v ≡ r.rest) × (v ≤ job.machine.change) =
     λ still. ends_slowly r wish (leg_of job old.done h.legs.0 l) afterwards v some k.tick.may (none_ahead job (suc old.done) l ls still) e.all in
     let none : (IsMoving ls → ⊥) → v - r.rest ≡ 0 = λ still. (let slow = slows still in omega (arith, slow.0)) in
     let far = travelled_over job (suc old.done) b.0 ls s (v - r.rest) (e.legs ∙ b.1) rest few none in
@@ -225,11 +229,11 @@ ends_on job (l ∷ ls) old r s wish aimed v place due ended next p h done =
       rate = e.rate;
       all = e.all;
       left = record {
-        change = e.change ∙ k.change;
+        last = omega (arith, e.last);
         places = e.room ∙ h.places;
         legs = (b.0, e.legs ∙ b.1);
         left = subst (λ ks. IsRest s.rest ks) (sym e.legs) (subst (λ n. IsRest n afterwards) (sym e.rest) (behind_left job (suc old.done) l ls (v - r.rest) few));
-        slow = λ still. (let slow = slows still in omega (arith, e.rate, slow.1, k.change));
+        slow = λ still. (let slow = slows still in omega (arith, e.rate, slow.1, e.last));
         whole = λ still. rest ∙ ap (λ n. next_rest n s.legs) (none still);
       };
       travelled = far;
@@ -265,7 +269,7 @@ travels_by job done ring after drive dwelt position tool panel s wish v due ende
   moves = moves;
   legs = o.legs;
   left = o.left;
-  change = o.change;
+  last = o.last;
   places = o.places;
   rate = refl;
   at = refl;

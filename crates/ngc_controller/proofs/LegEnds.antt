@@ -3,8 +3,8 @@ use Rattle.std.proofs.Common.{◌≡◌, ℕ, zero, suc, ◌+◌, ◌-◌, ◌�
 use Rattle.std.specs.Prelude.{◌≢◌, nat_lt, if◌then◌else◌}
 use Rattle.std.specs.List.{All}
 use Rattle.std.proofs.lemmas.List.Elements.{All-head}
-use Rattle.ngc_planner.specs.declared.leg.Leg.{Leg}
-use Rattle.ngc_planner.specs.Leg.{IsLeg}
+use Rattle.ngc_braking.specs.declared.leg.Leg.{Leg}
+use Rattle.ngc_braking.specs.Leg.{IsLeg}
 use Rattle.ngc_planner.specs.Ramp.{RampState, IsRamp, MayTick, TicksTo, next_rest}
 use Rattle.ngc_planner.specs.Stretches.{TicksFrom, Ticks}
 use Rattle.ngc_controller.specs.Finishing.{EndsBy, EndsLeg}
@@ -36,7 +36,8 @@ one_shorter (head ∷ legs) r wish q e h =
     let v = h.0 in
     let here : length r.legs ≤ length (head ∷ legs) = omega (arith, ap length e) in
     let next = ap (λ (x : RampState). length x.legs) h.3.next in
-    let few = few_by (nat_lt v r.rest) (record r { rate = v; rest = r.rest - v }) (record r { rate = v; rest = next_rest (v - r.rest) legs; legs = legs })
+    let few = few_by (nat_lt v r.rest) (record r { last_change = head.change; rate = v; rest = r.rest - v })
+    (record r { last_change = head.change; rate = v; rest = next_rest (v - r.rest) legs; legs = legs })
     (length (head ∷ legs)) here (omega arith) in
     omega (arith, next, few)
 
@@ -46,40 +47,37 @@ ticks_shorter (suc n) r wish q h = omega (arith, one_shorter r.legs r wish h.0 r
 
 -- so a tick with no fewer legs after it doesn't end the first one
 pub tick_stays : (r q : RampState) (wish v : ℕ) (due ended : Bool) (head : Leg) (legs : List Leg) → r.legs ≡ head ∷ legs →
-    TicksTo r wish head legs v due ended q → length r.legs ≤ length q.legs → (ended ≡ false) × Goes r q v
+    TicksTo r wish head legs v due ended q → length r.legs ≤ length q.legs → (ended ≡ false) × Goes r q head.change v
 tick_stays r q wish v due true head legs e t long = absurd
-    (let there = ends r q legs v true t.ends refl t.next in
+    (let there = ends r q head legs v true t.ends refl t.next in
     omega (arith, ap length e, ap length there.legs, long))
-tick_stays r q wish v due false head legs e t long = (refl, goes r q legs v false t.ends refl t.next)
+tick_stays r q wish v due false head legs e t long = (refl, goes r q head legs v false t.ends refl t.next)
 
 -- ---- and each travels some distance
 
 -- n ticks on the first leg
 pub record StaysOnLeg (n : ℕ) (r q : RampState) : Type 0 where
   pub fewer : n + q.rest ≤ r.rest
-  pub change : q.change ≡ r.change
   pub room : q.room ≡ r.room
 
-some_travel : (r : RampState) (wish v : ℕ) (head : Leg) (legs : List Leg) → 1 ≤ wish → 1 ≤ r.change → IsLeg head → MayTick r wish head legs v → v < r.rest → 1 ≤ v
-some_travel r wish v head legs some change leg may less = omega (arith, may.at_least, leg.bound, leg.entry, leg.exit, some, change, less)
+some_travel : (r : RampState) (wish v : ℕ) (head : Leg) (legs : List Leg) → 1 ≤ wish → IsLeg head → MayTick r wish head legs v → v < r.rest → 1 ≤ v
+some_travel r wish v head legs some leg may less = omega (arith, may.at_least, leg.change, leg.bound, leg.entry, leg.exit, some, less)
 
-pub stays_on_leg : (n : ℕ) (r q : RampState) (wish : ℕ) (head : Leg) (legs : List Leg) → 1 ≤ wish → 1 ≤ r.change → IsLeg head → r.legs ≡ head ∷ legs →
+pub stays_on_leg : (n : ℕ) (r q : RampState) (wish : ℕ) (head : Leg) (legs : List Leg) → 1 ≤ wish → IsLeg head → r.legs ≡ head ∷ legs →
     q.legs ≡ r.legs → Ticks n r wish q → StaysOnLeg n r q
-stays_on_leg zero r q wish head legs some change leg e same h = record {
+stays_on_leg zero r q wish head legs some leg e same h = record {
   fewer = omega (arith, ap (λ (x : RampState). x.rest) h);
-  change = ap (λ (x : RampState). x.change) h;
   room = ap (λ (x : RampState). x.room) h;
 }
-stays_on_leg (suc n) r q wish head legs some change leg e same h =
+stays_on_leg (suc n) r q wish head legs some leg e same h =
     let mid = h.0 in
     let first : TicksFrom (head ∷ legs) r wish mid = subst (λ xs. TicksFrom xs r wish mid) e h.1 in
     let long = ticks_shorter n mid wish q h.2 in
     let g = (tick_stays r mid wish first.0 first.1 first.2 head legs e first.3 (omega (arith, long, ap length same))).1 in
-    let some_way = some_travel r wish first.0 head legs some change leg first.3.may g.less in
-    let more = stays_on_leg n mid q wish head legs some (omega (arith, g.change, change)) leg (g.legs ∙ e) (same ∙ sym g.legs) h.2 in
+    let some_way = some_travel r wish first.0 head legs some leg first.3.may g.less in
+    let more = stays_on_leg n mid q wish head legs some leg (g.legs ∙ e) (same ∙ sym g.legs) h.2 in
     record {
       fewer = omega (arith, more.fewer, g.rest, g.less, some_way);
-      change = more.change ∙ g.change;
       room = more.room ∙ g.room;
     }
 
@@ -106,11 +104,11 @@ goes_further n k r m q z wish v due ended some ramp any before same tick stays m
     let head = f.0 in
     let legs = f.1 in
     let t = tick head legs f.2 in
-    let g = goes m q legs v ended t.ends stays t.next in
+    let g = goes m q head legs v ended t.ends stays t.next in
     let leg : IsLeg head = All-head IsLeg head legs (subst (λ xs. All IsLeg xs) f.2 ramp.each) in
     let one : TicksFrom m.legs m wish q = subst (λ xs. TicksFrom xs m wish q) (sym f.2) (v, due, ended, t) in
-    let some_way = some_travel m wish v head legs some ramp.change_least leg t.may g.less in
-    let on = stays_on_leg k q z wish head legs some (omega (arith, g.change, ramp.change_least)) leg (g.legs ∙ f.2) kept more in
+    let some_way = some_travel m wish v head legs some leg t.may g.less in
+    let on = stays_on_leg k q z wish head legs some leg (g.legs ∙ f.2) kept more in
     record {
       goes = ticks_joined (n + 1) k r q z wish (one_more_tick n (n + 1) r m q wish before one refl) more;
       same = kept ∙ g.legs ∙ same;

@@ -3,9 +3,9 @@ use Rattle.std.proofs.Common.{◌≡◌, ℕ, suc, ◌+◌, ◌-◌, ◌≤◌, 
 use Rattle.std.specs.Prelude.{nat_lt, ◌&&◌, not}
 use Rattle.std.proofs.lemmas.Bool.{cases_lt, lt-ltb, le-ltb}
 use Rattle.std.proofs.lemmas.Bool.Decides.{nat_tests}
-use Rattle.ngc_planner.specs.declared.leg.Leg.{Leg}
+use Rattle.ngc_braking.specs.declared.leg.Leg.{Leg}
 use Rattle.ngc_fixed_length.specs.Limits.{MILLION}
-use Rattle.ngc_planner.specs.Reach.{ahead}
+use Rattle.ngc_braking.specs.Reach.{ahead}
 use Rattle.ngc_planner.specs.Ramp.{RampState, IsRest, next_rest, loaded, rest_with}
 use Rattle.ngc_machine_model.specs.State.{Job, Queued, path_steps, millionths}
 use Rattle.ngc_machine_model.specs.Reach.{stops, continues_into, leg_of, legs_after}
@@ -162,7 +162,7 @@ whole_with rest (x ∷ xs) leg h = h
 
 -- the ramp with the leg of one more command, if it has one
 pub record HasOneMore (r s : RampState) : Type 0 where
-  pub change : s.change ≡ r.change
+  pub last : s.last_change ≡ r.last_change
   pub places : s.room ≡ r.room
   pub rate : s.rate ≡ r.rate
   pub left : IsRest r.rest r.legs → IsRest s.rest s.legs
@@ -170,7 +170,7 @@ pub record HasOneMore (r s : RampState) : Type 0 where
 
 has_leg : (job : Job) (k : ℕ) (on : Bool) (q : Queued) (r : RampState) → 1 ≤ path_steps q → HasOneMore r (loaded r (leg_of job k on q))
 has_leg job k on q r some = record {
-  change = refl;
+  last = refl;
   places = refl;
   rate = refl;
   left = λ h. left_with r.rest r.legs (leg_of job k on q) (omega arith) h;
@@ -178,7 +178,7 @@ has_leg job k on q r some = record {
 }
 
 has_none : (r : RampState) → HasOneMore r r
-has_none r = record { change = refl; places = refl; rate = refl; left = λ h. h; whole = λ h. h }
+has_none r = record { last = refl; places = refl; rate = refl; left = λ h. h; whole = λ h. h }
 
 pub has_one_more : (job : Job) (k : ℕ) (on : Bool) (q : Queued) (r s : RampState) → s ≡ with_one_more job k on q r → HasOneMore r s
 has_one_more job k on q r s is = elim (cases_lt 0 (path_steps q)) [

@@ -12,7 +12,7 @@ use Rattle.ngc_machine_files.specs.MachineRanges.{IsMachine}
 use Rattle.ngc_machine_files.specs.declared.tools.Tool.{Tool}
 use Rattle.ngc_planner.specs.ArcFeed.{target_on, is_by_place}
 use Rattle.ngc_planner.specs.Bounds.{IsMotion, target_at}
-use Rattle.ngc_planner.specs.declared.leg.Leg.{Leg}
+use Rattle.ngc_braking.specs.declared.leg.Leg.{Leg}
 use Rattle.ngc_planner.specs.Ramp.{RampState, IsRest, TicksTo, next_rest}
 use Rattle.ngc_planner.specs.Stretches.{TicksFrom, Ticks}
 use Rattle.ngc_planner.proofs.ArcFeedLaws.{same_elsewhere}
@@ -50,7 +50,7 @@ pub record IsOnLeg (job : Job) (l : Queued) (ls : List Queued) (s : State) (r : 
   pub runs : s.stopped ≡ false
   pub ring : s.ring ≡ l ∷ ls
   pub legs : r.legs ≡ leg_of job s.done joined l ∷ legs_after job (suc s.done) l ls
-  pub change : r.change ≡ job.machine.change
+  pub last : r.last_change ≤ job.machine.change
   pub room : r.room ≡ job.machine.ring
   pub rate : r.rate ≡ s.rate
   pub some : 1 ≤ r.rest
@@ -66,7 +66,7 @@ on_travel job l ls s r q joined wish v due ended h t = record {
   motion = h.motion;
   moves = h.moves;
   legs = h.legs;
-  change = h.change;
+  last = h.last;
   rate = h.rate;
   some = h.some;
   within = h.within;
@@ -99,7 +99,7 @@ record HasTicked (job : Job) (l : Queued) (ls : List Queued) (s : State) (q : Ra
   place : place_before (gone l s v due) ≡ next_place (place_before s) due
 
 one_tick : (job : Job) (l : Queued) (ls : List Queued) (s : State) (r q : RampState) (joined : Bool) (wish v : ℕ) (due : Bool) → IsOnLeg job l ls s r joined wish →
-    TicksTo r wish (leg_of job s.done joined l) (legs_after job (suc s.done) l ls) v due false q → Goes r q v → HasTicked job l ls s q joined wish v due
+    TicksTo r wish (leg_of job s.done joined l) (legs_after job (suc s.done) l ls) v due false q → Goes r q job.machine.change v → HasTicked job l ls s q joined wish v due
 one_tick job l ls s r q joined wish v due h t g =
     let next = next_place (place_before s) due in
     let p = point l.path next in
@@ -118,7 +118,7 @@ one_tick job l ls s r q joined wish v due h t g =
         runs = h.runs;
         ring = h.ring;
         legs = g.legs ∙ h.legs;
-        change = g.change ∙ h.change;
+        last = omega (arith, g.last);
         room = g.room ∙ h.room;
         rate = g.rate;
         some = omega (arith, g.rest, g.less);
@@ -226,7 +226,7 @@ last_travel job l ls s r q joined wish v due on t =
       moves = on.moves;
       legs = (joined, on.legs ∙ sym (moving_legs job s.done joined l ls on.moves));
       left = subst (λ ks. IsRest r.rest ks) (sym on.legs) (on.some, on.within);
-      change = on.change;
+      last = on.last;
       places = on.room;
       rate = on.rate;
       at = on.at ∙ sym (moving_travelled l ls r.rest on.moves);
@@ -373,7 +373,7 @@ pub record IsReady (job : Job) (ring : List Queued) (s : State) (r : RampState) 
   pub queue : s.ring ≡ ring
   pub legs : (joined : Bool) × (r.legs ≡ legs_of job s.done joined ring)
   pub left : IsRest r.rest r.legs
-  pub change : r.change ≡ job.machine.change
+  pub last : r.last_change ≤ job.machine.change
   pub room : r.room ≡ job.machine.ring
   pub rate : r.rate ≡ s.rate
   pub at : s.travelled ≡ travelled_of ring r.rest
@@ -395,7 +395,7 @@ on_leg job l ls s r aimed place head h =
       runs = free.1;
       ring = h.queue;
       legs = legs;
-      change = h.change;
+      last = h.last;
       room = h.room;
       rate = h.rate;
       some = left.0;
@@ -451,7 +451,7 @@ ready job done ring drive dwelt position tool panel head o moves is_head motion 
   queue = refl;
   legs = o.legs;
   left = o.left;
-  change = o.change;
+  last = o.last;
   room = o.places;
   rate = refl;
   at = refl;

@@ -29,11 +29,11 @@ use Rattle.ngc_controller.proofs.LegLaws.{travelled_more}
 
 -- the invariant of the ramp
 pub record IsLeft (job : Job) (done : ℕ) (ring : List Queued) (ramp : RampState) : Type 0 where
-  pub change : ramp.change ≡ job.machine.change
+  pub last : ramp.last_change ≤ job.machine.change
   pub places : ramp.room ≡ job.machine.ring
   pub legs : (joined : Bool) × (ramp.legs ≡ legs_of job done joined ring)
   pub left : IsRest ramp.rest ramp.legs
-  pub slow : (IsMoving ring → ⊥) → ramp.rate ≤ job.machine.change
+  pub slow : (IsMoving ring → ⊥) → ramp.rate ≤ ramp.last_change
   pub whole : (IsMoving ring → ⊥) → ramp.rest ≡ next_rest 0 ramp.legs
 
 -- ---- the head leaves, and the next command is the head
@@ -68,7 +68,7 @@ left_order {A = A} job done ring ramp on panel next after new dwelt joints machi
     (record { ramp = ramp; target = new.target; joints = joints; continues_travel = on }) 0 panel =
     record {
       machine = machine;
-      change = o.change;
+      last = o.last;
       room = refl;
       places = o.places;
       legs = o.legs;
@@ -96,15 +96,15 @@ pub served_still : (ring : List Queued) (a : Action) → IsServed ring a → IsM
 served_still [] a served moves = moves
 served_still (l ∷ ls) a served moves = omega (arith, served.1, moves)
 
-remaining_after : (job : Job) (done : ℕ) (ring : List Queued) (ramp : RampState) (a : Action) → IsServed ring a → ramp.change ≡ job.machine.change →
+remaining_after : (job : Job) (done : ℕ) (ring : List Queued) (ramp : RampState) (a : Action) → IsServed ring a → ramp.last_change ≤ job.machine.change →
     ramp.room ≡ job.machine.ring →
     (joined : Bool) → ramp.legs ≡ legs_of job done joined ring → IsRest ramp.rest ramp.legs → ramp.rest ≡ next_rest 0 ramp.legs →
     IsLeft job (suc done) (drop 1 ring) (record ramp { rate = 0 }) × (travelled_of (drop 1 ring) ramp.rest ≡ 0)
-remaining_after job done [] ramp a served change places joined legs left whole = elim served [ ]
-remaining_after job done (l ∷ ls) ramp a served change places joined legs left whole =
+remaining_after job done [] ramp a served last places joined legs left whole = elim served [ ]
+remaining_after job done (l ∷ ls) ramp a served last places joined legs left whole =
     let b = behind_is job (suc done) l ls in
     let are : ramp.legs ≡ legs_of job (suc done) b.0 ls = legs ∙ still_legs job done joined l ls (omega (arith, served.1)) ∙ b.1 in (
-      record { change = change; places = places; legs = (b.0, are); left = left; slow = λ still. omega arith; whole = λ still. whole },
+      record { last = last; places = places; legs = (b.0, are); left = left; slow = λ still. omega arith; whole = λ still. whole },
       travelled_over job (suc done) b.0 ls (record ramp { rate = 0 }) 0 are whole (omega arith) (λ still. refl),
     )
 
@@ -113,7 +113,7 @@ pub rests_still : {A : Type 0} (job : Job) (done : ℕ) (ring : RingData) (drive
 rests_still job done ring drive new dwelt n panel o is brief =
     let here : IsInOrder job done ring (record drive { ramp = record drive.ramp { rate = 0 } }) n panel = record {
       machine = o.machine;
-      change = o.change;
+      last = o.last;
       room = o.room;
       places = o.places;
       legs = o.legs;
@@ -134,7 +134,7 @@ pub served_left : {A : Type 0} (job : Job) (done : ℕ) (ring : RingData) (drive
     IsInOrder job done ring drive dwelt panel → IsServed ring.loaded a →
     IsLeft job (suc done) (drop 1 ring.loaded) (record drive.ramp { rate = 0 }) × (travelled_of (drop 1 ring.loaded) drive.ramp.rest ≡ 0)
 served_left job done ring drive dwelt panel a o served =
-    remaining_after job done ring.loaded drive.ramp a served o.change o.places o.legs.0 o.legs.1 o.left (o.whole (served_still ring.loaded a served))
+    remaining_after job done ring.loaded drive.ramp a served o.last o.places o.legs.0 o.legs.1 o.left (o.whole (served_still ring.loaded a served))
 
 pub served_some : (ring : List Queued) (a : Action) → IsServed ring a → 1 ≤ length ring
 served_some [] a served = elim served [ ]
@@ -217,12 +217,12 @@ loaded_order job done ring drive dwelt panel q k after d n o is flows joint targ
     let far = travelled_more job done (done + length ring.loaded) o.legs.0 drive.continues_travel ring.loaded q drive.ramp d.ramp o.legs.1 is in
     let here : IsInOrder job done (record { loaded = all; place = ring.place; room = ring.room }) d dwelt panel = record {
       machine = o.machine;
-      change = has.change ∙ o.change;
+      last = omega (arith, has.last, o.last);
       room = o.room;
       places = has.places ∙ o.places;
       legs = (legs.0, ap (λ (x : RampState). x.legs) is ∙ legs.1);
       left = has.left o.left;
-      slow = λ still. (let slow = o.slow (still_before ring.loaded q still) in omega (arith, has.rate, slow));
+      slow = λ still. (let slow = o.slow (still_before ring.loaded q still) in omega (arith, has.rate, has.last, slow));
       whole = λ still. has.whole (o.whole (still_before ring.loaded q still));
       joints = (let afterwards : done + length ring.loaded + 1 ≡ done + length all = omega (arith, more) in
           joint ∙ ap (λ k. joints_before job.machine job.commands k) afterwards);

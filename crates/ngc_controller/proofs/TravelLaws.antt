@@ -81,7 +81,7 @@ pub record IsTravel (job : Job) (l : Queued) (ls : List Queued) (old : State) (r
   pub motion : IsMotion l.command.action
   pub moves : 1 ≤ path_steps l
   pub legs : r.legs ≡ leg_of job old.done joined l ∷ legs_after job (suc old.done) l ls
-  pub change : r.change ≡ job.machine.change
+  pub last : r.last_change ≤ job.machine.change
   pub rate : r.rate ≡ old.rate
   pub some : 1 ≤ r.rest
   pub within : r.rest ≤ millionths l
@@ -110,14 +110,14 @@ pub has_travelled : (job : Job) (l : Queued) (ls : List Queued) (old : State) (r
 has_travelled job l ls old r s joined wish v place due ended next p h =
     let left : r.rest ≡ millionths l - old.travelled = omega (arith, h.at, h.within) in
     let within : old.travelled ≤ millionths l = omega (arith, h.at) in
-    let may = may_travel job l ls old r joined wish v h.machine h.moves h.change h.rate left within h.aim h.tick.may in
+    let may = may_travel job l ls old r joined wish v h.machine h.moves h.last h.rate left h.some within h.aim h.tick.may in
     let small : v ≤ MILLION = omega (arith, may.rules.within.greatest, h.machine.max_rate.greatest) in
     let told = same_due (millionths l) r.rest old.travelled v due h.at h.tick.tells in
     let there : next ≡ place_after l old v = h.place_next ∙ place_is old.travelled v (millionths l) place due h.place_at within small told in
     let point_at : p ≡ point l.path (place_after l old v) = h.point_at ∙ ap (λ k. point l.path k) there in
     record {
       may = may;
-      least = travels_at_least job l ls old r joined wish v h.machine h.motion h.moves h.change h.rate left within h.aim h.tick.may;
+      least = travels_at_least job l ls old r joined wish v h.machine h.motion h.moves h.rate left within h.aim h.tick.may;
       small = small;
       place = there;
       point_at = point_at;

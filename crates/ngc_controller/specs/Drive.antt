@@ -2,7 +2,7 @@
 use Rattle.std.specs.Prelude.{◌≡◌, ℕ, suc, ◌≤◌, nat_lt, List, [], ◌∷◌, Bool, false, not, ◌&&◌}
 use Rattle.std.specs.Prelude.{if◌then◌else◌}
 use Rattle.ngc_machine_files.specs.Machine.{MachineFile}
-use Rattle.ngc_planner.specs.declared.leg.Leg.{Leg}
+use Rattle.ngc_braking.specs.declared.leg.Leg.{Leg}
 use Rattle.ngc_fixed_length.specs.LinePath.{point}
 use Rattle.ngc_planner.specs.ArcFeed.{target_on, is_by_place}
 use Rattle.ngc_planner.specs.Ramp.{RampState, loaded}

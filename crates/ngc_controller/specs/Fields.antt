@@ -51,12 +51,12 @@ DWELL_LIMIT = 2 ^ 100
 pub record IsInOrder {A : Type 0} (job : Job) (done : ℕ) (ring : RingData) (drive : Drive A)
     (dwelt : ℕ) (panel : Panel) : Type 0 where
   pub machine : IsMachine job.machine
-  pub change : drive.ramp.change ≡ job.machine.change
+  pub last : drive.ramp.last_change ≤ job.machine.change
   pub room : ring.room ≡ job.machine.ring
   pub places : drive.ramp.room ≡ job.machine.ring
   pub legs : (joined : Bool) × (drive.ramp.legs ≡ legs_of job done joined ring.loaded)
   pub left : IsRest drive.ramp.rest drive.ramp.legs
-  pub slow : (IsMoving ring.loaded → ⊥) → drive.ramp.rate ≤ job.machine.change
+  pub slow : (IsMoving ring.loaded → ⊥) → drive.ramp.rate ≤ drive.ramp.last_change
   pub whole : (IsMoving ring.loaded → ⊥) → drive.ramp.rest ≡ next_rest 0 drive.ramp.legs
   pub joints : drive.joints
       ≡ joints_before job.machine job.commands (done + length ring.loaded)

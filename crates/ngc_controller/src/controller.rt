@@ -96,7 +96,7 @@ impl<K: ArcKernel + Drop, A: Allocator + Copy> Controller<K, A> {
         let machine = accepted.machine();
         let position = machine.start.to_grid(machine.step);
         let ring = machine.ring as usize;
-        let progress = match Progress::new(alloc, u64::from(machine.change), ring) {
+        let progress = match Progress::new(alloc, ring) {
             Ok(progress) => progress,
             Err(_) => return Err((accepted, MemoryFault)),
         };

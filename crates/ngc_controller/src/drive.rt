@@ -3,16 +3,17 @@ ghost use Rattle.std.specs.Prelude.{◌≡◌, ◌≤◌, ◌<◌, ◌+◌, leng
 ghost use Rattle.ngc_machine_files.specs.Machine.{file_of};
 ghost use Rattle.ngc_planner.specs.Bounds.{bound_of};
 ghost use Rattle.ngc_planner.specs.Trail.{joints_before};
-ghost use Rattle.ngc_planner.specs.Leg.{IsLeg};
+ghost use Rattle.ngc_braking.specs.Leg.{IsLeg};
 ghost use Rattle.ngc_machine_model.specs.Headline.{job_of};
 ghost use Rattle.ngc_machine_model.specs.State.{path_steps, millionths};
 ghost use Rattle.ngc_machine_model.specs.Reach.{stops};
 ghost use Rattle.ngc_controller.specs.Drive.{continues_travel, with_one_more};
 
 use crate::route::Loaded;
+use ngc_braking::Leg;
 use ngc_commands::{Action, Command};
 use ngc_machine_files::Machine;
-use ngc_planner::{Joints, Leg, Ramp, bound_of};
+use ngc_planner::{Joints, Ramp, bound_of};
 use ngc_step_kernel::ArcKernel;
 use std::alloc::Allocator;
 
@@ -53,6 +54,7 @@ fn leg_between<K: ArcKernel + Drop, A: Allocator>(
     requires exit { 1 ≤ exit }
     ensures value { result ≡ record {
       millionths = millionths loaded.now.queued;
+      change = (file_of machine.now).change;
       bound = bound_of (file_of machine.now) loaded.now.queued.command.action
           (path_steps loaded.now.queued);
       entry = entry;
@@ -65,6 +67,7 @@ fn leg_between<K: ArcKernel + Drop, A: Allocator>(
     let steps = loaded.path_steps();
     Leg {
         millionths: steps * 1_000_000,
+        change: u64::from(machine.change),
         bound: bound_of(&command.action, steps, machine),
         entry,
         exit,
@@ -102,9 +105,10 @@ impl<A: Allocator> Drive<A> {
         self.continues_travel = moves && !stops(&loaded.command().action);
     }
 
-    /// Makes a tick without travel. The last rate must be at most the change.
+    /// Makes a tick without travel. The last rate must be at most the change of the motion on which
+    /// the last tick began.
     pub fn halt(&mut self)
-        requires { self.old.ramp.rate ≤ self.old.ramp.change }
+        requires { self.old.ramp.rate ≤ self.old.ramp.last_change }
         ensures { self.new ≡ record self.old { ramp = record self.old.ramp { rate = 0 } } }
     {
         self.ramp.rest();

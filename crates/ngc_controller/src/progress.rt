@@ -2,7 +2,6 @@
 ghost use Rattle.std.specs.Prelude.{◌≡◌, ◌≤◌, ◌<◌, ◌+◌, ◌^◌, ◌++◌, ◌∷◌, [], length, drop, true};
 ghost use Rattle.std.specs.Prelude.{IfOk};
 ghost use Rattle.ngc_machine_files.specs.Machine.{file_of};
-ghost use Rattle.ngc_fixed_length.specs.Limits.{MILLION};
 ghost use Rattle.ngc_machine_model.specs.Headline.{job_of};
 ghost use Rattle.ngc_planner.specs.Trail.{joints_before};
 ghost use Rattle.ngc_planner.specs.Ramp.{MOST_LEGS};
@@ -34,16 +33,13 @@ pub struct Progress<K: ArcKernel + Drop, A: Allocator> {
 
 impl<K: ArcKernel + Drop, A: Allocator + Copy> Progress<K, A> {
     /// Returns the progress with nothing loaded and nothing done. All memory is allocated here.
-    /// `change` is that of the ramp, 1 to 1,000,000, and `ring` is the greatest number of loaded
-    /// commands, 1 to 1,024.
-    pub fn new(alloc: A, change: u64, ring: usize) -> Result<Progress<K, A>, AllocError>
-        requires least { 1 ≤ change }
-        requires greatest { change ≤ MILLION }
+    /// `ring` is the greatest number of loaded commands, 1 to 1,024.
+    pub fn new(alloc: A, ring: usize) -> Result<Progress<K, A>, AllocError>
         requires some { 1 ≤ ring }
         requires few { ring ≤ MOST_LEGS }
-        ensures { IfOk result (IsOpening change ring) }
+        ensures { IfOk result (IsOpening ring) }
     {
-        let ramp = Ramp::with_ring(alloc, change, ring)?;
+        let ramp = Ramp::with_ring(alloc, ring)?;
         let joints = Joints::new(alloc, ring)?;
         let ring = Ring::new(alloc, ring)?;
         Ok(Progress {

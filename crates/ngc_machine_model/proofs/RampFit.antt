@@ -1,28 +1,32 @@
 -- A tick of a ramp whose legs are the ring's motions, as a tick of the machine.
-use Rattle.std.proofs.Common.{◌≡◌, ◌⊎◌, inl, inr, ℕ, suc, ◌+◌, ◌-◌, ◌<◌, ◌≤◌, ◌==◌, min, ap, ap₂, subst, sym, ◌∙◌, arith, refl, List, [], ◌∷◌, ◌++◌, length}
+use Rattle.std.proofs.Common.{◌≡◌, ◌⊎◌, inl, inr, ℕ, suc, ◌+◌, ◌-◌, ◌*◌, ◌<◌, ◌≤◌, ◌==◌, min, ap, subst, sym, ◌∙◌, arith, refl, List, [], ◌∷◌, ◌++◌, length}
 use Rattle.std.proofs.Common.{Bool, true, false, cond}
-use Rattle.std.specs.Prelude.{Option, Some, None, nat_lt, not, ◌&&◌}
+use Rattle.std.specs.Prelude.{nat_lt, not, ◌&&◌}
 use Rattle.std.proofs.lemmas.Bool.{lt-ltb, le-ltb, true≢false, false≢true}
 use Rattle.std.proofs.lemmas.Bool.Decides.{nat_tests}
 use Rattle.std.proofs.lemmas.List.{append-nil}
+use Rattle.std.specs.List.{All}
+use Rattle.std.proofs.lemmas.List.Elements.{All-nil, All-cons}
+use Rattle.std.proofs.Math.Nat.{le_of_mul-le-mul_left}
 use Rattle.ngc_fixed_length.specs.LinePath.{point}
-use Rattle.ngc_machine_files.specs.Machine.{MachineFile}
 use Rattle.ngc_machine_files.specs.MachineRanges.{IsMachine}
-use Rattle.ngc_commands.specs.declared.command.Command.{Command}
-use Rattle.ngc_planner.specs.declared.leg.Leg.{Leg}
+use Rattle.ngc_braking.specs.declared.leg.Leg.{Leg}
+use Rattle.ngc_braking.specs.Braking.{braking}
+use Rattle.ngc_braking.specs.Leg.{tick_bound}
+use Rattle.ngc_braking.specs.Work.{can_brake, work_ahead}
+use Rattle.ngc_braking.specs.OneChange.{HasChange, IsLong}
+use Rattle.ngc_braking.specs.Reach.{ahead, reach as ramp_reach, free as ramp_free}
+use Rattle.ngc_braking.proofs.OneChangeLaws.{brakes_where_free, same_work_ahead}
 use Rattle.ngc_planner.specs.ArcFeed.{target_on}
-use Rattle.ngc_planner.specs.Braking.{braking}
 use Rattle.ngc_fixed_length.specs.Limits.{MILLION}
 use Rattle.ngc_planner.specs.Bounds.{IsWithinBounds, IsMotion, bound_of, least_travel}
 use Rattle.ngc_planner.specs.Joints.{joint_before}
-use Rattle.ngc_planner.specs.Leg.{tick_bound}
-use Rattle.ngc_planner.specs.Reach.{ahead, reach as ramp_reach, free as ramp_free}
 use Rattle.ngc_planner.specs.Ramp.{RampState, MayTick, pace as ramp_pace, PassesInto as GoesOnLeg}
 use Rattle.ngc_planner.proofs.ArcFeedLaws.{no_less_by_place}
 use Rattle.ngc_planner.proofs.BoundLaws.{greatest_bound, may_travel_least}
 use Rattle.ngc_planner.proofs.RampLaws.{tick_bound_greatest}
 use Rattle.ngc_machine_model.specs.State.{Job, Queued, State, path_steps, millionths, place_before, effective}
-use Rattle.ngc_machine_model.specs.Reach.{stops, continues_into, leg_of, legs_after, rest, reach, free}
+use Rattle.ngc_machine_model.specs.Reach.{stops, continues_into, leg_of, legs_after, rest, free}
 use Rattle.ngc_machine_model.specs.RateRules.{PassesInto, MayTravel, target, head_bound, pace}
 use Rattle.ngc_machine_model.specs.Progress.{TravelsAtLeast}
 
@@ -109,36 +113,75 @@ entered bound entry r m v false test all h = absurd (grind (arith, nat_tests))
 same_pace : (r a w b s c x d : ℕ) → r ≡ s → a ≡ c → w ≡ x → b ≡ d → min (min (r + a) w) b ≡ min (min (s + c) x) d
 same_pace r a w b s c x d e f g h = cc
 
-paced : (p q v way other have there : ℕ) → p ≡ q → way ≡ other → have ≡ there → (other < there → q ≤ v) → way < have → p ≤ v
-paced p q v way other have there e f g h less = omega (arith, h (omega arith))
+-- ---- the ring's motions all have the machine's change, and at least one path step
+
+all_by : (P : Leg → Type 0) (b : Bool) (x : Leg) (xs : List Leg) → (b ≡ true → P x) → All P xs → All P (cond b (x ∷ xs) xs)
+all_by P true x xs first others = All-cons P x xs (first refl) others
+all_by P false x xs first others = others
+
+all_change : (job : Job) (k : ℕ) (l : Queued) (ls : List Queued) → All (HasChange job.machine.change) (legs_after job k l ls)
+all_change job k l [] = All-nil (HasChange job.machine.change)
+all_change job k l (m ∷ ms) = all_by (HasChange job.machine.change) (nat_lt 0 (path_steps m)) (leg_of job k (continues_into l m) m) (legs_after job (suc k) m ms)
+    (λ some. refl) (all_change job (suc k) m ms)
+
+long : (n : ℕ) → nat_lt 0 n ≡ true → MILLION ≤ n * MILLION
+long n h = let some : 0 < n = grind (arith, nat_tests) in omega (arith, some)
+
+all_long : (job : Job) (k : ℕ) (l : Queued) (ls : List Queued) → All IsLong (legs_after job k l ls)
+all_long job k l [] = All-nil IsLong
+all_long job k l (m ∷ ms) = all_by IsLong (nat_lt 0 (path_steps m)) (leg_of job k (continues_into l m) m) (legs_after job (suc k) m ms)
+    (λ some. long (path_steps m) some) (all_long job (suc k) m ms)
+
+-- the work to brake ends on the known path: so does the braking distance
+brakes_within : (a v d e : ℕ) (ls : List Leg) → 1 ≤ a → All (HasChange a) ls → a * braking v a ≤ a * d + work_ahead a e ls →
+    braking v a ≤ ramp_reach d ls
+brakes_within a v d e ls some all short =
+    let is = same_work_ahead a e ls all in
+    let sum : a * braking v a ≤ a * (d + ahead ls) = omega (arith, short, is) in
+    le_of_mul-le-mul_left {k = a} sum (omega (arith, some))
+
+-- a rate whose path is free can brake, so the ramp is at least as fast
+paced : (job : Job) (l : Queued) (ls : List Queued) (s : State) (d p q v : ℕ) (joined : Bool) → 1 ≤ job.machine.change → p ≡ q → p ≤ MILLION → 1 ≤ d →
+    (can_brake q d (leg_of job s.done joined l) (legs_after job (suc s.done) l ls) ≡ true → q ≤ v) →
+    braking p job.machine.change < ramp_free p d (leg_of job s.done joined l) (legs_after job (suc s.done) l ls) → p ≤ v
+paced job l ls s d p q v joined some same small left keeps short =
+    let leg = leg_of job s.done joined l in
+    let legs = legs_after job (suc s.done) l ls in
+    let can = brakes_where_free p job.machine.change d leg legs small some left refl (all_change job (suc s.done) l ls) (all_long job (suc s.done) l ls) short in
+    let fast = keeps (subst (λ n. can_brake n d leg legs ≡ true) same can) in
+    omega (arith, same, fast)
 
 -- a ramp with the ring's motions as its legs travels at rates that the machine allows
 pub may_travel : (job : Job) (l : Queued) (ls : List Queued) (s : State) (r : RampState) (joined : Bool) (wish v : ℕ) → IsMachine job.machine →
     1 ≤ path_steps l →
-    r.change ≡ job.machine.change → r.rate ≡ s.rate → r.rest ≡ rest l s → s.travelled ≤ millionths l → wish ≡ target job l s →
+    r.last_change ≤ job.machine.change → r.rate ≡ s.rate → r.rest ≡ rest l s → 1 ≤ r.rest → s.travelled ≤ millionths l → wish ≡ target job l s →
     MayTick r wish (leg_of job s.done joined l) (legs_after job (suc s.done) l ls) v → MayTravel job l ls s v
-may_travel job l ls s r joined wish v machine some change rate left within aim may =
+may_travel job l ls s r joined wish v machine some last rate left part within aim may =
     let leg = leg_of job s.done joined l in
     let legs = legs_after job (suc s.done) l ls in
     let bound : head_bound job l s ≡ tick_bound leg r.rest = same_bound job joined l s r.rest left within in
     let low = tick_bound_greatest leg r.rest in
     let same : pace job l s ≡ ramp_pace r wish leg =
-    same_pace s.rate job.machine.change (target job l s) (head_bound job l s) r.rate r.change wish (tick_bound leg r.rest)
-    (sym rate) (sym change) (sym aim) bound in
-    let clear : free job (pace job l s) l ls s ≡ ramp_free (ramp_pace r wish leg) r.rest leg legs = ap₂ (λ p n. ramp_free p n leg legs) same (sym left) in
+    same_pace s.rate job.machine.change (target job l s) (head_bound job l s) r.rate job.machine.change wish (tick_bound leg r.rest)
+    (sym rate) refl (sym aim) bound in
+    let most : bound_of job.machine l.command.action (path_steps l) ≤ MILLION = (
+    let own = (greatest_bound job.machine l.command.action (path_steps l) (bound_of job.machine l.command.action (path_steps l)) machine).0 (omega arith) in
+    omega (arith, own.greatest, machine.max_rate.greatest)) in
+    let small : pace job l s ≤ MILLION = omega (arith, bound, low, most) in
     record {
       rules = record {
-        faster = omega (arith, may.faster);
-        slower = omega (arith, may.slower);
+        faster = omega (arith, may.faster, rate);
+        slower = omega (arith, may.slower, rate, last);
         within = (greatest_bound job.machine l.command.action (path_steps l) v machine).0 (omega (arith, may.within, low));
-        enters = λ none. entered leg.bound leg.entry r.rest leg.millionths v (r.rest == leg.millionths) refl (omega arith) may.within;
-        leaves = λ ends. may.leaves (omega arith);
-        goes_on = λ over. goes_into job (suc s.done) v l ls machine (may.goes_on (omega arith));
+        enters = λ none. entered leg.bound leg.entry r.rest leg.millionths v (r.rest == leg.millionths) refl (omega (arith, none, left)) may.within;
+        leaves = λ ends. may.leaves (omega (arith, ends, left));
+        goes_on = λ over. goes_into job (suc s.done) v l ls machine (may.goes_on (omega (arith, over, left)));
       };
-      brakes = subst (λ a. braking v a ≤ reach job l ls s) change (subst (λ n. braking v r.change ≤ ramp_reach n legs) left may.brakes);
-      aims = omega (arith, may.aims);
-      keeps_pace = paced (pace job l s) (ramp_pace r wish leg) v (braking (pace job l s) job.machine.change) (braking (ramp_pace r wish leg) r.change)
-          (free job (pace job l s) l ls s) (ramp_free (ramp_pace r wish leg) r.rest leg legs) same (ap₂ braking same (sym change)) clear may.keeps_pace;
+      brakes = subst (λ n. braking v job.machine.change ≤ ramp_reach n legs) left
+          (brakes_within job.machine.change v r.rest leg.exit legs machine.change.least (all_change job (suc s.done) l ls) may.brakes);
+      aims = omega (arith, may.aims, rate, aim, last);
+      keeps_pace = λ short. paced job l ls s r.rest (pace job l s) (ramp_pace r wish leg) v joined machine.change.least same small part may.keeps_pace
+          (subst (λ n. braking (pace job l s) job.machine.change < ramp_free (pace job l s) n leg legs) (sym left) short);
     }
 
 -- ---- the least distance of a tick
@@ -148,9 +191,9 @@ no_greater a b c p q = omega arith
 
 -- while the machine is free it travels at least the least travel of a motion, whatever follows it
 pub travels_at_least : (job : Job) (l : Queued) (ls : List Queued) (s : State) (r : RampState) (joined : Bool) (wish v : ℕ) → IsMachine job.machine →
-    IsMotion l.command.action → 1 ≤ path_steps l → r.change ≡ job.machine.change → r.rate ≡ s.rate → r.rest ≡ rest l s → s.travelled ≤ millionths l →
+    IsMotion l.command.action → 1 ≤ path_steps l → r.rate ≡ s.rate → r.rest ≡ rest l s → s.travelled ≤ millionths l →
     wish ≡ target job l s → MayTick r wish (leg_of job s.done joined l) (legs_after job (suc s.done) l ls) v → TravelsAtLeast job (l ∷ ls) s v
-travels_at_least job l ls s r joined wish v machine moves steps change rate left within aim may = λ free some.
+travels_at_least job l ls s r joined wish v machine moves steps rate left within aim may = λ free some.
     let m = job.machine in
     let c = l.command in
     let n = path_steps l in

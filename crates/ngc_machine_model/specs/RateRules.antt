@@ -1,7 +1,7 @@
 -- The rules of rates, in millionths of a path step per tick. Our own.
 use Rattle.std.specs.Prelude.{◌≡◌, ℕ, suc, ◌+◌, ◌-◌, ◌≤◌, ◌<◌, min, max, ◌==◌, List, [], ◌∷◌, true}
 use Rattle.std.specs.Prelude.{if◌then◌else◌}
-use Rattle.ngc_planner.specs.Braking.{braking}
+use Rattle.ngc_braking.specs.Braking.{braking}
 use Rattle.ngc_fixed_length.specs.LinePath.{point}
 use Rattle.ngc_planner.specs.ArcFeed.{target_on}
 use Rattle.ngc_planner.specs.Bounds.{IsWithinBounds, bound_of}

@@ -4,10 +4,10 @@ use Rattle.std.specs.Prelude.{ℕ, suc, ◌-◌, nat_lt, List, [], ◌∷◌, Bo
 use Rattle.std.specs.Prelude.{not, ◌&&◌, if◌then◌else◌}
 use Rattle.ngc_commands.specs.declared.command.Action.{Action}
 use Rattle.ngc_commands.specs.declared.command.Action.TheVariants.{Move}
-use Rattle.ngc_planner.specs.declared.leg.Leg.{Leg}
+use Rattle.ngc_braking.specs.declared.leg.Leg.{Leg}
+use Rattle.ngc_braking.specs.Reach as legs
 use Rattle.ngc_planner.specs.Bounds.{bound_of}
 use Rattle.ngc_planner.specs.Joints.{joint_at, joint_before}
-use Rattle.ngc_planner.specs.Reach as legs
 use Rattle.ngc_machine_model.specs.State.{Job, Queued, State, path_steps, millionths}
 
 -- the axes stop at the end of a motion in exact stop mode (NISTIR 6556, 3.5.14)
@@ -25,6 +25,7 @@ continues_into l k =
 abbrev pub leg_of : Job → ℕ → Bool → Queued → Leg
 leg_of job k joined l = record {
   millionths = millionths l;
+  change = job.machine.change;
   bound = bound_of job.machine l.command.action (path_steps l);
   entry = joint_before job.machine job.commands k;
   exit = joint_at job.machine job.commands k;

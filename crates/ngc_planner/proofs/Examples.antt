@@ -1,5 +1,5 @@
--- Caps, bounds and braking on worked motions, by evaluating the definitions.
-use Rattle.std.proofs.Common.{◌≡◌, ℕ, ℤ, pos, negsuc, Bool, true, false, [], ◌∷◌, refl}
+-- Caps, bounds, joints and rates on worked motions, by evaluating the definitions.
+use Rattle.std.proofs.Common.{◌≡◌, ℕ, ℤ, pos, negsuc, true, false, [], ◌∷◌, refl}
 use Rattle.ngc_fixed_length.specs.Roots.{whole_root, whole_root_above}
 use Rattle.ngc_fixed_length.specs.declared.modes.Plane.TheVariants.{XY, ZX, YZ}
 use Rattle.ngc_fixed_length.specs.Places.{plus, zero_point}
@@ -18,13 +18,13 @@ use Rattle.ngc_commands.specs.declared.movement.Way.{Way}
 use Rattle.ngc_commands.specs.declared.movement.Way.TheVariants as ways
 use Rattle.ngc_fixed_length.specs.declared.points.StepPos.{StepPos}
 use Rattle.ngc_planner.specs.ArcFeed.{axis_distance, place_turn, target_on}
-use Rattle.ngc_planner.specs.Braking.{braking, braking_terms}
 use Rattle.ngc_planner.specs.Caps.{cap_of}
 use Rattle.ngc_planner.specs.Bounds.{turn_rate, diagonal_rate, bound_of, target_at, least_travel}
 use Rattle.ngc_planner.specs.Joints.{joint_of}
-use Rattle.ngc_planner.specs.Reach.{reach, free}
-use Rattle.ngc_planner.specs.Room.{can_brake}
-use Rattle.ngc_planner.specs.declared.leg.Leg.{Leg}
+use Rattle.ngc_planner.specs.Ramp.{on_legs, after_tick}
+use Rattle.ngc_planner.specs.Stretches.{chosen_rate, rise, fall}
+use Rattle.ngc_braking.specs.declared.leg.Leg.{Leg}
+use Rattle.ngc_braking.specs.Braking.{braking_terms}
 
 abbrev pub at : ℤ → ℤ → ℤ → Point3
 at x y z = record { x = x; y = y; z = z }
@@ -41,14 +41,6 @@ along a f = Move (record { way = ways.Arc a; pace = paces.Feed f; stop = false }
 -- about a point on the x axis, from zero
 abbrev arc : ℤ → Point3 → ArcShape
 arc centre end = record { plane = XY; turn = Clockwise; start = at (pos 0) (pos 0) (pos 0); end = end; centre = record { u = centre; v = pos 0 } }
-
-braking_low : braking 2500 1000 ≡ 4500
-unfolding braking_terms
-braking_low = refl
-
-braking_high : braking 400000 1000 ≡ 80200000
-unfolding braking_terms
-braking_high = refl
 
 -- 60 mm per minute over 10 mm
 cap_long : cap_of (feed (at (pos 10000000) (pos 0) (pos 0)) (PerMinute 60000000)) 1000 built_in_machine ≡ 10000
@@ -111,38 +103,6 @@ joint_back = refl
 joint_straight : joint_of built_in_machine (traverse (at (pos 0) (pos 0) (pos 0)) (at (pos 1000000) (pos 0) (pos 0)))
     (traverse (at (pos 1000000) (pos 0) (pos 0)) (at (pos 3000000) (pos 0) (pos 0))) ≡ 1000000
 joint_straight = refl
-
--- a leg of this length, with a bound, and with this joint at both of its ends
-abbrev leg : ℕ → ℕ → ℕ → Bool → Leg
-leg millionths bound joint joined = record { millionths = millionths; bound = bound; entry = joint; exit = joint; joined = joined }
-
--- a corner limits the rates above it, a slow leg those above its bound, and a stop ends the known
--- path
-reach_on : reach 7 (leg 2000000 400000 50000 true ∷ leg 3000000 20000 1000000 true ∷ leg 5000000 400000 1000000 false ∷ []) ≡ 5000007
-reach_on = refl
-
-free_at_corner : free 50000 7 (leg 1000000 400000 50000 false) (leg 2000000 400000 50000 true ∷ leg 3000000 20000 1000000 true ∷ []) ≡ 2000007
-free_at_corner = refl
-
-free_above_corner : free 50001 7 (leg 1000000 400000 50000 false) (leg 2000000 400000 50000 true ∷ leg 3000000 20000 1000000 true ∷ []) ≡ 7
-free_above_corner = refl
-
-free_slow : free 20000 7 (leg 1000000 400000 50000 false) (leg 2000000 400000 50000 true ∷ leg 3000000 20000 1000000 true ∷ []) ≡ 5000007
-free_slow = refl
-
--- from 60,000 to 50,000 within the leg, but not to 0
-room_at_corner : can_brake 60000 1000 610000 (leg 1000000 400000 50000 false) (leg 2000000 400000 50000 true ∷ []) ≡ true
-unfolding braking_terms
-room_at_corner = refl
-
-no_room_at_corner : can_brake 60000 1000 600000 (leg 1000000 400000 50000 false) (leg 2000000 400000 50000 true ∷ []) ≡ false
-unfolding braking_terms
-no_room_at_corner = refl
-
--- the known path ends after 1.6 path steps
-no_room_to_stop : can_brake 60000 1000 610000 (leg 1000000 400000 50000 false) (leg 1000000 400000 50000 true ∷ []) ≡ false
-unfolding braking_terms
-no_room_to_stop = refl
 
 -- ---- joints by headings
 
@@ -424,3 +384,56 @@ turn_of_its_diagonal = refl
 
 least_turn : diagonal_rate 1 ≡ 1
 least_turn = refl
+
+-- ---- rates on a ramp
+
+-- a leg of this change and length
+abbrev leg : ℕ → ℕ → Leg
+leg change millionths = record { millionths = millionths; change = change; bound = 1000000; entry = 1000000; exit = 1000000; joined = true }
+
+-- the rate that follows 7 with the wish 10, if the last tick began on a leg with the change `last`,
+-- and this much remains of the head, after which nothing is known
+abbrev chosen : ℕ → ℕ → ℕ → ℕ
+chosen last change rest = chosen_rate (on_legs last 7 rest (leg change 1000000) [] 16) 10 (leg change 1000000) []
+
+-- with one change: 10 + 7 + 4 + 1 is less than 23, but not than 22
+up : chosen 3 3 23 ≡ 10
+unfolding braking_terms
+up = refl
+
+down : chosen 3 3 22 ≡ 4
+unfolding braking_terms
+down = refl
+
+-- after a leg with a greater change: 8 + 7 + .. + 1 is less than 37. The rate rises by the change of
+-- the head, and falls by the greater one.
+up_by_less : chosen 3 1 37 ≡ 8
+unfolding braking_terms
+up_by_less = refl
+
+down_by_more : chosen 3 1 36 ≡ 4
+unfolding braking_terms
+down_by_more = refl
+
+-- after a leg with a lesser change: both are by the change of the head
+up_by_more : chosen 1 3 23 ≡ 10
+unfolding braking_terms
+up_by_more = refl
+
+down_by_the_head : chosen 1 3 22 ≡ 4
+unfolding braking_terms
+down_by_the_head = refl
+
+-- the change of a tick is that of the leg on which it begins, also if it ends on the next one
+stays : after_tick (on_legs 3 7 9 (leg 1 20) (leg 5 30 ∷ []) 16) (leg 1 20) (leg 5 30 ∷ []) 8 ≡ on_legs 1 8 1 (leg 1 20) (leg 5 30 ∷ []) 16
+stays = refl
+
+passes_over : after_tick (on_legs 3 7 5 (leg 1 20) (leg 5 30 ∷ []) 16) (leg 1 20) (leg 5 30 ∷ []) 8 ≡ on_legs 1 8 27 (leg 5 30) [] 16
+passes_over = refl
+
+-- three ticks after one at 7: 9 + 11 + 13, and 5 + 3 + 1
+three_up : rise 3 7 2 ≡ 33
+three_up = refl
+
+three_down : fall 3 7 2 ≡ 9
+three_down = refl

@@ -2,15 +2,13 @@
 pub mod ArcFeedLaws
 -- The greatest rate of a motion, and its least travel.
 pub mod BoundLaws
--- The braking distance: a sum with a closed form.
-pub mod BrakingLaws
 -- Rounding a cap down.
 pub mod CapLaws
 -- Ticks without reports.
 pub mod CoastLaws
 -- A coordinate of a displacement fits in 64 bits.
 pub mod CoordinateLaws
--- Caps, bounds and braking on worked motions, by evaluating the definitions.
+-- Caps, bounds, joints and rates on worked motions, by evaluating the definitions.
 pub mod Examples
 -- The size of the coordinates of headings, and their distance from the vector's.
 pub mod HeadingLaws
@@ -29,18 +27,12 @@ pub mod TrailLaws
 pub mod SmoothLaws
 -- Joints over a window, by evaluating the definitions.
 pub mod WindowExamples
--- The summary of the motions ahead: from load to load, and as motions leave.
-pub mod OutlookLaws
 -- Points with equal coordinates are equal.
 pub mod Points
 -- The motions of a queue after one has left.
 pub mod QueueLaws
 -- A tick of a ramp: its rate is allowed, and the invariant holds after it.
 pub mod RampLaws
--- How far the path is free.
-pub mod ReachLaws
--- Distance to brake: for a rate that is free, for more legs, and after a tick.
-pub mod RoomLaws
 -- Ticks that are computed at once: a ramp that speeds up, goes on or slows down.
 pub mod StretchLaws
 -- The meaning of a ramp's fields after a load and after a tick.

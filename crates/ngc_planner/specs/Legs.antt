@@ -5,5 +5,5 @@ use Rattle.ngc_planner.specs.Queue.{Waiting}
 use Rattle.ngc_planner.specs.Ramp.{LEGS}
 
 abbrev pub waiting_in : {A : Type 0} → Store A → Waiting
-waiting_in (Few change legs) = record { legs = legs.items; room = LEGS; change = change }
+waiting_in (Few legs) = record { legs = legs.items; room = LEGS }
 waiting_in (Many queue) = queue

@@ -1,5 +1,4 @@
 pub mod Axes
-pub mod Braking
 pub mod Caps
 pub mod Bounds
 pub mod Headings
@@ -9,12 +8,8 @@ pub mod Window
 pub mod Trail
 pub mod Smooth
 pub mod Pulses
-pub mod Leg
-pub mod Reach
-pub mod Room
 pub mod Ramp
 pub mod Stretches
-pub mod Outlook
 pub mod Queue
 pub mod Legs
 pub mod Inside

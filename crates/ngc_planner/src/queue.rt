@@ -1,15 +1,12 @@
 //! Motions in memory that is allocated once.
 ghost use Rattle.std.specs.Prelude.{◌≡◌, ◌≢◌, ◌-◌, ◌*◌, ◌≤◌, ◌<◌, ◌++◌, ◌∷◌, [], length, drop};
 ghost use Rattle.std.specs.Prelude.{vec_len, vec_capacity, IfOk};
-ghost use Rattle.std.specs.List.{All};
-ghost use Rattle.ngc_fixed_length.specs.Limits.{MILLION};
-ghost use Rattle.ngc_planner.specs.Leg.{IsLeg};
+ghost use Rattle.ngc_braking.specs.Leg.{IsLeg};
 ghost use Rattle.ngc_planner.specs.Queue.{Waiting};
 ghost use Rattle.ngc_planner.specs.Ramp.{MOST_LEGS};
-ghost use Rattle.ngc_planner.specs.Room.{legs_beyond};
+ghost use Rattle.ngc_braking.specs.Work.{legs_beyond};
 
-use crate::leg::Leg;
-use crate::outlook::Outlook;
+use ngc_braking::{Leg, Outlook};
 use std::alloc::{AllocError, Allocator};
 use std::marker::Model;
 
@@ -18,7 +15,6 @@ use std::marker::Model;
 /// of waiting motions.
 #[derive(Drop)]
 pub struct Queue<A: Allocator> {
-    change: u64,
     first: usize,
     room: usize,
     slots: Vec<Leg, A>,
@@ -34,10 +30,9 @@ impl<A: Allocator> Model for Queue<A> {
     ghost view = { λ q. record {
       legs = drop q.first q.slots.items;
       room = q.room;
-      change = q.change;
     } };
 
-    ghost invariant = { λ q. IsQueue q.change q.first q.room q.slots.items
+    ghost invariant = { λ q. IsQueue q.first q.room q.slots.items
         (vec_capacity q.slots) q.outlook };
 }
 
@@ -62,19 +57,15 @@ fn move_to_front<A: Allocator>(slots: &mut Vec<Leg, A>, first: usize)
 }
 
 impl<A: Allocator + Copy> Queue<A> {
-    /// Returns an empty queue with all its memory, for `room` motions, 1 to 1,024, on a ramp with
-    /// this change, 1 to 1,000,000.
-    pub fn new(alloc: A, change: u64, room: usize) -> Result<Queue<A>, AllocError>
-        requires least { 1 ≤ change }
-        requires greatest { change ≤ MILLION }
+    /// Returns an empty queue with all its memory, for `room` motions, 1 to 1,024.
+    pub fn new(alloc: A, room: usize) -> Result<Queue<A>, AllocError>
         requires some { 1 ≤ room }
         requires few { room ≤ MOST_LEGS }
-        ensures { IfOk result (λ (q : Waiting). q ≡ record { legs = []; room = room; change = change }) }
+        ensures { IfOk result (λ (q : Waiting). q ≡ record { legs = []; room = room }) }
     {
         let slots = Vec::with_capacity(alloc, 2 * room)?;
         let outlook = Outlook::new(alloc, room)?;
         Ok(Queue {
-            change,
             first: 0,
             room,
             slots,
@@ -97,8 +88,7 @@ impl<A: Allocator> Queue<A> {
         requires leg { IsLeg leg }
         ensures { self.new ≡ record self.old { legs = self.old.legs ++ leg ∷ [] } }
     {
-        self.outlook
-            .add(self.change, waiting(&self.slots, self.first), &leg);
+        self.outlook.add(waiting(&self.slots, self.first), &leg);
         if self.slots.len() >= 2 * self.room {
             move_to_front(&mut self.slots, self.first);
             self.first = 0;
@@ -112,13 +102,13 @@ impl<A: Allocator> Queue<A> {
         ensures { self.new ≡ record self.old { legs = drop 1 self.old.legs } }
     {
         self.first += 1;
-        self.outlook
-            .leave(self.change, waiting(&self.slots, self.first));
+        self.outlook.leave(waiting(&self.slots, self.first));
     }
 
-    /// Returns how far beyond the second motion the braking distance may end.
+    /// Returns how much more work than that up to the end of the second motion may be needed, in 64
+    /// bits.
     pub fn beyond(&self) -> u64
-        ensures { result ≡ legs_beyond self.now.change self.now.legs }
+        ensures { result ≡ legs_beyond self.now.legs }
     {
         self.outlook.beyond()
     }

@@ -1,10 +1,10 @@
 //! How many ticks may speed up by the change, go on at one rate, or slow down by the change.
 ghost use Rattle.std.specs.Prelude.{◌≡◌, ◌+◌, ◌-◌, ◌*◌, ◌≤◌, ◌<◌, nat_lt, ◌&&◌, true};
-ghost use Rattle.ngc_planner.specs.Braking.{braking};
+ghost use Rattle.ngc_braking.specs.Braking.{braking};
 ghost use Rattle.ngc_fixed_length.specs.Limits.{MILLION};
 ghost use Rattle.ngc_planner.specs.Stretches.{rise, fall, may_rise, MayFallTo};
 
-use crate::slowing::{brakes_within, braking};
+use ngc_braking::{brakes_within, braking};
 
 /// Returns the distance of `ticks` ticks after one at `rate`, each by `change` faster than the one
 /// before.
@@ -78,9 +78,8 @@ pub(crate) fn lasting_ticks(rate: u64, change: u64, rest: u64) -> u64
 /// before.
 #[tactic(auto, using(crate::proofs::StretchLaws::fall_small))]
 pub(crate) fn fall(ticks: u64, rate: u64, change: u64) -> u64
+    requires ticks { ticks ≤ MILLION }
     requires rate { rate ≤ MILLION }
-    requires change_least { 1 ≤ change }
-    requires change_greatest { change ≤ MILLION }
     requires least { ticks * change ≤ rate }
     ensures { result ≡ fall ticks rate change }
 {
@@ -88,7 +87,7 @@ pub(crate) fn fall(ticks: u64, rate: u64, change: u64) -> u64
 }
 
 /// Returns how many ticks may slow down for what is ahead, at most `most`. The braking distance may
-/// end `beyond` after `rest`.
+/// end up to `beyond` after `rest`.
 #[tactic(auto, using(crate::proofs::StretchLaws::braking_small))]
 pub(crate) fn falling_ticks(most: u64, rate: u64, change: u64, rest: u64, beyond: u64) -> u64
     requires rate_least { 1 ≤ rate }
@@ -97,6 +96,7 @@ pub(crate) fn falling_ticks(most: u64, rate: u64, change: u64, rest: u64, beyond
     requires change_greatest { change ≤ MILLION }
     ensures few { result ≤ most }
     ensures may { 0 < result → MayFallTo change rate rest beyond result }
+    ensures small { result ≤ MILLION }
 {
     let needed = braking(rate + change, change) + 2 * change;
     let fast = (rate / change).saturating_sub(1);

@@ -1,5 +1,5 @@
 use Rattle.std.proofs.Common.{◌≡◌, ◌-◌, ◌+◌, ◌*◌, ◌/◌, min, ap, arith}
-use Rattle.ngc_planner.specs.Braking.{braking}
+use Rattle.ngc_braking.specs.Braking.{braking}
 use Rattle.ngc_planner.proofs.StretchLaws.{braking_small, may_fall_to}
 use Rattle.ngc_planner.proofs.rising.falling_ticks.Goals as goal
 

@@ -21,7 +21,7 @@ halt-requires g c =
     let o = c.self.invariant in
     let served : IsServed p.ring.loaded c.args.action = subst (λ (x : ControllerData). IsServed x.state.ring c.args.action)
     (sym c.self.view_is) c.requires.head in
-    omega (arith, o.change, o.slow (served_still p.ring.loaded c.args.action served))
+    o.slow (served_still p.ring.loaded c.args.action served)
 
 pub invariant_of-self : goal.invariant_of-self
 invariant_of-self g c =
@@ -74,7 +74,7 @@ returns-clause-serves g c =
     let over : nat_lt (suc p.dwelt) (ticks_of job c.args.action) ≡ false = sym ticks ∙ c.if-dwells_on.false in
     let ends : Finishes job c.args.action old (Ok (Ticked None (Some c.ending_of.result)))
     (state_of n.done n.ring n.drive n.dwelt i.position c.tool_after-self-inside.result panel) = record {
-      slow = o.slow (served_still p.ring.loaded c.args.action served);
+      slow = omega (arith, o.last, o.slow (served_still p.ring.loaded c.args.action served));
       says = ap (λ e. Ok (Ticked None (Some e))) (c.ending_of.ensures old refl refl);
       goes_on = finished c.args.action old i.tool c.tool_after-self-inside.result i.panel panel n.done n.ring.loaded n.drive.ramp.rate
           (travelled_of n.ring.loaded n.drive.ramp.rest) n.dwelt (omega (arith, c.leave.ensures.done)) queue
@@ -97,7 +97,7 @@ returns-then-dwells_on-clause-serves g c =
     let one : p.dwelt + 1 ≡ suc p.dwelt = omega arith in
     let more : nat_lt (suc p.dwelt) (ticks_of job c.args.action) ≡ true = sym ticks ∙ c.if-dwells_on.true in
     let dwells : Dwells job old (Ok (Ticked None None)) (state_of p.done p.ring c.halt.new.self (p.dwelt + 1) i.position i.tool i.panel) = record {
-      slow = o.slow (served_still p.ring.loaded c.args.action served);
+      slow = omega (arith, o.last, o.slow (served_still p.ring.loaded c.args.action served));
       quiet = refl;
       counts = ap (λ (d : Drive _). state_of p.done p.ring d (p.dwelt + 1) i.position i.tool i.panel) {y = halted} c.halt.ensures
           ∙ ap (λ (n : ℕ). state_of p.done p.ring halted n i.position i.tool i.panel) one;

@@ -1,9 +1,9 @@
 use Rattle.std.proofs.Common.{◌∷◌, [], ◌≢◌, sym, ap, drop, List, ◌∙◌, length, subst, arith, length-drop, reverse}
 use Rattle.std.specs.List.{All}
 use Rattle.std.proofs.lemmas.List.{drop-drop}
-use Rattle.ngc_planner.specs.declared.leg.Leg.{Leg}
-use Rattle.ngc_planner.specs.Leg.{IsLeg}
-use Rattle.ngc_planner.specs.Outlook.{IsOutlook}
+use Rattle.ngc_braking.specs.declared.leg.Leg.{Leg}
+use Rattle.ngc_braking.specs.Leg.{IsLeg}
+use Rattle.ngc_braking.specs.Outlook.{IsOutlook}
 use Rattle.ngc_planner.specs.Queue.{Waiting}
 use Rattle.ngc_planner.proofs.QueueLaws.{head_of, rest_each}
 use Rattle.ngc_planner.proofs.queue.Queue.leave.Goals as goal
@@ -11,8 +11,8 @@ use Rattle.ngc_planner.proofs.queue.Queue.leave.Goals as goal
 pub returns : goal.returns
 returns g c =
     let i = c.self.inside in
-    ap (λ (ls : List Leg). record { legs = ls; room = i.room; change = i.change }) (sym (drop-drop 1 i.first i.slots.items))
-    ∙ ap (λ (w : Waiting). record { legs = drop 1 w.legs; room = w.room; change = w.change }) c.self.view_is
+    ap (λ (ls : List Leg). record { legs = ls; room = i.room }) (sym (drop-drop 1 i.first i.slots.items))
+    ∙ ap (λ (w : Waiting). record { legs = drop 1 w.legs; room = w.room }) c.self.view_is
 
 pub leave-requires-clause-each : goal.leave-requires-clause-each
 leave-requires-clause-each g c =
@@ -25,8 +25,8 @@ leave-requires-clause-was g c =
     let some : drop i.first i.slots.items ≢ [] = λ none. c.requires (ap (λ (w : Waiting). w.legs) (sym c.self.view_is) ∙ none) in
     let h = head_of i.first i.slots.items some in (
       h.0,
-      subst (λ ls. IsOutlook i.change (h.0 ∷ ls) i.outlook.near (reverse i.outlook.later.items) i.outlook.far) (sym c.waiting.ensures)
-          (subst (λ ls. IsOutlook i.change ls i.outlook.near (reverse i.outlook.later.items) i.outlook.far) h.1 c.self.invariant.seen),
+      subst (λ ls. IsOutlook (h.0 ∷ ls) i.outlook.near (reverse i.outlook.later.items) i.outlook.far) (sym c.waiting.ensures)
+          (subst (λ ls. IsOutlook ls i.outlook.near (reverse i.outlook.later.items) i.outlook.far) h.1 c.self.invariant.seen),
     )
 
 pub invariant_of-self : goal.invariant_of-self
@@ -39,12 +39,10 @@ invariant_of-self g c =
     let long = length-drop i.first i.slots.items in
     let one = ap length h.1 in
     record {
-      change_least = inv.change_least;
-      change_greatest = inv.change_greatest;
       within = omega (arith, long, one, inv.within);
       few = omega (arith, inv.few);
       each = rest_each i.first i.slots.items inv.each;
       memory = inv.memory;
       ahead = omega (arith, inv.ahead, c.leave.ensures.capacity);
-      seen = subst (λ ks. IsOutlook i.change ks c.leave.new.self.near (reverse c.leave.new.self.later.items) c.leave.new.self.far) ls c.leave.ensures.is;
+      seen = subst (λ ks. IsOutlook ks c.leave.new.self.near (reverse c.leave.new.self.later.items) c.leave.new.self.far) ls c.leave.ensures.is;
     }

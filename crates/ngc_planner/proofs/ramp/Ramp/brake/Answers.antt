@@ -19,13 +19,12 @@ invariant_of-self g c =
     let kept = (falls (state_of i) c.args.wish n c.self.invariant.ramp may).1 in
     record {
       ramp = subst (λ way. IsRamp (record {
-        change = i.change;
-        rate = i.rate - n * i.change;
+        last_change = i.last_change;
+        rate = i.rate - n * i.last_change;
         rest = i.left - way;
         legs = i.legs.legs;
         room = i.legs.room;
       })) (sym c.fall.ensures) kept;
-      change = c.self.invariant.change;
       beyond = c.self.invariant.beyond;
     }
 
@@ -37,8 +36,8 @@ returns-clause-ticks g c =
     let ticks = (falls (state_of i) c.args.wish n c.self.invariant.ramp may).0 in
     rw (← c.self.view_is)
     (subst (λ way. Ticks n (state_of i) c.args.wish (record {
-      change = i.change;
-      rate = i.rate - n * i.change;
+      last_change = i.last_change;
+      rate = i.rate - n * i.last_change;
       rest = i.left - way;
       legs = i.legs.legs;
       room = i.legs.room;

@@ -1,5 +1,5 @@
 use Rattle.std.proofs.Common.{◌<◌, ◌-◌, ◌+◌, ◌*◌, sym, subst}
-use Rattle.ngc_planner.specs.Braking.{braking}
+use Rattle.ngc_braking.specs.Braking.{braking}
 use Rattle.ngc_planner.specs.Inside.{state_of}
 use Rattle.ngc_planner.specs.Ramp.{RampState}
 use Rattle.ngc_planner.specs.Stretches.{MayGoOnOn}
@@ -12,11 +12,10 @@ invariant_of-self g c =
     let n = c.lasting_ticks-lasting.result in
     let may = subst (λ (r : RampState). MayGoOnOn r.legs r c.args.wish n) (sym c.self.view_is) c.lasting_ticks-lasting.ensures.may in
     let leaves =
-    subst (λ (r : RampState). 0 < n → n * r.rate + braking (r.rate - r.change) r.change < r.rest) (sym c.self.view_is)
+    subst (λ (r : RampState). 0 < n → n * r.rate + braking (r.rate - r.last_change) r.last_change < r.rest) (sym c.self.view_is)
     c.lasting_ticks-lasting.ensures.leaves in
     record {
       ramp = gone_on_ramp (state_of i) c.args.wish n c.self.invariant.ramp may leaves;
-      change = c.self.invariant.change;
       beyond = c.self.invariant.beyond;
     }
 

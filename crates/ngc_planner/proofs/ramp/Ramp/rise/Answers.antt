@@ -11,17 +11,16 @@ invariant_of-self g c =
     let n = c.rising_ticks-ticks.result in
     let may = subst (λ (r : RampState). MayRiseOn r.legs r c.args.wish n) (sym c.self.view_is) c.rising_ticks-ticks.ensures.may in
     let leaves =
-    subst (λ (r : RampState). 0 < n → may_rise n r.rate r.change r.rest ≡ true) (sym c.self.view_is) c.rising_ticks-ticks.ensures.leaves in
+    subst (λ (r : RampState). 0 < n → may_rise n r.rate r.last_change r.rest ≡ true) (sym c.self.view_is) c.rising_ticks-ticks.ensures.leaves in
     let kept = risen_ramp (state_of i) c.args.wish n c.self.invariant.ramp may leaves in
     record {
       ramp = subst (λ way. IsRamp (record {
-        change = i.change;
-        rate = i.rate + n * i.change;
+        last_change = i.last_change;
+        rate = i.rate + n * i.last_change;
         rest = i.left - way;
         legs = i.legs.legs;
         room = i.legs.room;
       })) (sym c.rise.ensures) kept;
-      change = c.self.invariant.change;
       beyond = c.self.invariant.beyond;
     }
 
@@ -33,8 +32,8 @@ returns-clause-ticks g c =
     let ticks = rises (state_of i) c.args.wish n c.self.invariant.ramp may in
     rw (← c.self.view_is)
     (subst (λ way. Ticks n (state_of i) c.args.wish (record {
-      change = i.change;
-      rate = i.rate + n * i.change;
+      last_change = i.last_change;
+      rate = i.rate + n * i.last_change;
       rest = i.left - way;
       legs = i.legs.legs;
       room = i.legs.room;
