@@ -1,12 +1,15 @@
 -- The last operator of a text, and the sum that it ends.
-use Rattle.std.proofs.Common.{ℕ, zero, suc, ◌≡◌, ◌≢◌, ◌∙◌, sym, ◌+◌, ◌<◌, Bool, true, false, List, [], ◌∷◌, length, drop, take, arith, absurd, refl}
-use Rattle.std.proofs.lemmas.List.{at_drop_more, at_drop_all}
-use Rattle.std.specs.Prelude.{◌==◌, if◌then◌else◌, nat_lt, Option, Some, Result, Ok, Err, slice_index}
+use Rattle.std.proofs.Common.{ℕ, zero, suc, ◌≡◌, ◌≢◌, ◌∙◌, sym, ◌+◌, ◌<◌, Bool, true, false, List, [], ◌∷◌, length, drop, take, arith, ap, refl}
+use Rattle.std.proofs.lemmas.Bool.{lt-ltb, ne_eqb}
+use Rattle.std.proofs.lemmas.List.{at_drop_more, at_drop_all, take_rest}
+use Rattle.std.proofs.lemmas.Result.{err_from_is_err_and}
+use Rattle.std.specs.Prelude.{◌==◌, ◌-◌, if◌then◌else◌, nat_lt, Option, Result, Ok, Err}
+use Rattle.std.specs.Result.{IsErrAnd}
 use Rattle.ngc_quantities.specs.declared.fault.Fault.{Fault}
 use Rattle.ngc_quantities.specs.declared.unit.Unit.{Unit}
 use Rattle.ngc_quantities.specs.declared.written.Whole.{Whole}
 use Rattle.ngc_quantities.specs.Numbers.{and_then}
-use Rattle.ngc_quantities.specs.Sums.{begins_operator, last_operator, sum_by, term_in, later_term, joined}
+use Rattle.ngc_quantities.specs.Sums.{begins_operator, last_operator, sum_by, term_in, later_term, joined, is_minus_at}
 
 -- ---- the last operator
 
@@ -19,8 +22,7 @@ pub none_at_end : (text : List ℕ) (i : ℕ) → i ≡ length text → last_ope
 none_at_end text i h = at_drop_all last_operator text i (omega arith) ∙ none_in_nothing
 
 later_one : (n m : ℕ) → 0 < n → (if nat_lt 0 n then suc n else m) ≡ suc n
-later_one zero m h = absurd (omega arith)
-later_one (suc n) m h = refl
+later_one n m h = ap (λ (b : Bool). if b then suc n else m) (lt-ltb 0 n h)
 
 none_later : (n : ℕ) (begins : Bool) → n ≡ 0 → begins ≡ false → (if nat_lt 0 n then suc n else (if begins then 1 else 0)) ≡ 0
 none_later n begins h k = rw (h, k) refl
@@ -41,15 +43,17 @@ unfolding last_operator
 here_of b rest h k = here (last_operator rest) (begins_operator (b ∷ rest)) h k
 
 -- one byte earlier
-pub none_from : (text : List ℕ) (i : ℕ) → i < length text → last_operator (drop (i + 1) text) ≡ 0 → begins_operator (drop i text) ≡ false → last_operator (drop i text) ≡ 0
-none_from text i h none begins =
+pub none_from : (text : List ℕ) (i j : ℕ) → i < length text → j ≡ i + 1 → last_operator (drop j text) ≡ 0 → begins_operator (drop i text) ≡ false → last_operator (drop i text) ≡ 0
+none_from text i j h e none begins =
+    let next : last_operator (drop (i + 1) text) ≡ 0 = ap (λ (k : ℕ). last_operator (drop k text)) (sym e) ∙ none in
     at_drop_more last_operator text i 0 h
-    ∙ none_of _ _ none (sym (at_drop_more begins_operator text i 0 h) ∙ begins)
+    ∙ none_of _ _ next (sym (at_drop_more begins_operator text i 0 h) ∙ begins)
 
-here_from : (text : List ℕ) (i : ℕ) → i < length text → last_operator (drop (i + 1) text) ≡ 0 → begins_operator (drop i text) ≡ true → last_operator (drop i text) ≡ 1
-here_from text i h none begins =
+here_from : (text : List ℕ) (i j : ℕ) → i < length text → j ≡ i + 1 → last_operator (drop j text) ≡ 0 → begins_operator (drop i text) ≡ true → last_operator (drop i text) ≡ 1
+here_from text i j h e none begins =
+    let next : last_operator (drop (i + 1) text) ≡ 0 = ap (λ (k : ℕ). last_operator (drop k text)) (sym e) ∙ none in
     at_drop_more last_operator text i 0 h
-    ∙ here_of _ _ none (sym (at_drop_more begins_operator text i 0 h) ∙ begins)
+    ∙ here_of _ _ next (sym (at_drop_more begins_operator text i 0 h) ∙ begins)
 
 -- the last operator of the end of a text is that of the text
 of_end : (n : ℕ) (text : List ℕ) → 0 < last_operator (drop n text) → last_operator text ≡ n + last_operator (drop n text)
@@ -63,9 +67,9 @@ of_end (suc n) (b ∷ rest) h =
     let goal : last_operator (b ∷ rest) ≡ suc n + last_operator (drop n rest) = omega arith in
     goal
 
-pub found_at : (text : List ℕ) (i : ℕ) → i < length text → last_operator (drop (i + 1) text) ≡ 0 → begins_operator (drop i text) ≡ true → last_operator text ≡ i + 1
-found_at text i h none begins =
-    let one : last_operator (drop i text) ≡ 1 = here_from text i h none begins in
+pub found_at : (text : List ℕ) (i j : ℕ) → i < length text → j ≡ i + 1 → last_operator (drop j text) ≡ 0 → begins_operator (drop i text) ≡ true → last_operator text ≡ i + 1
+found_at text i j h same none begins =
+    let one : last_operator (drop i text) ≡ 1 = here_from text i j h same none begins in
     let e : last_operator text ≡ i + last_operator (drop i text) = of_end i text (omega arith) in
     omega arith
 
@@ -75,8 +79,7 @@ chosen_first : {T : Type 0} (i : ℕ) (a b : T) → i ≡ 0 → (if i == 0 then 
 chosen_first i a b h = rw h refl
 
 chosen_second : {T : Type 0} (i : ℕ) (a b : T) → 0 < i → (if i == 0 then a else b) ≡ b
-chosen_second zero a b h = absurd (omega arith)
-chosen_second (suc i) a b h = refl
+chosen_second i a b h = ap (λ (t : Bool). if t then a else b) (ne_eqb i 0 (λ e. omega arith))
 
 -- one term
 pub one_term : (n : ℕ) (otherwise : Option Unit) (at : ℕ) (text : List ℕ) → last_operator text ≡ 0 → sum_by n otherwise at text ≡ term_in otherwise at text
@@ -89,16 +92,43 @@ unfolding sum_by
 no_more zero otherwise at text h = refl
 no_more (suc n) otherwise at text h = absurd (omega arith)
 
+abbrev pub read : Whole → Result Whole Fault
+read sum = Ok sum
+
+abbrev pub refused : Fault → Result Whole Fault
+refused fault = Err fault
+
 -- what the last operator joins
 abbrev pub joined_by : (n : ℕ) (index : ℕ) (otherwise : Option Unit) (at : ℕ) (text : List ℕ) → Result Whole Fault
 joined_by n index otherwise at text =
     and_then (later_term otherwise (at + (index + 1)) (drop (index + 1) text)) (λ last.
     and_then (sum_by n last.unit at (take index text)) (λ first.
-    Ok (joined (slice_index text index == 45) first last)))
+    Ok (joined (is_minus_at index text) first last)))
 
-two_terms : (m n index : ℕ) (otherwise : Option Unit) (at : ℕ) (text : List ℕ) → m ≡ suc n → index ≡ last_operator text → 0 < index → sum_by m otherwise at text ≡ joined_by n index otherwise at text
+pub two_terms : (m n index : ℕ) (otherwise : Option Unit) (at : ℕ) (text : List ℕ) → m ≡ suc n → index ≡ last_operator text → 0 < index → sum_by m otherwise at text ≡ joined_by n index otherwise at text
 unfolding sum_by
 two_terms zero n index otherwise at text h k some = absurd (omega arith)
 two_terms (suc m) n index otherwise at text h k some =
     let same : m ≡ n = omega arith in
     rw (k, ← same) (chosen_second (last_operator text) _ _ (rw (← k) some))
+
+-- what the exit of a `?` returns
+pub exits : (result : Result Whole Fault) (fault : Fault) → IsErrAnd result (λ y. y ≡ fault) → result ≡ Err fault
+exits result fault h = let p = err_from_is_err_and result h in p.1 ∙ ap (λ (y : Fault). refused y) p.2
+
+-- the last term, of the text from j on
+pub read_from : (otherwise : Option Unit) (at : ℕ) (text : List ℕ) (j : ℕ) (r : Result Whole Fault) → r ≡ later_term otherwise at (take (length text - j) (drop j text)) → later_term otherwise at (drop j text) ≡ r
+read_from otherwise at text j r h = sym (h ∙ ap (λ (s : List ℕ). later_term otherwise at s) (take_rest text j))
+
+pub last_refused : (n index : ℕ) (otherwise : Option Unit) (at : ℕ) (text : List ℕ) (fault : Fault) → later_term otherwise (at + (index + 1)) (drop (index + 1) text) ≡ Err fault → joined_by n index otherwise at text ≡ Err fault
+last_refused n index otherwise at text fault h = rw h refl
+
+pub first_refused : (n index : ℕ) (otherwise : Option Unit) (at : ℕ) (text : List ℕ) (last : Whole) (fault : Fault) → later_term otherwise (at + (index + 1)) (drop (index + 1) text) ≡ Ok last → sum_by n last.unit at (take index text) ≡ Err fault → joined_by n index otherwise at text ≡ Err fault
+first_refused n index otherwise at text last fault h k = rw (h, k) refl
+
+both_read : (n index : ℕ) (otherwise : Option Unit) (at : ℕ) (text : List ℕ) (last first : Whole) → later_term otherwise (at + (index + 1)) (drop (index + 1) text) ≡ Ok last → sum_by n last.unit at (take index text) ≡ Ok first → joined_by n index otherwise at text ≡ read (joined (is_minus_at index text) first last)
+both_read n index otherwise at text last first h k = rw (h, k) refl
+
+pub joined_read : (sum : Whole) (is_minus : Bool) (n index : ℕ) (otherwise : Option Unit) (at : ℕ) (text : List ℕ) (last first : Whole) → sum ≡ joined is_minus first last → is_minus ≡ is_minus_at index text → later_term otherwise (at + (index + 1)) (drop (index + 1) text) ≡ Ok last → sum_by n last.unit at (take index text) ≡ Ok first → read sum ≡ joined_by n index otherwise at text
+joined_read sum is_minus n index otherwise at text last first s m h k =
+    ap read (s ∙ ap (λ (b : Bool). joined b first last) m) ∙ sym (both_read n index otherwise at text last first h k)

@@ -55,6 +55,9 @@ abbrev pub joined_amount : Bool → Whole → Whole → ℤ
 joined_amount true first last = first.amount -ℤ last.amount
 joined_amount false first last = first.amount +ℤ last.amount
 
+abbrev pub is_minus_at : ℕ → List ℕ → Bool
+is_minus_at index text = slice_index text index == 45
+
 abbrev pub joined : Bool → Whole → Whole → Whole
 joined is_minus first last =
     record {
@@ -73,7 +76,7 @@ sum_by (suc n) otherwise at text =
     if index == 0 then term_in otherwise at text else (
     and_then (later_term otherwise (at + (index + 1)) (drop (index + 1) text)) (λ last.
     and_then (sum_by n last.unit at (take index text)) (λ first.
-    Ok (joined (slice_index text index == 45) first last))))
+    Ok (joined (is_minus_at index text) first last))))
 
 -- a sum is at most the greatest length, and so is each term
 abbrev pub not_too_large : Whole → Result Whole Fault

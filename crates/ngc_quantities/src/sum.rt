@@ -1,5 +1,5 @@
 //! Sums of lengths.
-ghost use Rattle.std.specs.Prelude.{◌≡◌, ◌≤◌, ◌<◌, ◌+◌, ◌*◌, true, IfOk, length, unsigned_abs};
+ghost use Rattle.std.specs.Prelude.{◌≡◌, ◌≤◌, ◌<◌, ◌+◌, ◌*◌, true, IfOk, drop, length, unsigned_abs};
 ghost use Rattle.ngc_quantities.specs.Sums as spec;
 ghost use Rattle.ngc_quantities.specs.Written.{is_sign};
 
@@ -25,6 +25,15 @@ fn begins_operator(text: &[u8]) -> bool
     }
 }
 
+// Returns whether an operator and the blanks next to it begin at an index.
+fn begins_at(index: usize, text: &[u8]) -> bool
+    requires { index ≤ length text.now }
+    ensures value { result ≡ spec.begins_operator (drop index text.now) }
+    ensures long { result ≡ true → index + 3 ≤ length text.now }
+{
+    begins_operator(&text[index..])
+}
+
 // Returns the index of the last operator, or 0 if there is none.
 fn last_operator(text: &[u8]) -> usize
     ensures value { result ≡ spec.last_operator text.now }
@@ -33,7 +42,7 @@ fn last_operator(text: &[u8]) -> usize
     let mut index = text.len();
     while 0 < index {
         index -= 1;
-        if begins_operator(&text[index..]) {
+        if begins_at(index, text) {
             return index + 1;
         }
     }
@@ -122,6 +131,13 @@ fn joined(is_minus: bool, first: &Whole, last: &Whole) -> Whole
     }
 }
 
+fn is_minus_at(index: usize, text: &[u8]) -> bool
+    requires { index < length text.now }
+    ensures { result ≡ spec.is_minus_at index text.now }
+{
+    text[index] == b'-'
+}
+
 // Returns the sum of the terms of a text, of which there are at most `more` after the first.
 fn sum_by(more: usize, otherwise: Option<Unit>, at: usize, text: &[u8]) -> Result<Whole, Fault>
     requires at { at ≤ 4000 }
@@ -136,7 +152,7 @@ fn sum_by(more: usize, otherwise: Option<Unit>, at: usize, text: &[u8]) -> Resul
     }
     let last = later_term(otherwise, at + (index + 1), &text[index + 1..])?;
     let first = sum_by(more - 1, last.unit, at, &text[..index])?;
-    Ok(joined(text[index] == b'-', &first, &last))
+    Ok(joined(is_minus_at(index, text), &first, &last))
 }
 
 // Refuses a sum above the greatest length.
