@@ -1,5 +1,5 @@
 -- The last operator of a text, and the sum that it ends.
-use Rattle.std.proofs.Common.{ℕ, zero, suc, ◌≡◌, ◌≢◌, ◌∙◌, sym, ◌+◌, ◌<◌, Bool, true, false, List, [], ◌∷◌, length, drop, take, arith, ap, refl}
+use Rattle.std.proofs.Common.{ℕ, zero, suc, ◌≡◌, ◌∙◌, sym, ◌+◌, ◌<◌, Bool, true, false, List, [], ◌∷◌, length, drop, take, arith, ap, refl}
 use Rattle.std.proofs.lemmas.Bool.{lt-ltb, ne_eqb}
 use Rattle.std.proofs.lemmas.List.{at_drop_more, at_drop_all, take_rest}
 use Rattle.std.proofs.lemmas.Result.{err_from_is_err_and}

@@ -38,12 +38,7 @@ pub(crate) fn not_negative(whole: Whole) -> Result<Whole, Fault>
 }
 
 // Returns an amount of a kind of which there is none below zero.
-fn unsigned_in(
-    kind: Kind,
-    otherwise: Option<Unit>,
-    at: usize,
-    text: &[u8],
-) -> Result<Whole, Fault>
+fn unsigned_in(kind: Kind, otherwise: Option<Unit>, at: usize, text: &[u8]) -> Result<Whole, Fault>
     requires at { at ≤ 5000 }
     requires text { length text.now ≤ 256 }
     ensures { result ≡ spec.unsigned_in kind otherwise at text.now }

@@ -6,7 +6,7 @@ use Rattle.ngc_quantities.proofs.sum.+sum_by.Goals.{then-more-eq0-via-then-more-
 pub returns-then-more-eq0-clause-value : goal.returns-then-more-eq0-clause-value
 returns-then-more-eq0-clause-value t c =
     elim c.then-more-eq0.branch [
-      then-more-eq0-via-then-more-eq0 w ↦ c.term_in.ensures.value ∙ sym (no_more c.args.more c.args.otherwise c.args.at c.args.text.now (omega arith))
+      | then-more-eq0-via-then-more-eq0 w ↦ c.term_in.ensures.value ∙ sym (no_more c.args.more c.args.otherwise c.args.at c.args.text.now (omega arith))
       | then-more-eq0-via-else-more-eq0+then-index-eq0 w ↦ c.term_in.ensures.value ∙ sym (one_term c.args.more c.args.otherwise c.args.at c.args.text.now (omega arith))
     ]
 

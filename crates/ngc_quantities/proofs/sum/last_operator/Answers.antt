@@ -16,6 +16,6 @@ returns-then-begins_at-clause-value c =
 pub loop-index-preserved : goal.loop-index-preserved
 loop-index-preserved c = record {
   none = none_from c.args.text.now (c.loop-index.index - 1) c.loop-index.index (omega arith) (omega arith) c.loop-index.invariant.none
-    (sym c.begins_at.ensures.value ∙ c.if-begins_at.false);
+      (sym c.begins_at.ensures.value ∙ c.if-begins_at.false);
   within = omega arith;
 }
