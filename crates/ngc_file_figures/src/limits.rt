@@ -19,6 +19,8 @@ pub struct ToolLimits {
     /// The tool's number.
     pub number: u32,
     pub cutter: Option<Cutter>,
+    /// The height of the cone of a vee or a drill, in nanometres.
+    pub cone: Option<u32>,
     /// The speeds of the spindle, in millionths of a turn per minute.
     pub speed: Option<Limits>,
     /// The feeds, in nanometres per minute.

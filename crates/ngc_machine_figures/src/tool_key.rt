@@ -18,6 +18,7 @@ pub enum ToolKey {
     Shank(u16),
     Offset(u16),
     Cutter(u16),
+    Point(u16),
     Speed(u16),
     Feed(u16),
     Plunge(u16),
@@ -45,6 +46,7 @@ impl ToolKey {
             ToolKey::Shank(_) => "shank",
             ToolKey::Offset(_) => "offset",
             ToolKey::Cutter(_) => "cutter",
+            ToolKey::Point(_) => "point",
             ToolKey::Speed(_) => "speed",
             ToolKey::Feed(_) => "feed",
             ToolKey::Plunge(_) => "plunge",
@@ -106,4 +108,8 @@ pub enum ToolWrong {
     ManyParts,
     /// The value isn't the name of a cutter.
     NoCutter,
+    /// There is a point, but the cutter isn't a vee or a drill. The refusal's key is the point.
+    LonePoint,
+    /// The point is longer than the cutter. The refusal's key is the point.
+    LongPoint,
 }

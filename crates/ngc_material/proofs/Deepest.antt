@@ -4,11 +4,11 @@ use Rattle.std.proofs.Math.Dec.{ltb}
 use Rattle.std.proofs.lemmas.Bool.{cases_lt, ltb-true, lt-ltb}
 use Rattle.std.specs.Prelude.{IfNone, IfSome, if◌then◌else◌}
 use Rattle.ngc_fixed_length.specs.declared.points.Point3.{Point3}
-use Rattle.ngc_machine_files.specs.declared.tools.Tool.{Tool}
 use Rattle.ngc_cells.specs.declared.grid.Grid.{Grid}
 use Rattle.ngc_cells.specs.declared.stretch.Stretch.{Stretch}
 use Rattle.ngc_cells.specs.Grids.{AreBelow, IsPeak, centre}
 use Rattle.ngc_cells.specs.declared.cells.Peak.{Peak}
+use Rattle.ngc_stock.specs.declared.cylinder.Cylinder.{Cylinder}
 use Rattle.ngc_stock.specs.declared.stock.Stock.{Stock}
 use Rattle.ngc_stock.specs.Stocks.{radius, reduction, tolerance, rise, pieces, piece, point_at, lowest_tip, level_of}
 use Rattle.ngc_stock.specs.Walk.{IsClear}
@@ -84,7 +84,7 @@ deeper_of g In Next (Some t) None h i = record {
 }
 deeper_of g In Next (Some t) (Some u) h i = deeper_some (ltb t.depth u.depth) g In Next t u (less_of t.depth u.depth) (more_of t.depth u.depth) h i
 
-deepest_as : (g : Grid) (In Same : ℕ → ℕ → Type 0) (o : Option Touch) → ((k d : ℕ) → In k d → Same k d) → ((k d : ℕ) → Same k d → In k d) → IsDeepestOf g In o → IsDeepestOf g Same o
+pub deepest_as : (g : Grid) (In Same : ℕ → ℕ → Type 0) (o : Option Touch) → ((k d : ℕ) → In k d → Same k d) → ((k d : ℕ) → Same k d → In k d) → IsDeepestOf g In o → IsDeepestOf g Same o
 deepest_as g In Same None there back h = λ k d x. h k d (back k d x)
 deepest_as g In Same (Some t) there back h = record { cell = h.cell; found = there h.cell t.depth h.found; place = h.place; greatest = λ k d x. h.greatest k d (back k d x) }
 
@@ -100,7 +100,7 @@ probe_deepest : (g : Grid) (p q : Probe) (heights : List ℕ) (o : Option Touch)
 probe_deepest g p q heights o e n s =
     subst (λ (x : Probe). IsDeepestOf g (IsDeep g x.stretch x.radius x.limit x.tip heights) o) e (found_deepest g p.stretch p.radius p.limit p.tip heights o n s)
 
-pub start_deepest : (s : Stock) (t : Tool) (a b : Point3) (heights : List ℕ) (tested : ℕ) (p : Probe) (o : Option Touch) → tested ≡ radius t - reduction s.grid →
+pub start_deepest : (s : Stock) (t : Cylinder) (a b : Point3) (heights : List ℕ) (tested : ℕ) (p : Probe) (o : Option Touch) → tested ≡ radius t - reduction s.grid →
     p ≡ record { stretch = point_at b; radius = tested; limit = level_of s ((b.z +ℤ t.bottom) +ℤ pos (tolerance s.grid)); tip = level_of s (b.z +ℤ t.bottom) } →
     IfNone o (AreBelow s.grid p.stretch p.radius p.limit heights) → IfSome o (IsDeepest s.grid (IsDeep s.grid p.stretch p.radius p.limit p.tip heights)) →
     IsDeepestOf s.grid (IsAtFirst s t a b 0 heights) o
@@ -109,7 +109,7 @@ start_deepest s t a b heights tested p o h e n m =
     heights o (e ∙ ap (λ (r : ℕ). record { stretch = point_at b; radius = r; limit = level_of s ((b.z +ℤ t.bottom) +ℤ pos (tolerance s.grid)); tip = level_of s (b.z +ℤ t.bottom) }) h) n m in
     deepest_as s.grid (IsAtEnd s t b heights) (IsAtFirst s t a b 0 heights) o (λ k d x. inl x) (λ k d x. elim x [ inl y ↦ y | inr z ↦ absurd (omega (arith, z.1)) ]) q
 
-last_or_first : (s : Stock) (t : Tool) (a b : Point3) (n : ℕ) (heights : List ℕ) (k d : ℕ) → IsAtFirst s t a b (n + 1) heights k d →
+last_or_first : (s : Stock) (t : Cylinder) (a b : Point3) (n : ℕ) (heights : List ℕ) (k d : ℕ) → IsAtFirst s t a b (n + 1) heights k d →
     IsAtFirst s t a b n heights k d ⊎ IsAtPiece s t a b n heights k d
 last_or_first s t a b n heights k d x =
     elim x [
@@ -120,7 +120,7 @@ last_or_first s t a b n heights k d x =
       ]
     ]
 
-pub next_deepest : (s : Stock) (t : Tool) (a b : Point3) (i : ℕ) (heights : List ℕ) (tested : ℕ) (p : Probe) (one o : Option Touch) → tested ≡ radius t - reduction s.grid →
+pub next_deepest : (s : Stock) (t : Cylinder) (a b : Point3) (i : ℕ) (heights : List ℕ) (tested : ℕ) (p : Probe) (one o : Option Touch) → tested ≡ radius t - reduction s.grid →
     p ≡ record { stretch = piece a b i; radius = tested; limit = level_of s (lowest_tip t a b i +ℤ pos (tolerance s.grid + 2 * rise a b)); tip = level_of s (lowest_tip t a b i) } →
     IfNone o (AreBelow s.grid p.stretch p.radius p.limit heights) → IfSome o (IsDeepest s.grid (IsDeep s.grid p.stretch p.radius p.limit p.tip heights)) →
     IsDeepestOf s.grid (IsAtFirst s t a b i heights) one → IsDeepestOf s.grid (IsAtFirst s t a b (i + 1) heights) (deeper one o)
@@ -134,7 +134,7 @@ next_deepest s t a b i heights tested p one o h e n m so_far =
 
 -- ---- what all parts find
 
-pub clear_none : (s : Stock) (t : Tool) (a b : Point3) (heights : List ℕ) → ((k d : ℕ) → ¬ (IsInWay s t a b heights k d)) → IsClear s t a b heights
+pub clear_none : (s : Stock) (t : Cylinder) (a b : Point3) (heights : List ℕ) → ((k d : ℕ) → ¬ (IsInWay s t a b heights k d)) → IsClear s t a b heights
 clear_none s t a b heights none = record {
   pieces = λ thick i less. below_deep s.grid (piece a b i) (radius t - reduction s.grid) (level_of s (lowest_tip t a b i +ℤ pos (tolerance s.grid + 2 * rise a b)))
       (level_of s (lowest_tip t a b i)) heights (λ k d x. none k d (record { thick = thick; part = inr (i, less, x) }));
@@ -142,7 +142,7 @@ clear_none s t a b heights none = record {
       (level_of s (b.z +ℤ t.bottom)) heights (λ k d x. none k d (record { thick = thick; part = inl x }));
 }
 
-pub none_clear : (s : Stock) (t : Tool) (a b : Point3) (heights : List ℕ) → IsClear s t a b heights → (k d : ℕ) → ¬ (IsInWay s t a b heights k d)
+pub none_clear : (s : Stock) (t : Cylinder) (a b : Point3) (heights : List ℕ) → IsClear s t a b heights → (k d : ℕ) → ¬ (IsInWay s t a b heights k d)
 none_clear s t a b heights clear k d way =
     elim way.part [
       | inl x ↦ none_deep s.grid (point_at b) (radius t - reduction s.grid) (level_of s ((b.z +ℤ t.bottom) +ℤ pos (tolerance s.grid)))
@@ -151,12 +151,12 @@ none_clear s t a b heights clear k d way =
           (level_of s (lowest_tip t a b y.0)) heights (clear.pieces way.thick y.0 y.1) k d y.2
     ]
 
-pub all_none : (s : Stock) (t : Tool) (a b : Point3) (heights : List ℕ) (n : ℕ) (o : Option Touch) → n ≡ pieces a b →
+pub all_none : (s : Stock) (t : Cylinder) (a b : Point3) (heights : List ℕ) (n : ℕ) (o : Option Touch) → n ≡ pieces a b →
     IsDeepestOf s.grid (IsAtFirst s t a b n heights) o → IfNone o (IsClear s t a b heights)
 all_none s t a b heights n None e h = clear_none s t a b heights (λ k d way. subst (λ (m : ℕ). (k d : ℕ) → ¬ (IsAtFirst s t a b m heights k d)) e h k d way.part)
 all_none s t a b heights n (Some touch) e h = tt
 
-pub all_some : (s : Stock) (t : Tool) (a b : Point3) (heights : List ℕ) (n : ℕ) (o : Option Touch) → n ≡ pieces a b → reduction s.grid ≤ radius t →
+pub all_some : (s : Stock) (t : Cylinder) (a b : Point3) (heights : List ℕ) (n : ℕ) (o : Option Touch) → n ≡ pieces a b → reduction s.grid ≤ radius t →
     IsDeepestOf s.grid (IsAtFirst s t a b n heights) o → IfSome o (IsDeepest s.grid (IsInWay s t a b heights))
 all_some s t a b heights n None e thick h = tt
 all_some s t a b heights n (Some touch) e thick h =

@@ -1,10 +1,10 @@
 -- Where the end of a feed needn't be cut again: its last piece is as low there.
 use Rattle.std.proofs.Common.{◌≡◌, ℕ, suc, ◌+◌, ◌-◌, ◌≤◌, ◌+ℤ◌, refl, subst, arith, List, get_or, min}
 use Rattle.ngc_fixed_length.specs.declared.points.Point3.{Point3}
-use Rattle.ngc_machine_files.specs.declared.tools.Tool.{Tool}
 use Rattle.ngc_cells.specs.declared.stretch.Spot.{Spot}
 use Rattle.ngc_cells.specs.Stretches.{IsNear}
 use Rattle.ngc_cells.specs.Grids.{centre, AreLowered}
+use Rattle.ngc_stock.specs.declared.cylinder.Cylinder.{Cylinder}
 use Rattle.ngc_stock.specs.declared.stock.Stock.{Stock}
 use Rattle.ngc_stock.specs.Stocks.{kappa, radius, flat, pieces, piece, point_at, highest_tip, level_of}
 use Rattle.ngc_stock.specs.Walk.{ArePiecesCut, AreCut}
@@ -28,7 +28,7 @@ low_enough s a b k r piece_level end_level old new e most lowered = record {
   };
 }
 
-last_low : (s : Stock) (t : Tool) (a b : Point3) (n k : ℕ) (old new : List ℕ) → n ≡ suc k → pieces a b ≡ suc k →
+last_low : (s : Stock) (t : Cylinder) (a b : Point3) (n k : ℕ) (old new : List ℕ) → n ≡ suc k → pieces a b ≡ suc k →
     level_of s (highest_tip t a b k) ≤ level_of s (b.z +ℤ t.bottom) → ArePiecesCut s t a b n old new →
     AreLowered s.grid (point_at b) (radius t - kappa s.grid) (level_of s (b.z +ℤ t.bottom)) new new
 last_low s t a b n k old new e f most cut =
@@ -36,7 +36,7 @@ last_low s t a b n k old new e f most cut =
     low_enough s a b k (radius t - kappa s.grid) (level_of s (highest_tip t a b k)) (level_of s (b.z +ℤ t.bottom)) last.0 new f most last.2
 
 -- a feed whose last piece is at most as high as its end
-pub cut_without_end : (s : Stock) (t : Tool) (a b : Point3) (last : ℕ) (old new : List ℕ) → kappa s.grid ≤ radius t → last + 1 ≡ pieces a b →
+pub cut_without_end : (s : Stock) (t : Cylinder) (a b : Point3) (last : ℕ) (old new : List ℕ) → kappa s.grid ≤ radius t → last + 1 ≡ pieces a b →
     level_of s (highest_tip t a b last) ≤ level_of s (b.z +ℤ t.bottom) → ArePiecesCut s t a b (pieces a b) old new → AreCut s t a b old new
 cut_without_end s t a b last old new thick e most cut = record {
   thin = λ less. absurd (omega (arith, thick, less));

@@ -1,14 +1,14 @@
 -- How deep a feed is, from what a probe finds.
-use Rattle.std.proofs.Common.{◌≡◌, ℕ, ◌+◌, ◌-◌, ◌≤◌, ◌<◌, ℤ, pos, negsuc, ◌+ℤ◌, ◌-ℤ◌, ◌≤ℤ◌, sym, ◌∙◌, subst, refl, inl, inr, arith, List, length, min}
+use Rattle.std.proofs.Common.{◌≡◌, ℕ, ◌+◌, ◌-◌, ◌≤◌, ◌<◌, ℤ, pos, negsuc, ◌+ℤ◌, ◌-ℤ◌, ◌≤ℤ◌, sym, subst, refl, inl, inr, arith, List}
 use Rattle.std.specs.Prelude.{slice_index}
 use Rattle.std.proofs.lemmas.Bool.{cases_lt}
 use Rattle.std.proofs.lemmas.Int.{ints}
 use Rattle.ngc_fixed_length.specs.declared.points.Point3.{Point3}
-use Rattle.ngc_machine_files.specs.declared.tools.Tool.{Tool}
 use Rattle.ngc_cells.specs.Stretches.{IsNear}
 use Rattle.ngc_cells.specs.Grids.{AreBelow, centre}
+use Rattle.ngc_stock.specs.declared.cylinder.Cylinder.{Cylinder}
 use Rattle.ngc_stock.specs.declared.stock.Stock.{Stock}
-use Rattle.ngc_stock.specs.Cuts.{lower_tip, whole, IsInCut, IsDepth}
+use Rattle.ngc_stock.specs.Cuts.{lower_tip, whole, IsDepth}
 use Rattle.ngc_stock.specs.Stocks.{radius, reduction, natural_of, level_of}
 use Rattle.ngc_material.specs.Touches.{IsDeep, IsDeepest}
 use Rattle.ngc_material.specs.declared.touch.Touch.{Touch}
@@ -28,7 +28,7 @@ not_above s tip h some most =
     let p = of_natural (tip -ℤ s.bottom) h some m in
     none_above ((s.bottom +ℤ pos h) -ℤ tip) (omega (arith, ints, p))
 
-pub none_depth : (s : Stock) (t : Tool) (a b : Point3) (heights : List ℕ) (r : ℕ) → r ≡ radius t - reduction s.grid →
+pub none_depth : (s : Stock) (t : Cylinder) (a b : Point3) (heights : List ℕ) (r : ℕ) → r ≡ radius t - reduction s.grid →
     AreBelow s.grid (whole a b) r (level_of s (lower_tip t a b)) heights → IsDepth s t a b heights 0
 none_depth s t a b heights r e below = record {
   greatest = λ k d cut. (
@@ -38,7 +38,7 @@ none_depth s t a b heights r e below = record {
   some = λ h. absurd (omega (arith, h));
 }
 
-natural_most : (x y : ℤ) → x ≤ℤ y → natural_of x ≤ natural_of y
+pub natural_most : (x y : ℤ) → x ≤ℤ y → natural_of x ≤ natural_of y
 natural_most (pos m) (pos n) h = omega (arith, ints, h)
 natural_most (pos m) (negsuc n) h = absurd (omega (arith, ints, h))
 natural_most (negsuc m) (pos n) h = omega arith
@@ -48,7 +48,7 @@ deeper_of_two : (s : Stock) (tip : ℤ) (low high : ℕ) → low ≤ high → na
 deeper_of_two s tip low high h = natural_most ((s.bottom +ℤ pos low) -ℤ tip) ((s.bottom +ℤ pos high) -ℤ tip) (omega (arith, ints, h))
 
 -- the deepest cell that a probe at the tip's level finds
-pub some_depth : (s : Stock) (t : Tool) (a b : Point3) (heights : List ℕ) (r level d : ℕ) (touch : Touch) → reduction s.grid ≤ radius t →
+pub some_depth : (s : Stock) (t : Cylinder) (a b : Point3) (heights : List ℕ) (r level d : ℕ) (touch : Touch) → reduction s.grid ≤ radius t →
     r ≡ radius t - reduction s.grid → level ≡ level_of s (lower_tip t a b) →
     IsDeepest s.grid (IsDeep s.grid (whole a b) r level level heights) touch →
     d ≡ natural_of ((s.bottom +ℤ pos (level + touch.depth)) -ℤ lower_tip t a b) → IsDepth s t a b heights d

@@ -1,3 +1,7 @@
+-- The discs of a cutter, one after another.
+pub mod EachDisc
+-- A disc whose foot is nowhere below the stock's top lowers no cell.
+pub mod Uncut
 -- Products that fit, and the heights of tips.
 pub mod Tips
 -- The deepest of the cells in the way of a traverse, found part by part.

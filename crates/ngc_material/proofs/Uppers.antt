@@ -1,13 +1,16 @@
 -- The parts of a tool, tested one after another from the lowest up.
-use Rattle.std.proofs.Common.{◌≡◌, ℕ, zero, suc, ◌+◌, ◌-◌, ◌<◌, ◌≤◌, inl, inr, ◌∙◌, ap, subst, arith, List, length}
+use Rattle.std.proofs.Common.{◌≡◌, ℕ, zero, suc, ◌+◌, ◌-◌, ◌<◌, ◌≤◌, inl, inr, ◌∙◌, ap, subst, arith, List, length, Option, Some, None}
+use Rattle.std.specs.Prelude.{IfNone, IfSome}
 use Rattle.std.proofs.lemmas.Bool.{cases_lt}
 use Rattle.std.proofs.lemmas.List.{length-drop}
 use Rattle.ngc_fixed_length.specs.declared.points.Point3.{Point3}
 use Rattle.ngc_machine_files.specs.declared.tools.Tool.{Tool}
+use Rattle.ngc_stock.specs.declared.cylinder.Cylinder.{Cylinder}
 use Rattle.ngc_stock.specs.declared.stock.Stock.{Stock}
-use Rattle.ngc_stock.specs.Stocks.{above, from_part}
-use Rattle.ngc_stock.specs.Walk.{IsClear, AreClear}
-use Rattle.ngc_material.specs.Touches.{IsInWay, IsDeepest, IsFirstTouch}
+use Rattle.ngc_stock.specs.Stocks.{above, lowest_part, from_part}
+use Rattle.ngc_stock.specs.Walk.{IsClear, AreDiscsClear, AreClear}
+use Rattle.ngc_material.specs.Touches.{IsInWay, IsDeepest, IsUpperTouch, IsFirstTouch}
+use Rattle.ngc_material.specs.declared.touch.PartTouch.{PartTouch}
 use Rattle.ngc_material.specs.declared.touch.Touch.{Touch}
 
 pub length_from : (t : Tool) (p : ℕ) → length (from_part t p).parts ≡ length t.parts - p
@@ -27,30 +30,42 @@ next_upper t u v p is above_it less =
     subst (λ (n : ℕ). v ≡ from_part t n) next (above_it (omega (arith, few, less)) ∙ ap above same)
 
 -- one clear part more
-pub one_lower : (s : Stock) (t u : Tool) (first : ℕ) (a b : Point3) (heights : List ℕ) (part : ℕ) → part < length t.parts →
-    (part < length t.parts → u ≡ from_part t part) → (first ≤ part → IsClear s u a b heights) →
-    ((p : ℕ) → first ≤ p → p < part → IsClear s (from_part t p) a b heights) →
-    (p : ℕ) → first ≤ p → p < part + 1 → IsClear s (from_part t p) a b heights
-one_lower s t u first a b heights part within is clear lower p from less =
+pub one_lower : (s : Stock) (t u : Tool) (a b : Point3) (heights : List ℕ) (part : ℕ) → part < length t.parts →
+    (part < length t.parts → u ≡ from_part t part) → IsClear s (lowest_part u) a b heights →
+    ((p : ℕ) → 0 < p → p < part → IsClear s (lowest_part (from_part t p)) a b heights) →
+    (p : ℕ) → 0 < p → p < part + 1 → IsClear s (lowest_part (from_part t p)) a b heights
+one_lower s t u a b heights part within is clear lower p from less =
     elim (cases_lt p part) [
       | inl before ↦ lower p from before
       | inr after ↦ (let e : part ≡ p = omega (arith, less, after) in
-          subst (λ (k : ℕ). IsClear s (from_part t k) a b heights) e
-          (subst (λ (x : Tool). IsClear s x a b heights) (is within) (clear (omega (arith, from, e)))))
+          subst (λ (k : ℕ). IsClear s (lowest_part (from_part t k)) a b heights) e
+          (subst (λ (x : Tool). IsClear s (lowest_part x) a b heights) (is within) clear))
     ]
 
 -- the first part that isn't clear
-pub first_some : (s : Stock) (t u : Tool) (first : ℕ) (a b : Point3) (heights : List ℕ) (part : ℕ) (touch : Touch) → first ≤ part → part < length t.parts →
-    (part < length t.parts → u ≡ from_part t part) → ((p : ℕ) → first ≤ p → p < part → IsClear s (from_part t p) a b heights) →
-    IsDeepest s.grid (IsInWay s u a b heights) touch → IsFirstTouch s t first a b heights part touch
-first_some s t u first a b heights part touch from within is lower deepest = record {
-  from = from;
+pub first_some : (s : Stock) (t u : Tool) (a b : Point3) (heights : List ℕ) (part : ℕ) (touch : Touch) → 0 < part → part < length t.parts →
+    (part < length t.parts → u ≡ from_part t part) → ((p : ℕ) → 0 < p → p < part → IsClear s (lowest_part (from_part t p)) a b heights) →
+    IsDeepest s.grid (IsInWay s (lowest_part u) a b heights) touch → IsUpperTouch s t a b heights part touch
+first_some s t u a b heights part touch above within is lower deepest = record {
+  above = above;
   within = within;
   lower = lower;
-  deepest = subst (λ (x : Tool). IsDeepest s.grid (IsInWay s x a b heights) touch) (is within) deepest;
+  deepest = subst (λ (x : Tool). IsDeepest s.grid (IsInWay s (lowest_part x) a b heights) touch) (is within) deepest;
 }
 
 -- all parts are clear
-pub all_clear : (s : Stock) (t : Tool) (first : ℕ) (a b : Point3) (heights : List ℕ) (part : ℕ) → length t.parts ≤ part →
-    ((p : ℕ) → first ≤ p → p < part → IsClear s (from_part t p) a b heights) → AreClear s t first a b heights
-all_clear s t first a b heights part whole lower p from less = lower p from (omega (arith, whole, less))
+pub all_clear : (s : Stock) (t : Tool) (a b : Point3) (heights : List ℕ) (part : ℕ) → length t.parts ≤ part →
+    ((p : ℕ) → 0 < p → p < part → IsClear s (lowest_part (from_part t p)) a b heights) → AreClear s t a b heights
+all_clear s t a b heights part whole lower p from less = lower p from (omega (arith, whole, less))
+
+-- ---- after the cutter
+
+pub none_with : (o : Option PartTouch) (P Q : Type 0) → P → IfNone o Q → IfNone o (P × Q)
+none_with None P Q p q = (p, q)
+none_with (Some f) P Q p q = tt
+
+-- the discs are clear, and a part above them isn't
+pub upper_first : (s : Stock) (ds : List Cylinder) (t : Tool) (a b : Point3) (heights : List ℕ) (o : Option PartTouch) → AreDiscsClear s ds a b heights →
+    IfSome o (λ f. IsUpperTouch s t a b heights f.part f.touch) → IfSome o (λ f. IsFirstTouch s ds t a b heights f.part f.touch)
+upper_first s ds t a b heights None clear h = tt
+upper_first s ds t a b heights (Some f) clear h = inr (clear, h)

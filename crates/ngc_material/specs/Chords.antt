@@ -7,9 +7,9 @@ use Rattle.ngc_fixed_length.specs.declared.points.Point2.{Point2}
 use Rattle.ngc_arc_geometry.specs.Shape.{ArcShape, start_of, end_of}
 use Rattle.ngc_arc_geometry.specs.Radii.{inner_radius, outer_radius}
 use Rattle.ngc_arc_geometry.specs.Sector.{turning, is_full}
-use Rattle.ngc_machine_files.specs.declared.tools.Tool.{Tool}
 use Rattle.ngc_cells.specs.Stretches.{RADIUS_LIMIT}
 use Rattle.ngc_cells.specs.Grids.{IsGrid}
+use Rattle.ngc_stock.specs.declared.cylinder.Cylinder.{Cylinder}
 use Rattle.ngc_stock.specs.declared.stock.Stock.{Stock}
 use Rattle.ngc_stock.specs.Stocks.{kappa, radius, level_of}
 use Rattle.ngc_stock.specs.Arcs.{upper_tip}
@@ -62,7 +62,7 @@ is_chord s b d e = is_within b.most d e && (is_beyond b.least d e && is_in s d e
 
 -- what is to know of an arc that lowers cells: its sector, how far its chords may be from the centre, and
 -- with which radius they lower the cells to which level
-pub record IsSwept (s : Stock) (t : Tool) (a : ArcShape) (sector : Sector) (b : Band) (room r level : ℕ) : Type 0 where
+pub record IsSwept (s : Stock) (t : Cylinder) (a : ArcShape) (sector : Sector) (b : Band) (room r level : ℕ) : Type 0 where
   pub grid : IsGrid s.grid
   pub thick : kappa s.grid + room ≤ radius t
   pub turns : IsSector a sector
@@ -75,5 +75,5 @@ pub record IsSwept (s : Stock) (t : Tool) (a : ArcShape) (sector : Sector) (b : 
   pub tip : level ≡ level_of s (upper_tip t a)
 
 -- the heights after some chords of an arc
-abbrev pub AreSomeCut : Stock → Tool → ArcShape → List ℕ → List ℕ → Type 0
+abbrev pub AreSomeCut : Stock → Cylinder → ArcShape → List ℕ → List ℕ → Type 0
 AreSomeCut s t a old new = (k : ℕ) × AreChordsCut s t a k old new

@@ -1,5 +1,7 @@
--- Following a program's commands through the material. Our own.
+-- Following a program's commands through the material. `table` says what shapes the cutters of the tools
+-- have. Our own.
 use Rattle.std.specs.Prelude.{◌≡◌, ℕ, ◌+◌, ◌⊎◌, List, [], ◌∷◌, ◌++◌, Option, Some, None, if◌then◌else◌, ◌==◌}
+use Rattle.ngc_file_figures.specs.declared.limits.ToolLimits.{ToolLimits}
 use Rattle.ngc_machine_files.specs.declared.tools.Tool.{Tool}
 use Rattle.ngc_commands.specs.declared.command.Action.{Action}
 use Rattle.ngc_commands.specs.declared.command.Action.TheVariants.{Move}
@@ -11,29 +13,31 @@ use Rattle.ngc_commands.specs.declared.movement.Pace.{Pace}
 use Rattle.ngc_commands.specs.declared.movement.Pace.TheVariants.{Rapid, Feed}
 use Rattle.ngc_commands.specs.declared.reached.Reached.{Reached}
 use Rattle.ngc_commands.specs.Reached.{after}
+use Rattle.ngc_stock.specs.declared.cylinder.Cylinder.{Cylinder}
 use Rattle.ngc_stock.specs.declared.stock.Stock.{Stock}
 use Rattle.ngc_stock.specs.Changes.{tool_number}
+use Rattle.ngc_stock.specs.Discs.{discs_in}
 use Rattle.ngc_stock.specs.Feeds.{IsFeedClear}
-use Rattle.ngc_stock.specs.Walk.{IsStep, AreCut}
-use Rattle.ngc_material.specs.Touches.{IsFirstTouch}
+use Rattle.ngc_stock.specs.Walk.{IsStep, AreDiscsCut}
+use Rattle.ngc_material.specs.Touches.{IsFirstTouch, IsUpperTouch}
 use Rattle.ngc_material.specs.declared.touch.Touch.{Touch}
 use Rattle.ngc_material.specs.declared.walk.Found.{Found}
 
 -- a straight traverse with which this part may touch material; it then counts as a feed
-abbrev pub IsTouchedOn : Stock → Tool → Way → Pace → List ℕ → List ℕ → ℕ → Touch → Type 0
-IsTouchedOn s t (Line a b) Rapid old new part touch = IsFirstTouch s t 0 a b old part touch × AreCut s t a b old new
-IsTouchedOn s t (Line a b) (Feed f) old new part touch = ⊥
-IsTouchedOn s t (Arc arc) pace old new part touch = ⊥
+abbrev pub IsTouchedOn : Stock → List Cylinder → Tool → Way → Pace → List ℕ → List ℕ → ℕ → Touch → Type 0
+IsTouchedOn s ds t (Line a b) Rapid old new part touch = IsFirstTouch s ds t a b old part touch × AreDiscsCut s ds a b old new
+IsTouchedOn s ds t (Line a b) (Feed f) old new part touch = ⊥
+IsTouchedOn s ds t (Arc arc) pace old new part touch = ⊥
 
-abbrev pub IsTouched : Stock → Option Tool → Action → List ℕ → List ℕ → ℕ → Touch → Type 0
-IsTouched s None action old new part touch = ⊥
-IsTouched s (Some t) (Move m) old new part touch = IsTouchedOn s t m.way m.pace old new part touch
-IsTouched s (Some t) _ old new part touch = ⊥
+abbrev pub IsTouched : Stock → List Cylinder → Option Tool → Action → List ℕ → List ℕ → ℕ → Touch → Type 0
+IsTouched s ds None action old new part touch = ⊥
+IsTouched s ds (Some t) (Move m) old new part touch = IsTouchedOn s ds t m.way m.pace old new part touch
+IsTouched s ds (Some t) _ old new part touch = ⊥
 
 -- a straight feed with which this part, above the cutter, may touch material of these heights, which the
 -- feed leaves
 abbrev pub IsRubbedOn : Stock → Tool → Way → Pace → List ℕ → ℕ → Touch → Type 0
-IsRubbedOn s t (Line a b) (Feed f) heights part touch = IsFirstTouch s t 1 a b heights part touch
+IsRubbedOn s t (Line a b) (Feed f) heights part touch = IsUpperTouch s t a b heights part touch
 IsRubbedOn s t (Line a b) Rapid heights part touch = ⊥
 IsRubbedOn s t (Arc arc) pace heights part touch = ⊥
 
@@ -43,11 +47,11 @@ IsRubbed s (Some t) (Move m) heights part touch = IsRubbedOn s t m.way m.pace he
 IsRubbed s (Some t) _ heights part touch = ⊥
 
 -- a traverse, which is the command with this index, may touch material
-pub record IsFound (s : Stock) (mounted : Option Tool) (index : ℕ) (c : Command) (old new : List ℕ) (f : Found) : Type 0 where
+pub record IsFound (s : Stock) (ds : List Cylinder) (mounted : Option Tool) (index : ℕ) (c : Command) (old new : List ℕ) (f : Found) : Type 0 where
   pub command : f.command ≡ index
   pub line : f.line ≡ c.line
   pub tool : f.tool ≡ tool_number mounted
-  pub touch : IsTouched s mounted c.action old new f.part f.touch
+  pub touch : IsTouched s ds mounted c.action old new f.part f.touch
 
 -- a feed, which is the command with this index, may touch material
 pub record IsFoundFeed (s : Stock) (mounted : Option Tool) (index : ℕ) (c : Command) (heights : List ℕ) (f : Found) : Type 0 where
@@ -57,10 +61,10 @@ pub record IsFoundFeed (s : Stock) (mounted : Option Tool) (index : ℕ) (c : Co
   pub touch : IsRubbed s mounted c.action heights f.part f.touch
 
 -- a command is silent, or it is added to the traverses that are found
-abbrev pub IsFollowed : Stock → Option Tool → ℕ → Command → List ℕ → List ℕ → List Found → List Found → Type 0
-IsFollowed s tool index c old new before later =
-    (IsStep s tool c.action old new × (later ≡ before))
-    ⊎ ((f : Found) × (later ≡ before ++ f ∷ []) × IsFound s tool index c old new f)
+abbrev pub IsFollowed : Stock → List Cylinder → Option Tool → ℕ → Command → List ℕ → List ℕ → List Found → List Found → Type 0
+IsFollowed s ds tool index c old new before later =
+    (IsStep s ds tool c.action old new × (later ≡ before))
+    ⊎ ((f : Found) × (later ≡ before ++ f ∷ []) × IsFound s ds tool index c old new f)
 
 -- a command that leaves these heights isn't a feed that may touch them, or it is added to those
 abbrev pub IsTested : Stock → Option Tool → ℕ → Command → List ℕ → List Found → List Found → Type 0
@@ -75,13 +79,13 @@ IsNextFeed s tool index c heights feeds others =
     ⊎ ((f : Found) × (feeds ≡ f ∷ others) × IsFoundFeed s tool index c heights f)
 
 -- what a walk reports, traverses and feeds: each command is silent, or it is the next one that is reported
-abbrev pub AreFound : Stock → Reached → List ℕ → ℕ → List Command → List Found → List Found → Type 0
-AreFound s r heights index [] found feeds = (found ≡ []) × (feeds ≡ [])
-AreFound s r heights index (c ∷ cs) found feeds =
+abbrev pub AreFound : Stock → List ToolLimits → Reached → List ℕ → ℕ → List Command → List Found → List Found → Type 0
+AreFound s table r heights index [] found feeds = (found ≡ []) × (feeds ≡ [])
+AreFound s table r heights index (c ∷ cs) found feeds =
     (next : List ℕ) × (others : List Found) × IsNextFeed s r.tool index c next feeds others ×
-    ((IsStep s r.tool c.action heights next × AreFound s (after r c.action) next (index + 1) cs found others)
-    ⊎ ((f : Found) × (rest : List Found) × (found ≡ f ∷ rest) × IsFound s r.tool index c heights next f ×
-    AreFound s (after r c.action) next (index + 1) cs rest others))
+    ((IsStep s (discs_in table r.tool) r.tool c.action heights next × AreFound s table (after r c.action) next (index + 1) cs found others)
+    ⊎ ((f : Found) × (rest : List Found) × (found ≡ f ∷ rest) × IsFound s (discs_in table r.tool) r.tool index c heights next f ×
+    AreFound s table (after r c.action) next (index + 1) cs rest others))
 
 -- ---- the program in which each traverse that is reported is a feed
 

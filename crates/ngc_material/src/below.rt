@@ -4,7 +4,7 @@ ghost use Rattle.std.specs.Int.{int_min, int_max};
 ghost use Rattle.ngc_stock.specs.Stocks.{natural_of};
 ghost use Rattle.ngc_stock.specs.Below as spec;
 
-use crate::cutter::radius;
+use crate::cutter::{lowest_part, radius};
 use ngc_arc_geometry::Arc;
 use ngc_commands::{Action, Command, Motion, Pace, Reached, Way};
 use ngc_fixed_length::{Nm, Point2, Point3};
@@ -133,7 +133,7 @@ fn is_beside_any(corner: i64, half: u32, count: u32, radius: u32, low: Nm, high:
 fn is_over_any(stock: &Stock, tool: &Tool, room: &PathBox) -> bool
     ensures { result ≡ spec.is_over_any stock.now tool.now room.now }
 {
-    let (grid, radius) = (stock.grid, radius(tool));
+    let (grid, radius) = (stock.grid, radius(&lowest_part(tool)));
     is_beside_any(
         grid.corner.x,
         grid.half,

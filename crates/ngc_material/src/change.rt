@@ -3,7 +3,7 @@ ghost use Rattle.std.specs.Prelude.{◌≡◌, pos, ◌+ℤ◌, ◌-ℤ◌, Some
 ghost use Rattle.ngc_stock.specs.Stocks.{natural_of};
 ghost use Rattle.ngc_stock.specs.Changes.{is_beside, is_over, depth_at, tool_number, change_with, change_from, change_at};
 
-use crate::cutter::radius;
+use crate::cutter::{lowest_part, radius};
 use crate::line::flat;
 use ngc_commands::{Action, Command, Reached};
 use ngc_fixed_length::{Nm, Point3};
@@ -26,7 +26,7 @@ fn is_beside(corner: i64, half: u32, count: u32, radius: u32, place: &Nm) -> boo
 fn is_over(stock: &Stock, tool: &Tool, place: &Point3) -> bool
     ensures { result ≡ is_over stock.now tool.now place.now }
 {
-    let (grid, radius) = (stock.grid, radius(tool));
+    let (grid, radius) = (stock.grid, radius(&lowest_part(tool)));
     is_beside(grid.corner.x, grid.half, grid.columns, radius, &place.x)
         && is_beside(grid.corner.y, grid.half, grid.rows, radius, &place.y)
 }

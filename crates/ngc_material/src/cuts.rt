@@ -8,8 +8,8 @@ ghost use Rattle.ngc_material.specs.Heights.{is_action_reached};
 
 use crate::change::tool_number;
 use crate::material::Material;
+use crate::mounted::Mounted;
 use ngc_commands::Command;
-use ngc_machine_files::Tool;
 use ngc_stock::Cut;
 use std::alloc::{AllocError, Allocator};
 
@@ -63,15 +63,16 @@ fn add_depth<A: Allocator>(cuts: &mut Vec<Cut, A>, cut: &Cut) -> Result<(), Allo
 pub(crate) fn measure<A: Allocator>(
     material: &Material<A>,
     cuts: &mut Vec<Cut, A>,
-    tool: &Option<Tool>,
+    mounted: &Mounted<A>,
     index: usize,
     command: &Command,
 ) -> Result<(), AllocError>
     requires { IsTrue (is_action_reached command.now.action) }
-    ensures { OnOk result (IsCutNext material.now.stock tool.now index command.now
+    ensures { OnOk result (IsCutNext material.now.stock mounted.now.discs.items mounted.now.reached.tool index command.now
         material.now.heights.items cuts.old.items cuts.new.items) }
 {
-    let depth = material.depth(tool, &command.action);
+    let tool = &mounted.reached.tool;
+    let depth = material.depth(tool, mounted.discs.as_slice(), &command.action);
     let cut = Cut {
         command: index,
         line: command.line,

@@ -2,20 +2,30 @@ ghost use Rattle.std.specs.Prelude.{◌≡◌, ◌≤◌, ◌<◌, nat_lt, lengt
 ghost use Rattle.std.specs.Int.{int_min};
 ghost use Rattle.ngc_fixed_length.specs.Limits.{LENGTH_LIMIT};
 ghost use Rattle.ngc_cells.specs.Stretches.{REACH, RADIUS_LIMIT};
-ghost use Rattle.ngc_stock.specs.Stocks.{above, first_part, kappa, sigma, margin, radius, reduction, level_of};
+ghost use Rattle.ngc_stock.specs.Stocks.{above, first_part, kappa, sigma, lowest_part, margin, radius, reduction, level_of};
 
 use ngc_cells::Grid;
 use ngc_fixed_length::{Nm, root_ceil};
 use ngc_machine_files::{Parts, Tool};
-use ngc_stock::Stock;
+use ngc_stock::{Cylinder, Stock};
 
-/// Returns the radius of a tool's cutter, which is its lowest part.
-pub(crate) fn radius(tool: &Tool) -> u32
-    ensures value { result ≡ radius tool.now }
+/// Returns the radius of a cylinder, at most a metre.
+pub(crate) fn radius(cylinder: &Cylinder) -> u32
+    ensures value { result ≡ radius cylinder.now }
     ensures bound { result ≤ RADIUS_LIMIT }
 {
+    1_000_000_000.min(cylinder.radius) as u32
+}
+
+/// Returns the lowest part of a tool, which is its cutter.
+pub(crate) fn lowest_part(tool: &Tool) -> Cylinder
+    ensures { result ≡ lowest_part tool.now }
+{
     let part = tool.parts.as_slice()[0];
-    1_000_000_000.min(part.radius.nanometres().unsigned_abs()) as u32
+    Cylinder {
+        bottom: tool.bottom,
+        radius: part.radius.nanometres().unsigned_abs(),
+    }
 }
 
 fn length(nanometres: i64) -> Nm
@@ -93,7 +103,7 @@ pub(crate) fn level_of(stock: &Stock, height: i64) -> u32
     }
 }
 
-/// Returns how much smaller than a tool's cutter the one is that is tested.
+/// Returns how much smaller than a cylinder of a tool the one is that is tested.
 pub(crate) fn reduction(grid: &Grid) -> u64
     requires { grid.now.half ≤ REACH }
     ensures value { result ≡ reduction grid.now }
@@ -102,7 +112,7 @@ pub(crate) fn reduction(grid: &Grid) -> u64
     kappa(grid) + sigma(grid)
 }
 
-/// Returns how much smaller than a tool's cutter the one is of which a walk says that it meets nothing
+/// Returns how much smaller than a cylinder of a tool the one is of which a walk says that it meets nothing
 /// in the traverses that aren't found, in nanometres.
 pub fn margin(grid: &Grid) -> u64
     requires { grid.now.half ≤ REACH }
@@ -115,7 +125,7 @@ pub fn margin(grid: &Grid) -> u64
 /// Returns whether a tool's cutter is so thin that its traverses aren't tested.
 pub fn is_thin(grid: &Grid, tool: &Tool) -> bool
     requires { grid.now.half ≤ REACH }
-    ensures { result ≡ nat_lt (radius tool.now) (reduction grid.now) }
+    ensures { result ≡ nat_lt (radius (lowest_part tool.now)) (reduction grid.now) }
 {
-    u64::from(radius(tool)) < reduction(grid)
+    u64::from(radius(&lowest_part(tool))) < reduction(grid)
 }

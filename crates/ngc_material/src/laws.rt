@@ -2,8 +2,8 @@
 ghost use Rattle.ngc_material.specs.Cuts.{DeepestCuts};
 ghost use Rattle.ngc_material.specs.Silences.{ClearFeeds, Clearness, Nothing, Unreported};
 
-/// States that the lowest part of a tool may touch no material in a traverse exactly if no cell is in
-/// its way.
+/// States that a disc or a part of a tool may touch no material in a traverse exactly if no cell is in its
+/// way.
 pub fn clearness()
     ensures { Clearness }
 {}
@@ -14,8 +14,8 @@ pub fn nothing()
 {}
 
 /// States that each straight traverse that a walk doesn't report meets no material that the feeds and
-/// the reported traverses before it have left, for each part of the tool, smaller by a margin and
-/// raised by a tolerance.
+/// the reported traverses before it have left, for each disc of the cutter and each part above it, smaller
+/// by a margin and raised by a tolerance.
 pub fn unreported()
     ensures { Unreported }
 {}
@@ -27,7 +27,7 @@ pub fn clear_feeds()
     ensures { ClearFeeds }
 {}
 
-/// States that what the cutter of a straight feed, smaller by a margin, meets of the material that the
+/// States that what the discs of a straight feed's cutter, smaller by a margin, meet of the material that the
 /// feeds and the reported traverses before it have left is less than the depth of its tool's cut above
 /// the lower of the feed's two tips.
 pub fn deepest_cuts()

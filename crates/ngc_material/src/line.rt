@@ -5,7 +5,7 @@ ghost use Rattle.ngc_stock.specs.Stocks.{is_slope, pieces, rise, piece, point_at
 
 use ngc_cells::{Spot, Stretch};
 use ngc_fixed_length::{Nm, Point3};
-use ngc_machine_files::Tool;
+use ngc_stock::Cylinder;
 
 /// A straight line of the spindle nose, in nanometres of the machine.
 #[derive(Clone, Copy)]
@@ -111,51 +111,51 @@ impl Line {
         }
     }
 
-    /// Returns the number of pieces times the height of a tool's tip at a point of the line.
-    fn tip(&self, tool: &Tool, part: u32) -> i64
+    /// Returns the number of pieces times the height of a cylinder's foot at a point of the line.
+    fn tip(&self, cylinder: &Cylinder, part: u32) -> i64
         requires { part ≤ 1000 }
-        ensures value { result ≡ tip tool.now (pieces self.now.start self.now.end) part self.now.start self.now.end }
+        ensures value { result ≡ tip cylinder.now (pieces self.now.start self.now.end) part self.now.start self.now.end }
         ensures bound { unsigned_abs result ≤ 400000000000000 }
     {
-        let first = self.start.z.nanometres() + tool.bottom.nanometres();
+        let first = self.start.z.nanometres() + cylinder.bottom.nanometres();
         i64::from(self.pieces()) * first + i64::from(part) * self.climb()
     }
 
-    /// Returns the height of a tool's tip at the higher end of a piece, rounded up.
-    pub(crate) fn highest_tip(&self, tool: &Tool, part: u32) -> i64
+    /// Returns the height of a cylinder's foot at the higher end of a piece, rounded up.
+    pub(crate) fn highest_tip(&self, cylinder: &Cylinder, part: u32) -> i64
         requires { part < 1000 }
-        ensures value { result ≡ highest_tip tool.now self.now.start self.now.end part }
+        ensures value { result ≡ highest_tip cylinder.now self.now.start self.now.end part }
         ensures bound { unsigned_abs result ≤ 400000000000000 }
     {
-        let highest = self.tip(tool, part).max(self.tip(tool, part + 1));
+        let highest = self.tip(cylinder, part).max(self.tip(cylinder, part + 1));
         -(-highest).div_euclid(i64::from(self.pieces()))
     }
 
-    /// Returns the height of a tool's tip at the lower end of a piece, rounded down.
-    pub(crate) fn lowest_tip(&self, tool: &Tool, part: u32) -> i64
+    /// Returns the height of a cylinder's foot at the lower end of a piece, rounded down.
+    pub(crate) fn lowest_tip(&self, cylinder: &Cylinder, part: u32) -> i64
         requires { part < 1000 }
-        ensures value { result ≡ lowest_tip tool.now self.now.start self.now.end part }
+        ensures value { result ≡ lowest_tip cylinder.now self.now.start self.now.end part }
         ensures bound { unsigned_abs result ≤ 400000000000000 }
     {
-        let lowest = self.tip(tool, part).min(self.tip(tool, part + 1));
+        let lowest = self.tip(cylinder, part).min(self.tip(cylinder, part + 1));
         lowest.div_euclid(i64::from(self.pieces()))
     }
 
-    /// Returns the height of a tool's tip at the lower end of the line.
-    pub(crate) fn lower_tip(&self, tool: &Tool) -> i64
-        ensures value { result ≡ lower_tip tool.now self.now.start self.now.end }
+    /// Returns the height of a cylinder's foot at the lower end of the line.
+    pub(crate) fn lower_tip(&self, cylinder: &Cylinder) -> i64
+        ensures value { result ≡ lower_tip cylinder.now self.now.start self.now.end }
         ensures bound { unsigned_abs result ≤ 200000000000 }
     {
         let (start, end) = (self.start.z.nanometres(), self.end.z.nanometres());
         let lower = if end < start { end } else { start };
-        lower + tool.bottom.nanometres()
+        lower + cylinder.bottom.nanometres()
     }
 
-    /// Returns the height of a tool's tip at the end of the line.
-    pub(crate) fn last_tip(&self, tool: &Tool) -> i64
-        ensures value { result ≡ self.now.end.z +ℤ tool.now.bottom }
+    /// Returns the height of a cylinder's foot at the end of the line.
+    pub(crate) fn last_tip(&self, cylinder: &Cylinder) -> i64
+        ensures value { result ≡ self.now.end.z +ℤ cylinder.now.bottom }
         ensures bound { unsigned_abs result ≤ 200000000000 }
     {
-        self.end.z.nanometres() + tool.bottom.nanometres()
+        self.end.z.nanometres() + cylinder.bottom.nanometres()
     }
 }

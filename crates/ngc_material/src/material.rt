@@ -1,15 +1,15 @@
 //! The material that is left of a stock.
 ghost use Rattle.ngc_material.specs.Heights.{AreHeights, AreWithin};
 
-use crate::cutting::cut;
-use crate::depth::depth_of;
+use crate::cutting::cut_discs;
+use crate::depth::greatest_depth;
 use crate::line::Line;
-use crate::sweep::cut_arc;
-use crate::touch::{PartTouch, first_touch};
+use crate::sweep::cut_arcs;
+use crate::touch::{PartTouch, first_touch, upper_touch};
 use ngc_arc_geometry::Arc;
 use ngc_commands::{Action, Motion, Pace, Way};
 use ngc_machine_files::Tool;
-use ngc_stock::Stock;
+use ngc_stock::{Cylinder, Stock};
 use std::alloc::{AllocError, Allocator};
 
 /// The material that is left of a stock.
@@ -27,7 +27,7 @@ impl<A: Allocator> Material<A> {
     ghost use Rattle.ngc_cells.specs.Grids.{IsGrid};
     ghost use Rattle.ngc_stock.specs.Cuts.{IsDepthOf, IsDepthOn};
     ghost use Rattle.ngc_stock.specs.Feeds.{IsFeedClear, IsFeedClearOn};
-    ghost use Rattle.ngc_stock.specs.Walk.{IsStep, IsMotion, AreCut, IsArcCut, uncut};
+    ghost use Rattle.ngc_stock.specs.Walk.{IsStep, IsMotion, AreDiscsCut, AreArcsCut, uncut};
     ghost use Rattle.ngc_material.specs.Heights.{is_action_reached, is_way_reached, is_reached};
     ghost use Rattle.ngc_material.specs.Walks.{IsRubbed, IsRubbedOn, IsTouched, IsTouchedOn};
 
@@ -44,103 +44,113 @@ impl<A: Allocator> Material<A> {
         })
     }
 
-    /// Follows an action with a mounted tool, and returns where a part of it may touch material if it is
-    /// a straight traverse. A feed lowers the material, and so does a traverse that may touch it.
+    /// Follows an action with a mounted tool and the discs of its cutter, and returns where a part of it may
+    /// touch material if it is a straight traverse. A feed lowers the material, and so does a traverse that may touch it.
     /// Motions without a tool change nothing.
-    pub(crate) fn follow(&mut self, tool: &Option<Tool>, action: &Action) -> Option<PartTouch>
+    pub(crate) fn follow(
+        &mut self,
+        tool: &Option<Tool>,
+        discs: &[Cylinder],
+        action: &Action,
+    ) -> Option<PartTouch>
         requires { IsTrue (is_action_reached action.now) }
         ensures stock { self.new.stock ≡ self.old.stock }
         ensures none { IfNone result
-            (IsStep self.old.stock tool.now action.now self.old.heights.items self.new.heights.items) }
+            (IsStep self.old.stock discs.now tool.now action.now self.old.heights.items self.new.heights.items) }
         ensures some { IfSome result
-            (λ f. IsTouched self.old.stock tool.now action.now self.old.heights.items self.new.heights.items f.part f.touch) }
+            (λ f. IsTouched self.old.stock discs.now tool.now action.now self.old.heights.items self.new.heights.items f.part f.touch) }
     {
         match (tool, action) {
-            (Some(tool), Action::Move(motion)) => self.follow_motion(tool, motion),
+            (Some(tool), Action::Move(motion)) => self.follow_motion(tool, discs, motion),
             _ => None,
         }
     }
 
-    fn follow_motion(&mut self, tool: &Tool, motion: &Motion) -> Option<PartTouch>
+    fn follow_motion(
+        &mut self,
+        tool: &Tool,
+        discs: &[Cylinder],
+        motion: &Motion,
+    ) -> Option<PartTouch>
         requires { IsTrue (is_way_reached motion.now.way) }
         ensures stock { self.new.stock ≡ self.old.stock }
         ensures none { IfNone result
-            (IsMotion self.old.stock tool.now motion.now.way motion.now.pace self.old.heights.items self.new.heights.items) }
+            (IsMotion self.old.stock discs.now tool.now motion.now.way motion.now.pace self.old.heights.items self.new.heights.items) }
         ensures some { IfSome result
-            (λ f. IsTouchedOn self.old.stock tool.now motion.now.way motion.now.pace self.old.heights.items self.new.heights.items f.part f.touch) }
+            (λ f. IsTouchedOn self.old.stock discs.now tool.now motion.now.way motion.now.pace self.old.heights.items self.new.heights.items f.part f.touch) }
     {
         match motion.pace {
-            Pace::Rapid => self.follow_rapid(tool, &motion.way),
+            Pace::Rapid => self.follow_rapid(tool, discs, &motion.way),
             Pace::Feed(_) => {
-                self.follow_feed(tool, &motion.way);
+                self.follow_feed(discs, &motion.way);
                 None
             }
         }
     }
 
-    fn follow_rapid(&mut self, tool: &Tool, way: &Way) -> Option<PartTouch>
+    fn follow_rapid(&mut self, tool: &Tool, discs: &[Cylinder], way: &Way) -> Option<PartTouch>
         requires { IsTrue (is_way_reached way.now) }
         ensures stock { self.new.stock ≡ self.old.stock }
         ensures none { IfNone result
-            (IsMotion self.old.stock tool.now way.now Pace.Rapid self.old.heights.items self.new.heights.items) }
+            (IsMotion self.old.stock discs.now tool.now way.now Pace.Rapid self.old.heights.items self.new.heights.items) }
         ensures some { IfSome result
-            (λ f. IsTouchedOn self.old.stock tool.now way.now Pace.Rapid self.old.heights.items self.new.heights.items f.part f.touch) }
+            (λ f. IsTouchedOn self.old.stock discs.now tool.now way.now Pace.Rapid self.old.heights.items self.new.heights.items f.part f.touch) }
     {
         match way {
             Way::Line { start, end } => {
                 let (start, end) = (*start, *end);
-                self.traverse(tool, &Line { start, end })
+                self.traverse(tool, discs, &Line { start, end })
             }
             Way::Arc(_) => None,
         }
     }
 
-    fn follow_feed(&mut self, tool: &Tool, way: &Way)
+    fn follow_feed(&mut self, discs: &[Cylinder], way: &Way)
         requires { IsTrue (is_way_reached way.now) }
         ensures stock { self.new.stock ≡ self.old.stock }
-        ensures cut { (f : Feed) →
-            IsMotion self.old.stock tool.now way.now (Pace.Feed f) self.old.heights.items self.new.heights.items }
+        ensures cut { (t : Tool) (f : Feed) →
+            IsMotion self.old.stock discs.now t way.now (Pace.Feed f) self.old.heights.items self.new.heights.items }
     {
         match way {
             Way::Line { start, end } => {
                 let (start, end) = (*start, *end);
-                self.feed(tool, &Line { start, end });
+                self.feed(discs, &Line { start, end });
             }
-            Way::Arc(arc) => self.feed_arc(tool, arc),
+            Way::Arc(arc) => self.feed_arc(discs, arc),
         }
     }
 
-    fn traverse(&mut self, tool: &Tool, line: &Line) -> Option<PartTouch>
+    fn traverse(&mut self, tool: &Tool, discs: &[Cylinder], line: &Line) -> Option<PartTouch>
         requires start { IsTrue (is_reached line.now.start) }
         requires end { IsTrue (is_reached line.now.end) }
         ensures stock { self.new.stock ≡ self.old.stock }
         ensures none { IfNone result
-            (IsMotion self.old.stock tool.now (Way.Line line.now.start line.now.end) Pace.Rapid self.old.heights.items self.new.heights.items) }
+            (IsMotion self.old.stock discs.now tool.now (Way.Line line.now.start line.now.end) Pace.Rapid self.old.heights.items self.new.heights.items) }
         ensures some { IfSome result
-            (λ f. IsTouchedOn self.old.stock tool.now (Way.Line line.now.start line.now.end) Pace.Rapid self.old.heights.items self.new.heights.items f.part f.touch) }
+            (λ f. IsTouchedOn self.old.stock discs.now tool.now (Way.Line line.now.start line.now.end) Pace.Rapid self.old.heights.items self.new.heights.items f.part f.touch) }
     {
-        let touch = first_touch(&self.stock, self.heights.as_slice(), tool, 0, line);
+        let touch = first_touch(&self.stock, self.heights.as_slice(), tool, discs, line);
         if touch.is_some() {
-            self.feed(tool, line);
+            self.feed(discs, line);
         }
         touch
     }
 
-    fn feed(&mut self, tool: &Tool, line: &Line)
+    fn feed(&mut self, discs: &[Cylinder], line: &Line)
         requires start { IsTrue (is_reached line.now.start) }
         requires end { IsTrue (is_reached line.now.end) }
         ensures stock { self.new.stock ≡ self.old.stock }
-        ensures cut { AreCut self.old.stock tool.now line.now.start line.now.end self.old.heights.items self.new.heights.items }
+        ensures cut { AreDiscsCut self.old.stock discs.now line.now.start line.now.end self.old.heights.items self.new.heights.items }
     {
-        cut(&self.stock, self.heights.as_mut_slice(), tool, line);
+        cut_discs(&self.stock, self.heights.as_mut_slice(), discs, line);
     }
 
-    fn feed_arc(&mut self, tool: &Tool, arc: &Arc)
+    fn feed_arc(&mut self, discs: &[Cylinder], arc: &Arc)
         requires { IsTrue (is_reached arc.now.end) }
         ensures stock { self.new.stock ≡ self.old.stock }
-        ensures cut { IsArcCut self.old.stock tool.now arc.now self.old.heights.items self.new.heights.items }
+        ensures cut { AreArcsCut self.old.stock discs.now arc.now self.old.heights.items self.new.heights.items }
     {
-        cut_arc(&self.stock, self.heights.as_mut_slice(), tool, arc);
+        cut_arcs(&self.stock, self.heights.as_mut_slice(), discs, arc);
     }
 
     /// Returns where a part of the mounted tool above the cutter may touch the material, if an action is
@@ -181,47 +191,43 @@ impl<A: Allocator> Material<A> {
             Way::Line { start, end } => {
                 let (start, end) = (*start, *end);
                 let line = Line { start, end };
-                first_touch(&self.stock, self.heights.as_slice(), tool, 1, &line)
+                upper_touch(&self.stock, self.heights.as_slice(), tool, &line)
             }
             Way::Arc(_) => None,
         }
     }
 
-    /// Returns how deep an action with the mounted tool cuts in the material, if it is a straight feed,
-    /// or else 0.
-    pub(crate) fn depth(&self, tool: &Option<Tool>, action: &Action) -> u64
+    /// Returns how deep an action with the mounted tool and the discs of its cutter cuts in the material, if it
+    /// is a straight feed, or else 0.
+    pub(crate) fn depth(&self, tool: &Option<Tool>, discs: &[Cylinder], action: &Action) -> u64
         requires { IsTrue (is_action_reached action.now) }
-        ensures { IsDepthOf self.now.stock tool.now action.now self.now.heights.items result }
+        ensures { IsDepthOf self.now.stock discs.now tool.now action.now self.now.heights.items result }
     {
         match (tool, action) {
-            (Some(tool), Action::Move(motion)) => self.motion_depth(tool, motion),
+            (Some(tool), Action::Move(motion)) => self.motion_depth(tool, discs, motion),
             _ => 0,
         }
     }
 
-    fn motion_depth(&self, tool: &Tool, motion: &Motion) -> u64
+    fn motion_depth(&self, tool: &Tool, discs: &[Cylinder], motion: &Motion) -> u64
         requires { IsTrue (is_way_reached motion.now.way) }
-        ensures { IsDepthOn self.now.stock tool.now motion.now.way motion.now.pace self.now.heights.items result }
+        ensures { IsDepthOn self.now.stock discs.now tool.now motion.now.way motion.now.pace self.now.heights.items result }
     {
         match motion.pace {
             Pace::Rapid => 0,
-            Pace::Feed(_) => self.feed_depth(tool, &motion.way),
+            Pace::Feed(_) => self.feed_depth(tool, discs, &motion.way),
         }
     }
 
-    fn feed_depth(&self, tool: &Tool, way: &Way) -> u64
+    fn feed_depth(&self, tool: &Tool, discs: &[Cylinder], way: &Way) -> u64
         requires { IsTrue (is_way_reached way.now) }
-        ensures { (f : Feed) → IsDepthOn self.now.stock tool.now way.now (Pace.Feed f) self.now.heights.items result }
+        ensures { (f : Feed) → IsDepthOn self.now.stock discs.now tool.now way.now (Pace.Feed f) self.now.heights.items result }
     {
         match way {
             Way::Line { start, end } => {
                 let (start, end) = (*start, *end);
-                depth_of(
-                    &self.stock,
-                    self.heights.as_slice(),
-                    tool,
-                    &Line { start, end },
-                )
+                let (stock, heights) = (&self.stock, self.heights.as_slice());
+                greatest_depth(stock, heights, tool, discs, &Line { start, end })
             }
             Way::Arc(_) => 0,
         }

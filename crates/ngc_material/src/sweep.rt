@@ -5,21 +5,20 @@ ghost use Rattle.ngc_cells.specs.Stretches.{IsSpot, IsStretch};
 ghost use Rattle.ngc_cells.specs.Grids.{IsGrid};
 ghost use Rattle.ngc_stock.specs.Stocks.{sigma};
 ghost use Rattle.ngc_stock.specs.Arcs.{upper_tip, chord};
-ghost use Rattle.ngc_stock.specs.Walk.{IsArcCut};
+ghost use Rattle.ngc_stock.specs.Walk.{AreArcsCut, IsArcCut};
 ghost use Rattle.ngc_material.specs.Chords.{IsSwept, AreSomeCut};
-ghost use Rattle.ngc_material.specs.Heights.{AreHeights, is_reached};
+ghost use Rattle.ngc_material.specs.Heights.{AreHeights, AreWithin, is_reached};
 
 use crate::chord::{Band, Sector};
 use crate::cutter::{level_of, sigma};
-use crate::cutting::cut;
+use crate::cutting::cut_disc;
 use crate::line::Line;
 use crate::spoke::Spoke;
 use crate::touch::tested_radius;
 use ngc_arc_geometry::Arc;
 use ngc_cells::{Grid, Spot, Stretch, lower};
 use ngc_fixed_length::{Nm, Point2, Turn};
-use ngc_machine_files::Tool;
-use ngc_stock::Stock;
+use ngc_stock::{Cylinder, Stock};
 
 /// How many chords half a turn can have.
 const COUNTS: [u32; 15] = [
@@ -73,14 +72,14 @@ impl Piece {
     }
 }
 
-/// Returns the height of the tip at the higher end of an arc.
-fn upper_tip(tool: &Tool, arc: &Arc) -> i64
-    ensures { result ≡ upper_tip tool.now arc.now }
+/// Returns the height of a cylinder's foot at the higher end of an arc.
+fn upper_tip(cylinder: &Cylinder, arc: &Arc) -> i64
+    ensures { result ≡ upper_tip cylinder.now arc.now }
 {
     let first = arc.start().z.nanometres();
     let last = arc.end().z.nanometres();
     let highest = first.max(last);
-    highest + tool.bottom.nanometres()
+    highest + cylinder.bottom.nanometres()
 }
 
 fn is_near(spot: &Spot) -> bool
@@ -128,34 +127,34 @@ fn room(grid: &Grid, inner: u64, outer: u64) -> u64
     }
 }
 
-/// An arc along which a tool's cutter lowers the cells of a stock.
+/// An arc along which a disc of a cutter lowers the cells of a stock.
 #[derive(Clone, Copy)]
 pub(crate) struct Sweep {
     stock: Stock,
-    tool: Tool,
+    cylinder: Cylinder,
     arc: Arc,
     sector: Sector,
     band: Band,
     /// How far the chords may be from the arc's circles.
     room: u64,
-    /// The radius of the cutter, smaller by the room and half the diagonal of a cell.
+    /// The radius of the disc, smaller by the room and half the diagonal of a cell.
     radius: u32,
     level: u32,
-    ghost holds: { IsSwept stock tool arc sector band room radius level },
+    ghost holds: { IsSwept stock cylinder arc sector band room radius level },
 }
 
 impl Sweep {
     /// Returns an arc with what is to know of it, or `None` if it lowers nothing for sure: if it is in
-    /// another plane, above the stock or beside it, or if the cutter is too thin.
-    fn of(stock: &Stock, tool: &Tool, arc: &Arc) -> Option<Sweep>
+    /// another plane, above the stock or beside it, or if the disc is too thin.
+    fn of(stock: &Stock, cylinder: &Cylinder, arc: &Arc) -> Option<Sweep>
         requires { IsGrid stock.now.grid }
-        ensures { IfSome result (λ w. (w.stock ≡ stock.now) × (w.tool ≡ tool.now) × (w.arc ≡ arc.now)) }
+        ensures { IfSome result (λ w. (w.stock ≡ stock.now) × (w.cylinder ≡ cylinder.now) × (w.arc ≡ arc.now)) }
     {
-        let level = level_of(stock, upper_tip(tool, arc));
+        let level = level_of(stock, upper_tip(cylinder, arc));
         if stock.height <= level {
             return None;
         }
-        let tested = tested_radius(&stock.grid, tool)?;
+        let tested = tested_radius(&stock.grid, cylinder)?;
         let (inner, outer) = (arc.inner_radius(), arc.outer_radius());
         let room = room(&stock.grid, inner, outer);
         let radius = tested + (sigma(&stock.grid) - room) as u32;
@@ -165,7 +164,7 @@ impl Sweep {
         let sector = Sector::of(arc)?;
         Some(Sweep {
             stock: *stock,
-            tool: *tool,
+            cylinder: *cylinder,
             arc: *arc,
             sector,
             band: Band {
@@ -201,7 +200,7 @@ impl Sweep {
     /// Lowers the cells near a chord, if it follows the arc.
     fn cut_chord(&self, heights: &mut [u32], first: &Spoke, last: &Spoke)
         requires { AreHeights self.now.stock heights.old }
-        ensures { AreSomeCut self.now.stock self.now.tool self.now.arc heights.old heights.new }
+        ensures { AreSomeCut self.now.stock self.now.cylinder self.now.arc heights.old heights.new }
     {
         if !self.band.has(&self.sector, first, last) {
             return;
@@ -214,7 +213,7 @@ impl Sweep {
 
     fn cut_piece(&self, heights: &mut [u32], first: Spoke, last: Spoke)
         requires { AreHeights self.now.stock heights.old }
-        ensures { AreSomeCut self.now.stock self.now.tool self.now.arc heights.old heights.new }
+        ensures { AreSomeCut self.now.stock self.now.cylinder self.now.arc heights.old heights.new }
     {
         // A little less, since the other chords differ by roundings.
         let spare = self.room / 8;
@@ -243,7 +242,7 @@ impl Sweep {
     /// Lowers the cells near the arc's chords: of one or two pieces of at most half a turn.
     fn cut(&self, heights: &mut [u32])
         requires { AreHeights self.now.stock heights.old }
-        ensures { AreSomeCut self.now.stock self.now.tool self.now.arc heights.old heights.new }
+        ensures { AreSomeCut self.now.stock self.now.cylinder self.now.arc heights.old heights.new }
     {
         let (first, last) = match self.sector.turn {
             Turn::Counterclockwise => (self.sector.start, self.sector.end),
@@ -263,26 +262,39 @@ impl Sweep {
 }
 
 /// Lowers the cells near the chords of an arc.
-fn cut_chords(stock: &Stock, heights: &mut [u32], tool: &Tool, arc: &Arc)
+fn cut_chords(stock: &Stock, heights: &mut [u32], cylinder: &Cylinder, arc: &Arc)
     requires { AreHeights stock.now heights.old }
-    ensures { AreSomeCut stock.now tool.now arc.now heights.old heights.new }
+    ensures { AreSomeCut stock.now cylinder.now arc.now heights.old heights.new }
 {
-    match Sweep::of(stock, tool, arc) {
+    match Sweep::of(stock, cylinder, arc) {
         Some(sweep) => sweep.cut(heights),
         None => {}
     }
 }
 
-/// Lowers the cells that a cutter covers along an arc, as far as its chords show it, and at its end.
-pub(crate) fn cut_arc(stock: &Stock, heights: &mut [u32], tool: &Tool, arc: &Arc)
+// Lowers the cells that a disc covers along an arc, as far as its chords show it, and at its end.
+fn cut_arc(stock: &Stock, heights: &mut [u32], cylinder: &Cylinder, arc: &Arc)
     requires heights { AreHeights stock.now heights.old }
+    requires within { AreWithin stock.now heights.old }
     requires end { IsTrue (is_reached arc.now.end) }
-    ensures { IsArcCut stock.now tool.now arc.now heights.old heights.new }
+    ensures { IsArcCut stock.now cylinder.now arc.now heights.old heights.new }
 {
-    cut_chords(stock, heights, tool, arc);
+    cut_chords(stock, heights, cylinder, arc);
     let line = Line {
         start: arc.end(),
         end: arc.end(),
     };
-    cut(stock, heights, tool, &line);
+    cut_disc(stock, heights, cylinder, &line);
+}
+
+/// Lowers the cells that the discs of a cutter cover along an arc, one disc after another.
+pub(crate) fn cut_arcs(stock: &Stock, heights: &mut [u32], discs: &[Cylinder], arc: &Arc)
+    requires heights { AreHeights stock.now heights.old }
+    requires within { AreWithin stock.now heights.old }
+    requires end { IsTrue (is_reached arc.now.end) }
+    ensures { AreArcsCut stock.now discs.now arc.now heights.old heights.new }
+{
+    for disc in discs {
+        cut_arc(stock, heights, disc, arc);
+    }
 }

@@ -9,10 +9,11 @@ ghost use Rattle.ngc_material.specs.Walks.{AreFound, IsFollowed, IsTested};
 use crate::change::tool_number;
 use crate::cuts::measure;
 use crate::material::Material;
+use crate::mounted::Mounted;
 use crate::reach::are_reached;
 use crate::touch::{PartTouch, Touch};
 use ngc_commands::{Command, Reached};
-use ngc_machine_files::Tool;
+use ngc_file_figures::ToolLimits;
 use ngc_stock::{Cut, Stock};
 use std::alloc::{AllocError, Allocator};
 
@@ -55,16 +56,18 @@ pub enum WalkFault {
 fn follow<A: Allocator>(
     material: &mut Material<A>,
     traverses: &mut Vec<Found, A>,
-    tool: &Option<Tool>,
+    mounted: &Mounted<A>,
     index: usize,
     command: &Command,
 ) -> Result<(), AllocError>
     requires { IsTrue (is_action_reached command.now.action) }
     ensures stock { OnOk result (material.new.stock ≡ material.old.stock) }
-    ensures found { OnOk result (IsFollowed material.old.stock tool.now index command.now
+    ensures found { OnOk result (IsFollowed material.old.stock mounted.now.discs.items mounted.now.reached.tool index command.now
         material.old.heights.items material.new.heights.items traverses.old.items traverses.new.items) }
 {
-    if let Some(PartTouch { part, touch }) = material.follow(tool, &command.action) {
+    let tool = &mounted.reached.tool;
+    let discs = mounted.discs.as_slice();
+    if let Some(PartTouch { part, touch }) = material.follow(tool, discs, &command.action) {
         traverses.push(Found {
             command: index,
             line: command.line,
@@ -81,14 +84,15 @@ fn follow<A: Allocator>(
 fn test<A: Allocator>(
     material: &Material<A>,
     feeds: &mut Vec<Found, A>,
-    tool: &Option<Tool>,
+    mounted: &Mounted<A>,
     index: usize,
     command: &Command,
 ) -> Result<(), AllocError>
     requires { IsTrue (is_action_reached command.now.action) }
-    ensures { OnOk result (IsTested material.now.stock tool.now index command.now
+    ensures { OnOk result (IsTested material.now.stock mounted.now.reached.tool index command.now
         material.now.heights.items feeds.old.items feeds.new.items) }
 {
+    let tool = &mounted.reached.tool;
     if let Some(PartTouch { part, touch }) = material.test(tool, &command.action) {
         feeds.push(Found {
             command: index,
@@ -102,50 +106,60 @@ fn test<A: Allocator>(
 }
 
 /// Returns the straight motions of a program that may touch material: `commands` are the program's
-/// commands at a setting of block delete, from a state with the material uncut. A traverse is tested
-/// with each part of the tool; if it is found, it then counts as a feed. A feed is tested with the parts
-/// above the cutter in the material that it leaves. An arc isn't tested, but cuts. Motions without a tool
-/// are left out. Of each tool the deepest straight feed is returned too, in the material before it.
+/// commands at a setting of block delete, from a state with the material uncut. A cutter is the discs of
+/// the shape that `table` says of its tool, or a flat one. A traverse is tested with each disc and each part
+/// above the cutter; if it is found, it then counts as a feed. A feed is tested with the parts above the
+/// cutter in the material that it leaves. An arc isn't tested, but cuts. Motions without a tool are left out.
+/// Of each tool the deepest straight feed is returned too, in the material before it.
 ///
 /// It fails if memory is refused, or if the end of a motion is far from the machine's zero.
 pub fn find_touches<A: Allocator + Copy>(
     alloc: A,
     stock: &Stock,
+    table: &[ToolLimits],
     start: &Reached,
     commands: &[Command],
 ) -> Result<Touches<A>, WalkFault>
     requires { IsGrid stock.now.grid }
-    ensures found { IfOk result (λ v. AreFound stock.now start.now (uncut stock.now) 0 commands.now v.traverses.items v.feeds.items) }
-    ensures cuts { IfOk result (λ v. AreCuts stock.now start.now (uncut stock.now) 0 commands.now v.traverses.items [] v.cuts.items) }
+    ensures found { IfOk result (λ v. AreFound stock.now table.now start.now (uncut stock.now) 0 commands.now v.traverses.items v.feeds.items) }
+    ensures cuts { IfOk result (λ v. AreCuts stock.now table.now start.now (uncut stock.now) 0 commands.now v.traverses.items [] v.cuts.items) }
     ensures near { IfOk result (λ v. IsTrue (are_reached commands.now)) }
     ensures far { IfErr result (λ e. (e ≡ WalkFault.Far) ↔ ¬ (IsTrue (are_reached commands.now))) }
 {
     if !are_reached(commands) {
         return Err(WalkFault::Far);
     }
-    let Ok(mut material) = Material::new(alloc, stock) else {
-        return Err(WalkFault::Memory);
-    };
+    match walk(alloc, stock, table, start, commands) {
+        Ok(touches) => Ok(touches),
+        Err(_) => Err(WalkFault::Memory),
+    }
+}
+
+// Walks over commands whose motions end near the machine's zero. It fails if memory is refused.
+fn walk<A: Allocator + Copy>(
+    alloc: A,
+    stock: &Stock,
+    table: &[ToolLimits],
+    start: &Reached,
+    commands: &[Command],
+) -> Result<Touches<A>, AllocError>
+    requires grid { IsGrid stock.now.grid }
+    requires near { IsTrue (are_reached commands.now) }
+    ensures found { IfOk result (λ v. AreFound stock.now table.now start.now (uncut stock.now) 0 commands.now v.traverses.items v.feeds.items) }
+    ensures cuts { IfOk result (λ v. AreCuts stock.now table.now start.now (uncut stock.now) 0 commands.now v.traverses.items [] v.cuts.items) }
+{
+    let mut material = Material::new(alloc, stock)?;
+    let mut mounted = Mounted::new(alloc, table, start)?;
     let mut traverses = Vec::new(alloc);
     let mut feeds = Vec::new(alloc);
     let mut cuts = Vec::new(alloc);
-    let mut reached = *start;
     let mut left = commands;
     while let Some((command, later)) = left.split_first() {
         let index = commands.len() - left.len();
-        match measure(&material, &mut cuts, &reached.tool, index, command) {
-            Ok(()) => {}
-            Err(_) => return Err(WalkFault::Memory),
-        }
-        match follow(&mut material, &mut traverses, &reached.tool, index, command) {
-            Ok(()) => {}
-            Err(_) => return Err(WalkFault::Memory),
-        }
-        match test(&material, &mut feeds, &reached.tool, index, command) {
-            Ok(()) => {}
-            Err(_) => return Err(WalkFault::Memory),
-        }
-        reached = reached.after(&command.action);
+        measure(&material, &mut cuts, &mounted, index, command)?;
+        follow(&mut material, &mut traverses, &mounted, index, command)?;
+        test(&material, &mut feeds, &mounted, index, command)?;
+        mounted.advance(alloc, table, &command.action)?;
         left = later;
     }
     Ok(Touches {

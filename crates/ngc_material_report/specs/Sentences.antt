@@ -3,6 +3,7 @@
 use Rattle.std.specs.Prelude.{ℕ, ◌+◌, ◌-◌, ◌*◌, ◌/◌, ◌==◌, nat_lt, ◌-ℤ◌, unsigned_abs, List, [], ◌∷◌, ◌++◌, codes, decimal, length, take, slice_get, flat_map, Option, Some, None, if◌then◌else◌}
 use Rattle.ngc_text.specs.Millimetres.{sign_text, size_text}
 use Rattle.ngc_machine_files.specs.declared.tools.Tool.{Tool}
+use Rattle.ngc_machine_files.specs.Tools.{tool_at}
 use Rattle.ngc_commands.specs.declared.command.Command.{Command}
 use Rattle.ngc_commands.specs.declared.reached.Reached.{Reached}
 use Rattle.ngc_cells.specs.declared.grid.Grid.{Grid}
@@ -13,7 +14,7 @@ use Rattle.ngc_stock.specs.declared.cut.Cut.{Cut}
 use Rattle.ngc_stock.specs.declared.stock.Stock.{Stock}
 use Rattle.ngc_stock.specs.Below.{all_below}
 use Rattle.ngc_stock.specs.Changes.{changes}
-use Rattle.ngc_stock.specs.Stocks.{margin, radius, reduction}
+use Rattle.ngc_stock.specs.Stocks.{first_part, lowest_part, margin, radius, reduction}
 use Rattle.ngc_material.specs.declared.walk.Found.{Found}
 use Rattle.ngc_material_report.specs.declared.touches.Kind.{Kind}
 use Rattle.ngc_material_report.specs.declared.touches.Kind.TheVariants.{Traverse, Feed}
@@ -187,23 +188,55 @@ depths_text form origin s r commands =
 
 -- ---- how deep straight feeds cut
 
-unfoldable pub cut_words : Cut → List ℕ
-cut_words c =
+-- how long a tool's cutter is, its lowest part
+abbrev pub cutter_length : Tool → ℕ
+cutter_length t = unsigned_abs (first_part t.parts).length
+
+-- the length of the cutter, if it is shorter than the tool's deepest feed cuts
+abbrev pub shorter : Cut → Option Tool → Option ℕ
+shorter c None = None
+shorter c (Some t) = if nat_lt (cutter_length t) c.depth then Some (cutter_length t) else None
+
+abbrev pub short_cutter : List Tool → Cut → Option ℕ
+short_cutter tools c = shorter c (tool_at tools c.tool)
+
+unfoldable pub length_words : ℕ → List ℕ
+length_words l = codes " Its cutter is only " ++ size_text l ++ codes " mm long."
+
+abbrev pub short_words : Option ℕ → List ℕ
+short_words None = []
+short_words (Some l) = length_words l
+
+unfoldable pub depth_sentence : Cut → List ℕ
+depth_sentence c =
     codes "With tool " ++ decimal c.tool ++ codes " straight feeds cut at most " ++ size_text c.depth
-    ++ codes " mm deep, the deepest in line " ++ decimal c.line ++ codes ".\n"
+    ++ codes " mm deep, the deepest in line " ++ decimal c.line ++ codes "."
 
-unfoldable pub cut_fact : Cut → List ℕ
-cut_fact c =
+unfoldable pub cut_words : List Tool → Cut → List ℕ
+cut_words tools c = depth_sentence c ++ (short_words (short_cutter tools c) ++ codes "\n")
+
+unfoldable pub length_value : ℕ → List ℕ
+length_value l = codes ",\"cutter\":" ++ decimal l
+
+abbrev pub short_value : Option ℕ → List ℕ
+short_value None = []
+short_value (Some l) = length_value l
+
+unfoldable pub depth_values : Cut → List ℕ
+depth_values c =
     codes ",\n{\"fact\":\"material_cut\"," ++ (command_fact c.line c.command c.tool
-    ++ (codes ",\"depth\":" ++ decimal c.depth ++ codes "}"))
+    ++ (codes ",\"depth\":" ++ decimal c.depth))
 
-abbrev pub cut_text : Form → Cut → List ℕ
-cut_text Words c = cut_words c
-cut_text Json c = cut_fact c
+unfoldable pub cut_fact : List Tool → Cut → List ℕ
+cut_fact tools c = depth_values c ++ (short_value (short_cutter tools c) ++ codes "}")
+
+abbrev pub cut_text : Form → List Tool → Cut → List ℕ
+cut_text Words tools c = cut_words tools c
+cut_text Json tools c = cut_fact tools c
 
 -- one of each tool
-abbrev pub cuts_text : Form → List Cut → List ℕ
-cuts_text form cuts = flat_map (cut_text form) cuts
+abbrev pub cuts_text : Form → List Tool → List Cut → List ℕ
+cuts_text form tools cuts = flat_map (cut_text form tools) cuts
 
 -- ---- what isn't tested
 
@@ -242,7 +275,7 @@ thin_line Json g t = thin_fact t
 
 -- of a tool that is too thin
 abbrev pub thin_text : Form → Grid → Tool → List ℕ
-thin_text form g t = if nat_lt (radius t) (reduction g) then thin_line form g t else []
+thin_text form g t = if nat_lt (radius (lowest_part t)) (reduction g) then thin_line form g t else []
 
 abbrev pub untested_text : Form → Grid → List Tool → List Cut → List ℕ
 untested_text form g tools cuts = margin_line form g cuts ++ flat_map (thin_text form g) tools

@@ -4,7 +4,7 @@
 //! stock without a tool. Its lines are `stock` with the number of a stock, `tool` with a number, of which
 //! 0 is none, and `traverse` or `feed` with the coordinates of an end, in nanometres of the machine. The
 //! line `untested` prints what isn't tested. With the line `depths` a program also prints how deep its
-//! feeds cut with each tool.
+//! feeds cut with each tool. With the line `shapes` the cutters have those of `stocks::shapes`.
 #![tactic(auto)]
 
 mod stocks;
@@ -15,6 +15,7 @@ ghost use Rattle.ngc_arc_geometry.specs.Shape.{IsNear};
 use ngc_arc_geometry::{Arc, Ends, Offsets};
 use ngc_cells::Spot;
 use ngc_commands::{Action, Command, Feed, Motion, Pace, Reached, Way};
+use ngc_file_figures::ToolLimits;
 use ngc_fixed_length::{Nm, Plane, Point3, Turn, Units};
 use ngc_machine_files::Tool;
 use ngc_material::{Touches, WalkFault, find_touches};
@@ -23,7 +24,7 @@ use ngc_report::Form;
 use ngc_text::{Device, Sink, WriteFault, write_all};
 use std::alloc::{Allocator, Global};
 use std::io;
-use stocks::{numbered, origin_of, tools};
+use stocks::{numbered, origin_of, shapes, tools};
 
 // Returns whether a point is within 90 metres of zero on each axis.
 fn is_near(point: &Point3) -> bool
@@ -44,6 +45,8 @@ struct Program {
     is_cut: bool,
     /// Whether the depths of cuts are printed.
     has_depths: bool,
+    /// Whether the cutters have shapes.
+    has_shapes: bool,
 }
 
 fn origin() -> Point3 {
@@ -90,6 +93,7 @@ impl Program {
             commands: Vec::new(alloc),
             is_cut: false,
             has_depths: false,
+            has_shapes: false,
         }
     }
 
@@ -184,10 +188,12 @@ impl Program {
             return write_all(output, b"  no memory\n");
         }
         let stock = numbered(self.stock);
-        match find_touches(alloc, &stock, &start, self.commands.as_slice()) {
+        let shapes = shapes();
+        let table: &[ToolLimits] = if self.has_shapes { &shapes } else { &[] };
+        match find_touches(alloc, &stock, table, &start, self.commands.as_slice()) {
             Ok(touches) => {
                 match write_found(&origin_of(self.stock), &touches, output) {
-                    Ok(()) => self.write_depths(&touches, output),
+                    Ok(()) => self.write_depths(alloc, &touches, output),
                     Err(fault) => Err(fault),
                 }
             }
@@ -198,6 +204,7 @@ impl Program {
 
     fn write_depths<W: Sink>(
         &self,
+        alloc: Global,
         touches: &Touches<Global>,
         output: &mut W,
     ) -> Result<(), WriteFault> {
@@ -205,8 +212,12 @@ impl Program {
         if !self.has_depths || cuts.is_empty() {
             return Ok(());
         }
-        match write_cuts(Form::Words, cuts, output) {
-            Ok(()) => end_line(write_cuts(Form::Json, cuts, output), output),
+        let Some(table) = tools(alloc) else {
+            return write_all(output, b"  no memory\n");
+        };
+        let tools = table.tools();
+        match write_cuts(Form::Words, tools, cuts, output) {
+            Ok(()) => end_line(write_cuts(Form::Json, tools, cuts, output), output),
             Err(fault) => Err(fault),
         }
     }
@@ -275,6 +286,8 @@ fn main(rt: HostRuntime) -> io::Result<()> {
             program = Program::new(alloc);
         } else if text == "depths" {
             program.has_depths = true;
+        } else if text == "shapes" {
+            program.has_shapes = true;
         } else if text == "untested" {
             written(write_all_limits(program.stock, alloc, &mut output))?;
         } else if !program.take_text(alloc, number, text) {

@@ -2,6 +2,7 @@
 ghost use Rattle.ngc_cells.specs.Grids.{IsGrid};
 
 use ngc_cells::{Grid, Spot};
+use ngc_file_figures::{Cutter, ToolLimits};
 use ngc_machine_files::Tools;
 use ngc_stock::Stock;
 use std::alloc::Global;
@@ -13,6 +14,29 @@ const TOOLS: &str = "version = 2\n
 [[tool]]\nnumber = 4\noffset = 0\nbottom = -3\nparts = [{ length = 20000000, radius = 700007 }]\n
 [[tool]]\nnumber = 5\noffset = 0\nbottom = 0\nparts = [{ length = 3000000, radius = 3000000 }, { length = 17000000, radius = 10000000 }]\n
 [[tool]]\nnumber = 6\noffset = 0\nbottom = 0\nparts = [{ length = 3000000, radius = 3000000 }, { length = 17000000, radius = 3000000 }, { length = 10000000, radius = 10000000 }]\n";
+
+fn shape(number: u32, cutter: Cutter, cone: Option<u32>) -> ToolLimits {
+    ToolLimits {
+        number,
+        cutter: Some(cutter),
+        cone,
+        speed: None,
+        feed: None,
+        plunge: None,
+    }
+}
+
+/// Returns the shapes of five tools: tool 1 is a ball, tool 2 a vee of 90 degrees, tool 3 a drill, tool 5 a vee
+/// with a cone of 3 mm, and tool 6 is flat.
+pub(crate) fn shapes() -> [ToolLimits; 5] {
+    [
+        shape(1, Cutter::Ball, None),
+        shape(2, Cutter::Vee, None),
+        shape(3, Cutter::Drill, None),
+        shape(5, Cutter::Vee, Some(3_000_000)),
+        shape(6, Cutter::Flat, None),
+    ]
+}
 
 /// Returns six tools: 6 mm wide; 3 mm wide, 20 mm long and with a holder; 1 mm wide; 1.4 mm wide; two of 6 mm
 /// whose cutter is 3 mm long, the first with a holder on it, the second with a shank between.

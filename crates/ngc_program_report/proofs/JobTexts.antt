@@ -21,6 +21,7 @@ use Rattle.ngc_program_report.specs.Framed.{FramedData, framed_in, frames_at, fr
 use Rattle.ngc_program_report.specs.JobReports.{IsFitText, IsRefusalsText, IsStartClear, OffBegins, OnBegins, first_text}
 use Rattle.ngc_program_report.specs.Reported.{ReportedLines}
 use Rattle.ngc_program_report.specs.Texts.{AreFindings, Findings, accepted_text, fits_text, is_on, refusal_text, refusals_text}
+use Rattle.ngc_file_figures.specs.declared.limits.ToolLimits.{ToolLimits}
 use Rattle.ngc_stock_report.specs.Walked.{IsWalked, WalkData}
 use Rattle.ngc_program_report.specs.declared.framed.FramedJob.{FramedJob}
 
@@ -38,26 +39,26 @@ alike off None is = refl
 alike off (Some on) is = absurd (cc is)
 
 -- what a walk finds in the commands of an equal program
-pub walked_as : (cells : ℕ) (a other : AcceptedData) (found : Option WalkData) (b : Bool) → a ≡ other → IsWalked cells a.machine (commands_at b a) found
-    → IsWalked cells other.machine (commands_at b other) found
-walked_as cells a other found b is walked = subst (λ (x : AcceptedData). IsWalked cells x.machine (commands_at b x) found) is walked
+pub walked_as : (cells : ℕ) (table : List ToolLimits) (a other : AcceptedData) (found : Option WalkData) (b : Bool) → a ≡ other → IsWalked cells table a.machine (commands_at b a) found
+    → IsWalked cells table other.machine (commands_at b other) found
+walked_as cells table a other found b is walked = subst (λ (x : AcceptedData). IsWalked cells table x.machine (commands_at b x) found) is walked
 
 -- what is found of the job is what is found of the accepted program
-pub found_off : (cells : ℕ) (a : AcceptedData) (j : JobData) (found : Findings) → a ≡ accepted_of j → AreFindings cells a.machine (commands_at false a) found
-    → AreFindings cells j.machine j.off found
-found_off cells a j found is lasts = subst (λ (x : AcceptedData). AreFindings cells x.machine (commands_at false x) found) is lasts
+pub found_off : (cells : ℕ) (table : List ToolLimits) (a : AcceptedData) (j : JobData) (found : Findings) → a ≡ accepted_of j → AreFindings cells table a.machine (commands_at false a) found
+    → AreFindings cells table j.machine j.off found
+found_off cells table a j found is lasts = subst (λ (x : AcceptedData). AreFindings cells table x.machine (commands_at false x) found) is lasts
 
-pub found_on : (cells : ℕ) (a : AcceptedData) (j : JobData) (found : Findings) → a ≡ accepted_of j → AreFindings cells a.machine (commands_at true a) found
-    → AreFindings cells j.machine (commands_in true j) found
-found_on cells a j found is lasts = subst (λ (x : AcceptedData). AreFindings cells x.machine (commands_at true x) found) is lasts
+pub found_on : (cells : ℕ) (table : List ToolLimits) (a : AcceptedData) (j : JobData) (found : Findings) → a ≡ accepted_of j → AreFindings cells table a.machine (commands_at true a) found
+    → AreFindings cells table j.machine (commands_in true j) found
+found_on cells table a j found is lasts = subst (λ (x : AcceptedData). AreFindings cells table x.machine (commands_at true x) found) is lasts
 
-pub found_alike : (cells : ℕ) (j : JobData) (found : Findings) → is_some j.on ≡ false → AreFindings cells j.machine j.off found
-    → AreFindings cells j.machine (commands_in true j) found
-found_alike cells j found none lasts = subst (λ (cs : List Command). AreFindings cells j.machine cs found) (sym (alike j.off j.on none)) lasts
+pub found_alike : (cells : ℕ) (table : List ToolLimits) (j : JobData) (found : Findings) → is_some j.on ≡ false → AreFindings cells table j.machine j.off found
+    → AreFindings cells table j.machine (commands_in true j) found
+found_alike cells table j found none lasts = subst (λ (cs : List Command). AreFindings cells table j.machine cs found) (sym (alike j.off j.on none)) lasts
 
 pub fit_text : (f : FramedData) (c : CertificateData) (form : Form) (origins : OriginList) (cells : ℕ) (apart : Bool) (a : AcceptedData)
     (off_found on_found : Findings) (off_h on_h : History) (lines : ReportedLines) → apart ≡ is_some f.job.on
-    → a ≡ accepted_of f.job → AreFindings cells f.job.machine f.job.off off_found → AreFindings cells f.job.machine (commands_in true f.job) on_found
+    → a ≡ accepted_of f.job → AreFindings cells lines.figures.tools f.job.machine f.job.off off_found → AreFindings cells lines.figures.tools f.job.machine (commands_in true f.job) on_found
     → off_h ≡ f.off → on_h ≡ f.on
     → IsFitText f c form origins cells lines (accepted_text form origins apart a c off_found on_found off_h on_h lines)
 fit_text f c form origins cells apart a off_found on_found off_h on_h lines is_apart is off_lasts on_lasts off_is on_is = record {
@@ -73,21 +74,21 @@ fit_text f c form origins cells apart a off_found on_found off_h on_h lines is_a
 -- the same for the motions of one setting, where both settings have the same commands: the frames at `On` aren't reported
 pub fit_once : {A : Type 0} (f : FramedJob A) (c : CertificateData) (form : Form) (origins : OriginList) (cells : ℕ) (a : AcceptedData) (entries : List Entry)
     (found : Findings) (lines : ReportedLines)
-    → is_some f.job.on ≡ false → a ≡ accepted_of f.job → entries ≡ c.off → AreFindings cells f.job.machine f.job.off found
+    → is_some f.job.on ≡ false → a ≡ accepted_of f.job → entries ≡ c.off → AreFindings cells lines.figures.tools f.job.machine f.job.off found
     → IsFitText (framed_in f) c form origins cells lines
     (accepted_text form origins false a (record { off = entries; on = entries }) found found (history_in f.off) (history_in f.off) lines)
 fit_once f c form origins cells a entries found lines none is are lasts =
     let h : History = history_in f.off in
     subst (IsFitText (framed_in f) c form origins cells lines)
     (sym (ap (λ (l : List Entry). accepted_text form origins false a (record { off = l; on = l }) found found h h lines) are))
-    (fit_text (framed_in f) c form origins cells false a found found h (history_in (frames_at On f)) lines (sym none) is lasts (found_alike cells f.job found none lasts)
+    (fit_text (framed_in f) c form origins cells false a found found h (history_in (frames_at On f)) lines (sym none) is lasts (found_alike cells lines.figures.tools f.job found none lasts)
     refl refl)
 
 -- and for those of each setting
 pub fit_both : {A : Type 0} (f : FramedJob A) (on_frames : FrameHistory A) (c : CertificateData) (form : Form) (origins : OriginList) (cells : ℕ) (a : AcceptedData)
     (off on : List Entry) (off_found on_found : Findings) (lines : ReportedLines)
-    → true ≡ is_some f.job.on → a ≡ accepted_of f.job → off ≡ c.off → on ≡ c.on → AreFindings cells f.job.machine f.job.off off_found
-    → AreFindings cells f.job.machine (commands_in true f.job) on_found → on_frames ≡ frames_or f.off f.on
+    → true ≡ is_some f.job.on → a ≡ accepted_of f.job → off ≡ c.off → on ≡ c.on → AreFindings cells lines.figures.tools f.job.machine f.job.off off_found
+    → AreFindings cells lines.figures.tools f.job.machine (commands_in true f.job) on_found → on_frames ≡ frames_or f.off f.on
     → IsFitText (framed_in f) c form origins cells lines
     (accepted_text form origins true a (record { off = off; on = on }) off_found on_found (history_in f.off) (history_in on_frames) lines)
 fit_both f on_frames c form origins cells a off on off_found on_found lines some is off_are on_are off_lasts on_lasts same =

@@ -32,9 +32,9 @@ use Rattle.ngc_program_report.specs.Texts.{AreFindings, Findings, fits_text, is_
 pub record IsFitText (f : FramedData) (c : CertificateData) (form : Form) (origins : OriginList)
     (cells : ℕ) (lines : ReportedLines) (text : List ℕ) : Type 0 where
   pub off_found : Findings
-  pub off_are : AreFindings cells f.job.machine f.job.off off_found
+  pub off_are : AreFindings cells lines.figures.tools f.job.machine f.job.off off_found
   pub on_found : Findings
-  pub on_are : AreFindings cells f.job.machine (commands_in true f.job) on_found
+  pub on_are : AreFindings cells lines.figures.tools f.job.machine (commands_in true f.job) on_found
   pub tells : text ≡ fits_text form origins (is_some f.job.on) (setup_in f.job) f.job.off
       (commands_in true f.job) c off_found on_found f.off f.on lines
 

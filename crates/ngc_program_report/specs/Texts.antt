@@ -45,6 +45,7 @@ use Rattle.ngc_origin_warnings.specs.Missing.{missing_text}
 use Rattle.ngc_origin_warnings.specs.Warnings.{origin_warnings}
 use Rattle.ngc_tool_figures.specs.Texts.{figures_text}
 use Rattle.ngc_tool_warnings.specs.Spelling.{tool_warnings}
+use Rattle.ngc_file_figures.specs.declared.limits.ToolLimits.{ToolLimits}
 use Rattle.ngc_stock_report.specs.Cautions.{caution_text}
 use Rattle.ngc_stock_report.specs.Texts.{material_text}
 use Rattle.ngc_stock_report.specs.Walked.{IsWalked, WalkData}
@@ -73,12 +74,12 @@ pub record Findings : Type 0 where
 abbrev pub findings : ProgramTimeData → Option WalkData → Findings
 findings time material = record { time = time; material = material }
 
--- a machine runs these commands in this time, and a walk over them, with at most `cells` cells, finds these
--- traverses
-pub record AreFindings (cells : ℕ) (machine : MachineFile) (commands : List Command) (f : Findings) :
+-- a machine runs these commands in this time, and a walk over them, with at most `cells` cells and the shapes of
+-- cutters that a table says, finds these traverses
+pub record AreFindings (cells : ℕ) (table : List ToolLimits) (machine : MachineFile) (commands : List Command) (f : Findings) :
     Type 0 where
   pub lasts : LastsFor machine commands f.time
-  pub walked : IsWalked cells machine commands f.material
+  pub walked : IsWalked cells table machine commands f.material
 
 -- the line with the time
 abbrev pub takes_words : RunTime → List ℕ

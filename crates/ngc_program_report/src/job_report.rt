@@ -24,7 +24,7 @@ ghost use Rattle.ngc_stock_report.specs.Walked.{IsWalked};
 use crate::fit_writer::{is_on, write_both, write_once};
 use crate::framed::{FramedJob, frames_or};
 use crate::refusal_writer::{is_start_refused, write_all_both, write_all_once, write_refused};
-use crate::reported::ReportedText;
+use crate::reported::{ReportedText, limits_in};
 use crate::request::ReportRequest;
 use crate::subject::{Execution, Fit, Subject};
 use crate::timing::{accept, time_of};
@@ -33,6 +33,7 @@ use ngc_certificate::{
 };
 use ngc_checker::Accepted;
 use ngc_commands::Command;
+use ngc_file_figures::ToolLimits;
 use ngc_frames::FrameHistory;
 use ngc_job::Job;
 use ngc_lowest_tips::{LowestTip, lowest_tips};
@@ -79,19 +80,21 @@ fn tips_at<A: Allocator + Copy>(
 }
 
 // Returns which traverses of an accepted program may touch material, at a setting of block delete, or
-// 900 if memory runs out. The material is divided into at most `cells` cells.
+// 900 if memory runs out. The material is divided into at most `cells` cells, and the cutters have the shapes
+// that `table` says.
 fn material_at<A: Allocator + Copy>(
     alloc: A,
     cells: u32,
+    table: &[ToolLimits],
     accepted: &Accepted<A>,
     block_delete: bool,
 ) -> Result<Option<Walk<A>>, ReportFault>
     ensures walked { IfOk result
-        (IsWalked cells accepted.now.machine (commands_at block_delete accepted.now)) }
+        (IsWalked cells table.now accepted.now.machine (commands_at block_delete accepted.now)) }
     ensures memory { IfErr result (λ fault. fault ≡ ReportFault.Memory) }
 {
     let commands = accepted.commands(block_delete);
-    match find_walk(alloc, cells, accepted.machine(), commands) {
+    match find_walk(alloc, cells, table, accepted.machine(), commands) {
         Ok(walk) => Ok(walk),
         Err(_) => Err(ReportFault::Memory),
     }
@@ -135,12 +138,13 @@ pub fn report_fit<A: Allocator + Copy, W: Sink>(
 {
     let FramedJob { job, off, on } = framed;
     let (form, origins, cells) = (request.form, &request.origins, request.cells);
+    let table = limits_in(text);
     let apart = job.has_deleted_lines();
     let accepted = accept(job, plans);
     let (off_time, accepted) = time_of(alloc, accepted, false)?;
     if !apart {
         let tips = tips_at(alloc, &off, &accepted, false)?;
-        let material = material_at(alloc, cells, &accepted, false)?;
+        let material = material_at(alloc, cells, table, &accepted, false)?;
         let motions = motions_at(&accepted, plans, Setting::Off);
         let fit = Fit {
             history: &off,
@@ -155,8 +159,8 @@ pub fn report_fit<A: Allocator + Copy, W: Sink>(
     let on_history = frames_or(&off, &on);
     let off_tips = tips_at(alloc, &off, &accepted, false)?;
     let on_tips = tips_at(alloc, on_history, &accepted, true)?;
-    let off_material = material_at(alloc, cells, &accepted, false)?;
-    let on_material = material_at(alloc, cells, &accepted, true)?;
+    let off_material = material_at(alloc, cells, table, &accepted, false)?;
+    let on_material = material_at(alloc, cells, table, &accepted, true)?;
     let off_motions = motions_at(&accepted, plans, Setting::Off);
     let on_motions = motions_at(&accepted, plans, Setting::On);
     let off_fit = Fit {

@@ -24,6 +24,7 @@ tool_sample (tools.PartDiameter n part) = samples.HolderDiameter
 tool_sample (tools.PartLength n part) = samples.HolderLength
 tool_sample (tools.Speed n) = samples.Turning
 tool_sample (tools.Feed n) = samples.Feeds
+tool_sample (tools.Point n) = samples.Diameter
 tool_sample (tools.Plunge n) = samples.Plunge
 tool_sample _ = samples.Other
 

@@ -27,6 +27,7 @@ tool_with (tools.Offset n) = sections.Tool n
 tool_with (tools.Cutter n) = sections.Tool n
 tool_with (tools.Speed n) = sections.Tool n
 tool_with (tools.Feed n) = sections.Tool n
+tool_with (tools.Point n) = sections.Tool n
 tool_with (tools.Plunge n) = sections.Tool n
 tool_with (tools.Holder n) = sections.Tool n
 tool_with (tools.Part n part) = sections.Part n part

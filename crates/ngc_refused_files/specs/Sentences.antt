@@ -149,6 +149,8 @@ tool_text tools.UnequalLength = codes "it isn't the length: describe the rest of
 tool_text tools.LongFlute = codes "it is longer than what sticks out of the holder: write a shorter one"
 tool_text tools.ManyParts = codes "cutter, shank and holder have over four parts: join parts of the holder"
 tool_text tools.NoCutter = codes "it isn't a cutter: write \"flat\", \"ball\", \"vee\" or \"drill\""
+tool_text tools.LonePoint = codes "only a vee or a drill has a point: write cutter = \"vee\", or remove it"
+tool_text tools.LongPoint = codes "it is longer than the cutter: write at most the flute"
 
 -- the whole sentence where it has no subject and no example
 abbrev pub whole_text : Wrong → List ℕ

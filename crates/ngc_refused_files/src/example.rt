@@ -40,7 +40,7 @@ fn tool_sample(key: ToolKey) -> Sample
     ensures { result ≡ spec.tool_sample key }
 {
     match key {
-        ToolKey::Diameter(_) | ToolKey::Shank(_) => Sample::Diameter,
+        ToolKey::Diameter(_) | ToolKey::Shank(_) | ToolKey::Point(_) => Sample::Diameter,
         ToolKey::Length(_) | ToolKey::Stickout(_) | ToolKey::Offset(_) => Sample::Reach,
         ToolKey::Flute(_) => Sample::Flute,
         ToolKey::PartDiameter { .. } => Sample::HolderDiameter,

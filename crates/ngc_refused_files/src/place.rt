@@ -41,6 +41,7 @@ fn tool_with(key: ToolKey) -> Section
         | ToolKey::Shank(tool)
         | ToolKey::Offset(tool)
         | ToolKey::Cutter(tool)
+        | ToolKey::Point(tool)
         | ToolKey::Speed(tool)
         | ToolKey::Feed(tool)
         | ToolKey::Plunge(tool)

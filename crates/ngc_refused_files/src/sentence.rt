@@ -244,6 +244,9 @@ fn tool_text(wrong: ToolWrong) -> &'static [u8]
         ToolWrong::ManyParts =>
             b"cutter, shank and holder have over four parts: join parts of the holder",
         ToolWrong::NoCutter => b"it isn't a cutter: write \"flat\", \"ball\", \"vee\" or \"drill\"",
+        ToolWrong::LonePoint =>
+            b"only a vee or a drill has a point: write cutter = \"vee\", or remove it",
+        ToolWrong::LongPoint => b"it is longer than the cutter: write at most the flute",
     }
 }
 

@@ -78,9 +78,9 @@ module _ (setup : Setup) (bytes : List ℕ) (request : ReportRequest) (text : Pr
     certificate = c;
     made = made_for_file setup bytes request.cuts text f.job c is_text have is_job made;
     off_found = is.off_found;
-    off_are = subst (λ (m : MachineFile). AreFindings request.cells m f.job.off is.off_found) the_job.machine is.off_are;
+    off_are = subst (λ (m : MachineFile). AreFindings request.cells (values_of request.figures).tools m f.job.off is.off_found) the_job.machine is.off_are;
     on_found = is.on_found;
-    on_are = subst (λ (m : MachineFile). AreFindings request.cells m (commands_in true f.job) is.on_found) the_job.machine is.on_are;
+    on_are = subst (λ (m : MachineFile). AreFindings request.cells (values_of request.figures).tools m (commands_in true f.job) is.on_found) the_job.machine is.on_are;
     tells = is.tells
         ∙ ap (λ (d : Bool). fits_text request.form request.origins d (setup_in f.job) f.job.off (commands_in true f.job) c is.off_found is.on_found
         f.off f.on (own_lines (values_of request.figures) text.lines)) the_job.apart

@@ -71,9 +71,9 @@ pub record IsFitReport (setup : Setup) (bytes : List ℕ) (request : ReportReque
   pub certificate : CertificateData
   pub made : IsMadeFor setup bytes request.cuts certificate
   pub off_found : Findings
-  pub off_are : AreFindings request.cells setup.machine made.off off_found
+  pub off_are : AreFindings request.cells (values_of request.figures).tools setup.machine made.off off_found
   pub on_found : Findings
-  pub on_are : AreFindings request.cells setup.machine made.on on_found
+  pub on_are : AreFindings request.cells (values_of request.figures).tools setup.machine made.on on_found
   pub tells : text ≡ fits_text request.form request.origins
       (has_deleted made.means.program.lines) setup made.off made.on certificate off_found on_found
       (frames_of setup made.means.program.lines Off) (frames_of setup made.means.program.lines On)

@@ -22,7 +22,7 @@ use Rattle.ngc_cells.proofs.Vectors.{L, square_least, times_most, times_out}
 use Rattle.ngc_stock.specs.declared.below.AllBelow.{AllBelow}
 use Rattle.ngc_stock.specs.declared.below.Below.{Below}
 use Rattle.ngc_stock.specs.declared.stock.Stock.{Stock}
-use Rattle.ngc_stock.specs.Stocks.{radius, natural_of, tip, IsCutBy}
+use Rattle.ngc_stock.specs.Stocks.{radius, lowest_part, natural_of, tip, IsCutBy}
 use Rattle.ngc_stock.proofs.FreeTools.{root_most, of_le, some_of, depth_over, more_of}
 use Rattle.ngc_stock.specs.Below.{is_beside_any, is_over_any, box_of_two, depth_in, below_with, below_on, below_by, below_at, with_below, all_below, IsUnderStock, IsAboveOn, IsAbove, AllAbove}
 
@@ -112,33 +112,37 @@ along n k r a b q some less h =
     (above_low (pos n) (pos k) a b q (pos r) (int_min a b) more low d.0, below_high (pos n) (pos k) a b q (pos r) (int_max a b) more high d.1)
 
 -- the cutter of a feed that cuts a point under the stock is over the cells somewhere in its box
-over_cells : (s : Stock) (t : Tool) (a b q : Point3) → IsUnderStock s q → IsCutBy t a b q → is_over_any s t (box_of_two a b) ≡ true
+over_cells : (s : Stock) (t : Tool) (a b q : Point3) → IsUnderStock s q → IsCutBy (lowest_part t) a b q → is_over_any s t (box_of_two a b) ≡ true
 over_cells s t a b q under cut =
     let g = s.grid in
     let k = under.cell in
     let some = some_of g.columns g.rows k under.within in
     let sx = square_least (ahead cut.n cut.k a.x b.x q.x) in
     let sy = square_least (ahead cut.n cut.k a.y b.y q.y) in
-    let x = along cut.n cut.k (radius t) a.x b.x q.x cut.some cut.within (omega (arith, ints, cut.around, sy)) in
-    let y = along cut.n cut.k (radius t) a.y b.y q.y cut.some cut.within (omega (arith, ints, cut.around, sx)) in
-    let i = beside g.corner.x (int_min a.x b.x) (int_max a.x b.x) q.x g.half g.columns (k % g.columns) (radius t) (mod_below k g.columns some) under.in_cell.x x in
-    let j = beside g.corner.y (int_min a.y b.y) (int_max a.y b.y) q.y g.half g.rows (k / g.columns) (radius t) (div_below k g.columns g.rows some (omega (arith, under.within))) under.in_cell.y y in
+    let x = along cut.n cut.k (radius (lowest_part t)) a.x b.x q.x cut.some cut.within (omega (arith, ints, cut.around, sy)) in
+    let y = along cut.n cut.k (radius (lowest_part t)) a.y b.y q.y cut.some cut.within (omega (arith, ints, cut.around, sx)) in
+    let i = beside g.corner.x (int_min a.x b.x) (int_max a.x b.x) q.x g.half g.columns (k % g.columns) (radius (lowest_part t)) (mod_below k g.columns some) under.in_cell.x x in
+    let j = beside g.corner.y (int_min a.y b.y) (int_max a.y b.y) q.y g.half g.rows (k / g.columns) (radius (lowest_part t)) (div_below k g.columns g.rows some (omega (arith, under.within))) under.in_cell.y y in
     rw (i, j) refl
 
 -- the tip is somewhere at most as high as the point
-lowest_end : (n k a b t q low : ℤ) → pos 0 <ℤ n → (n *ℤ low) ≤ℤ (((n -ℤ k) *ℤ a) +ℤ (k *ℤ b)) →
+pub lowest_end : (n k a b t q low : ℤ) → pos 0 <ℤ n → (n *ℤ low) ≤ℤ (((n -ℤ k) *ℤ a) +ℤ (k *ℤ b)) →
     ((n *ℤ (a +ℤ t)) +ℤ (k *ℤ (b -ℤ a))) ≤ℤ (n *ℤ q) → (low +ℤ t) ≤ℤ q
 lowest_end n k a b t q low some w h =
     let e = height_as n k a b t in
     let d = times_sum n low t in
     times_out n (low +ℤ t) q some (omega (arith, ints, w, h, e, d))
 
-tip_most : (t : Tool) (a b q : Point3) → IsCutBy t a b q → (int_min a.z b.z +ℤ t.bottom) ≤ℤ q.z
+pub lower_weighted : (n k : ℕ) (a b : ℤ) → k ≤ n → (pos n *ℤ int_min a b) ≤ℤ (((pos n -ℤ pos k) *ℤ a) +ℤ (pos k *ℤ b))
+lower_weighted n k a b h =
+    weighted_least (pos n) (pos k) a b (int_min a b) (omega (arith, ints)) (omega (arith, ints, h)) (least_first a b) (least_second a b)
+
+tip_most : (t : Tool) (a b q : Point3) → IsCutBy (lowest_part t) a b q → (int_min a.z b.z +ℤ t.bottom) ≤ℤ q.z
 tip_most t a b q cut =
     let low = weighted_least (pos cut.n) (pos cut.k) a.z b.z (int_min a.z b.z) (omega (arith, ints)) (omega (arith, ints, cut.within)) (least_first a.z b.z) (least_second a.z b.z) in
     lowest_end (pos cut.n) (pos cut.k) a.z b.z t.bottom q.z (int_min a.z b.z) (omega (arith, ints, cut.some)) low cut.low
 
-above_line : (s : Stock) (t : Tool) (a b q : Point3) → depth_in s t (box_of_two a b) ≡ 0 → IsUnderStock s q → ¬ (IsCutBy t a b q)
+above_line : (s : Stock) (t : Tool) (a b q : Point3) → depth_in s t (box_of_two a b) ≡ 0 → IsUnderStock s q → ¬ (IsCutBy (lowest_part t) a b q)
 above_line s t a b q h under = λ cut.
     let over = over_cells s t a b q under cut in
     let bottom = depth_over (is_over_any s t (box_of_two a b)) (s.bottom -ℤ (int_min a.z b.z +ℤ t.bottom)) over h in

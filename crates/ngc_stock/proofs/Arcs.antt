@@ -4,16 +4,16 @@ use Rattle.std.proofs.lemmas.Int.{by_lt_z}
 use Rattle.ngc_fixed_length.specs.declared.modes.Plane.TheVariants.{XY}
 use Rattle.ngc_fixed_length.specs.declared.points.Point2.{Point2}
 use Rattle.ngc_fixed_length.specs.declared.points.Point3.{Point3}
-use Rattle.ngc_machine_files.specs.declared.tools.Tool.{Tool}
 use Rattle.ngc_arc_geometry.specs.Shape.{ArcShape}
 use Rattle.ngc_cells.specs.Stretches.{ahead, middle, square, IsAround, IsNear}
 use Rattle.ngc_cells.specs.Grids.{IsGrid, centre}
 use Rattle.ngc_cells.proofs.Ring.{V, S, P, ring}
 use Rattle.ngc_cells.proofs.Vectors.{L}
+use Rattle.ngc_stock.specs.declared.cylinder.Cylinder.{Cylinder}
 use Rattle.ngc_stock.specs.declared.stock.Stock.{Stock}
 use Rattle.ngc_stock.specs.Stocks.{kappa, radius, flat, IsInCell, IsInStock}
 use Rattle.ngc_stock.specs.Arcs.{upper_tip, IsBeside, IsCutByArc, IsChord, between, chord}
-use Rattle.ngc_stock.specs.Walk.{AreChordsCut, IsArcCut}
+use Rattle.ngc_stock.specs.Walk.{AreChordsCut, IsArcCut, AreArcsCut, IsArcCutByAny}
 use Rattle.ngc_stock.proofs.Distances.{cell_most, moved}
 use Rattle.ngc_stock.proofs.Bounds.{AreBounds, lowered, feed_keeps}
 
@@ -30,7 +30,7 @@ beside a n k r d e q h =
     subst (λ (z : ℤ). (square z +ℤ square ((pos n *ℤ (q.y -ℤ a.centre.v)) -ℤ middle n k d.v e.v)) ≤ℤ pos ((n * r) * (n * r))) x
     (subst (λ (z : ℤ). (square (ahead n k (a.centre.u +ℤ d.u) (a.centre.u +ℤ e.u) q.x) +ℤ square z) ≤ℤ pos ((n * r) * (n * r))) y h)
 
-chord_below : (s : Stock) (t : Tool) (a : ArcShape) (room : ℕ) (d e : Point2) (grid : IsGrid s.grid) → a.plane ≡ XY → kappa s.grid + room ≤ radius t → IsChord a room d e →
+chord_below : (s : Stock) (t : Cylinder) (a : ArcShape) (room : ℕ) (d e : Point2) (grid : IsGrid s.grid) → a.plane ≡ XY → kappa s.grid + room ≤ radius t → IsChord a room d e →
     (k : ℕ) (q : Point3) → IsNear (chord a d e) (radius t - (kappa s.grid + room)) (centre s.grid k) → ¬ (IsCutByArc t a q) → IsInCell s.grid k q →
     q.z <ℤ upper_tip t a
 chord_below s t a room d e grid plane thick is_chord k q near uncut cell =
@@ -54,7 +54,7 @@ chord_below s t a room d e grid plane thick is_chord k q near uncut cell =
       low = no;
     }))))
 
-chords_keep : (s : Stock) (t : Tool) (a : ArcShape) (grid : IsGrid s.grid) (Left : Point3 → Type 0) →
+chords_keep : (s : Stock) (t : Cylinder) (a : ArcShape) (grid : IsGrid s.grid) (Left : Point3 → Type 0) →
     ((q : Point3) → Left q → IsInStock s q) → ((q : Point3) → Left q → ¬ (IsCutByArc t a q)) →
     (n : ℕ) (old new : List ℕ) → AreChordsCut s t a n old new → AreBounds s old Left → AreBounds s new Left
 chords_keep s t a grid Left stock uncut zero old new e bounds = subst (λ (l : List ℕ). AreBounds s l Left) (sym e) bounds
@@ -64,9 +64,18 @@ chords_keep s t a grid Left stock uncut (suc n) old new h bounds =
     h.8
     (chords_keep s t a grid Left stock uncut n old h.0 h.4 bounds)
 
-pub arc_keeps : (s : Stock) (t : Tool) (a : ArcShape) (grid : IsGrid s.grid) (Left : Point3 → Type 0) →
+pub arc_keeps : (s : Stock) (t : Cylinder) (a : ArcShape) (grid : IsGrid s.grid) (Left : Point3 → Type 0) →
     ((q : Point3) → Left q → IsInStock s q) → ((q : Point3) → Left q → ¬ (IsCutByArc t a q)) →
     (old new : List ℕ) → IsArcCut s t a old new → AreBounds s old Left → AreBounds s new Left
 arc_keeps s t a grid Left stock uncut old new cut bounds =
     feed_keeps s t a.end a.end grid Left stock (λ q left by. uncut q left (inr by)) cut.middle new cut.end
     (chords_keep s t a grid Left stock uncut cut.count old cut.middle cut.chords bounds)
+
+-- with each disc in order
+pub arcs_keep : (s : Stock) (ds : List Cylinder) (a : ArcShape) (grid : IsGrid s.grid) (Left : Point3 → Type 0) →
+    ((q : Point3) → Left q → IsInStock s q) → ((q : Point3) → Left q → ¬ (IsArcCutByAny ds a q)) →
+    (old new : List ℕ) → AreArcsCut s ds a old new → AreBounds s old Left → AreBounds s new Left
+arcs_keep s [] a grid Left stock uncut old new e bounds = subst (λ (l : List ℕ). AreBounds s l Left) (sym e) bounds
+arcs_keep s (d ∷ ds) a grid Left stock uncut old new cut bounds =
+    arcs_keep s ds a grid Left stock (λ q left by. uncut q left (inr by)) cut.0 new cut.2
+    (arc_keeps s d a grid Left stock (λ q left by. uncut q left (inl by)) old cut.0 cut.1 bounds)

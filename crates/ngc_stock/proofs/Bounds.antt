@@ -4,16 +4,16 @@ use Rattle.std.specs.Prelude.{slice_index}
 use Rattle.std.proofs.lemmas.Bool.{cases_lt}
 use Rattle.std.proofs.lemmas.Int.{ints, by_lt_z}
 use Rattle.ngc_fixed_length.specs.declared.points.Point3.{Point3}
-use Rattle.ngc_machine_files.specs.declared.tools.Tool.{Tool}
 use Rattle.ngc_cells.specs.declared.stretch.Stretch.{Stretch}
 use Rattle.ngc_cells.specs.Stretches.{IsAround, IsNear}
 use Rattle.ngc_cells.specs.Grids.{IsGrid, centre, AreLowered}
 use Rattle.std.proofs.lemmas.Nat.{mul-le}
 use Rattle.ngc_cells.proofs.Ring.{V, S, P, ring}
 use Rattle.ngc_cells.proofs.Vectors.{L, times_most, product_above}
+use Rattle.ngc_stock.specs.declared.cylinder.Cylinder.{Cylinder}
 use Rattle.ngc_stock.specs.declared.stock.Stock.{Stock}
 use Rattle.ngc_stock.specs.Stocks.{kappa, reduction, margin, tolerance, radius, rise, flat, tip, pieces, piece, point_at, highest_tip, lowest_tip, level_of, IsInCell, IsInStock, IsCutBy, IsInReduced}
-use Rattle.ngc_stock.specs.Walk.{ArePiecesCut, AreCut, IsClear}
+use Rattle.ngc_stock.specs.Walk.{ArePiecesCut, AreCut, AreDiscsCut, IsCutByAny, IsClear}
 use Rattle.ngc_stock.proofs.Distances.{cell_most, turned_most, moved, point_around, around_point, tip_below, tip_above, level_over, level_under}
 
 -- each point that is left in a cell is below the cell's height
@@ -66,7 +66,7 @@ step_within k m j n some h small =
       | inr less ↦ less
     ]
 
-piece_below : (s : Stock) (t : Tool) (a b : Point3) (i : ℕ) (grid : IsGrid s.grid) → kappa s.grid ≤ radius t → i < pieces a b →
+piece_below : (s : Stock) (t : Cylinder) (a b : Point3) (i : ℕ) (grid : IsGrid s.grid) → kappa s.grid ≤ radius t → i < pieces a b →
     (k : ℕ) (q : Point3) → IsNear (piece a b i) (radius t - kappa s.grid) (centre s.grid k) → ¬ (IsCutBy t a b q) → IsInCell s.grid k q →
     q.z <ℤ highest_tip t a b i
 piece_below s t a b i grid thick small k q near uncut cell =
@@ -83,7 +83,7 @@ piece_below s t a b i grid thick small k q near uncut cell =
     let p = times_most (pos m) (highest_tip t a b i) q.z (omega (arith, ints)) no in
     absurd (uncut (record { n = m; k = j; some = on.some; within = step_within i m j (pieces a b) some on.last small; around = whole; low = omega (arith, ints, up, p) })))
 
-end_below : (s : Stock) (t : Tool) (a b : Point3) (grid : IsGrid s.grid) → kappa s.grid ≤ radius t →
+end_below : (s : Stock) (t : Cylinder) (a b : Point3) (grid : IsGrid s.grid) → kappa s.grid ≤ radius t →
     (k : ℕ) (q : Point3) → IsNear (point_at b) (radius t - kappa s.grid) (centre s.grid k) → ¬ (IsCutBy t a b q) → IsInCell s.grid k q →
     q.z <ℤ (b.z +ℤ t.bottom)
 end_below s t a b grid thick k q near uncut cell =
@@ -96,7 +96,7 @@ end_below s t a b grid thick k q near uncut cell =
     (λ yes. yes)
     (λ no. absurd (uncut (record { n = 1; k = 1; some = omega arith; within = omega arith; around = whole; low = omega (arith, ints, no) })))
 
-pieces_keep : (s : Stock) (t : Tool) (a b : Point3) (grid : IsGrid s.grid) → kappa s.grid ≤ radius t → (Left : Point3 → Type 0) →
+pieces_keep : (s : Stock) (t : Cylinder) (a b : Point3) (grid : IsGrid s.grid) → kappa s.grid ≤ radius t → (Left : Point3 → Type 0) →
     ((q : Point3) → Left q → IsInStock s q) → ((q : Point3) → Left q → ¬ (IsCutBy t a b q)) →
     (n : ℕ) → n ≤ pieces a b → (old new : List ℕ) → ArePiecesCut s t a b n old new → AreBounds s old Left → AreBounds s new Left
 pieces_keep s t a b grid thick Left stock uncut zero small old new e bounds = subst (λ (l : List ℕ). AreBounds s l Left) (sym e) bounds
@@ -106,7 +106,7 @@ pieces_keep s t a b grid thick Left stock uncut (suc n) small old new cut bounds
     cut.2
     (pieces_keep s t a b grid thick Left stock uncut n (omega (arith, small)) old cut.0 cut.1 bounds)
 
-pub feed_keeps : (s : Stock) (t : Tool) (a b : Point3) (grid : IsGrid s.grid) (Left : Point3 → Type 0) →
+pub feed_keeps : (s : Stock) (t : Cylinder) (a b : Point3) (grid : IsGrid s.grid) (Left : Point3 → Type 0) →
     ((q : Point3) → Left q → IsInStock s q) → ((q : Point3) → Left q → ¬ (IsCutBy t a b q)) →
     (old new : List ℕ) → AreCut s t a b old new → AreBounds s old Left → AreBounds s new Left
 feed_keeps s t a b grid Left stock uncut old new cut bounds =
@@ -118,6 +118,15 @@ feed_keeps s t a b grid Left stock uncut old new cut bounds =
           c.2
           (pieces_keep s t a b grid thick Left stock uncut (pieces a b) (omega arith) old c.0 c.1 bounds))
     ]
+
+-- with each disc in order
+pub discs_keep : (s : Stock) (ds : List Cylinder) (a b : Point3) (grid : IsGrid s.grid) (Left : Point3 → Type 0) →
+    ((q : Point3) → Left q → IsInStock s q) → ((q : Point3) → Left q → ¬ (IsCutByAny ds a b q)) →
+    (old new : List ℕ) → AreDiscsCut s ds a b old new → AreBounds s old Left → AreBounds s new Left
+discs_keep s [] a b grid Left stock uncut old new e bounds = subst (λ (l : List ℕ). AreBounds s l Left) (sym e) bounds
+discs_keep s (d ∷ ds) a b grid Left stock uncut old new cut bounds =
+    discs_keep s ds a b grid Left stock (λ q left by. uncut q left (inr by)) cut.0 new cut.2
+    (feed_keeps s d a b grid Left stock (λ q left by. uncut q left (inl by)) old cut.0 cut.1 bounds)
 
 -- ---- a traverse
 
@@ -150,7 +159,7 @@ part_of n m j some more small =
           last_part n m j some e)
     ]
 
-pub clear_line : (s : Stock) (t : Tool) (a b : Point3) (grid : IsGrid s.grid) (heights : List ℕ) (Left : Point3 → Type 0) →
+pub clear_line : (s : Stock) (t : Cylinder) (a b : Point3) (grid : IsGrid s.grid) (heights : List ℕ) (Left : Point3 → Type 0) →
     ((q : Point3) → Left q → IsInStock s q) → AreBounds s heights Left → IsClear s t a b heights → 0 < pieces a b →
     (m j : ℕ) → 0 < m → j ≤ m → (q : Point3) → Left q → ¬ (IsInReduced t a b (margin s.grid) (tolerance s.grid + 2 * rise a b) m j q)
 clear_line s t a b grid heights Left stock bounds clear whole m j some small q left h =
@@ -170,7 +179,7 @@ clear_line s t a b grid heights Left stock bounds clear whole m j some small q l
     let up = tip_above t a b i m j whole p.2 p.3 in
     raised_apart m raise (lowest_tip t a b i) q.z (tip t m j a b) some below up h.low
 
-pub clear_end : (s : Stock) (t : Tool) (a b : Point3) (grid : IsGrid s.grid) (heights : List ℕ) (Left : Point3 → Type 0) →
+pub clear_end : (s : Stock) (t : Cylinder) (a b : Point3) (grid : IsGrid s.grid) (heights : List ℕ) (Left : Point3 → Type 0) →
     ((q : Point3) → Left q → IsInStock s q) → AreBounds s heights Left → IsClear s t a b heights →
     (q : Point3) → Left q → ¬ (IsInReduced t a b (margin s.grid) (tolerance s.grid) 1 1 q)
 clear_end s t a b grid heights Left stock bounds clear q left h =

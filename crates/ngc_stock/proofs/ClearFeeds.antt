@@ -1,6 +1,7 @@
 -- The law of feeds whose upper parts are clear.
 use Rattle.std.proofs.Common.{◌≡◌, ℕ, inl, inr, sym, subst, List, [], ◌∷◌, ◌++◌, Option, Some, None}
 use Rattle.ngc_fixed_length.specs.declared.points.Point3.{Point3}
+use Rattle.ngc_file_figures.specs.declared.limits.ToolLimits.{ToolLimits}
 use Rattle.ngc_machine_files.specs.declared.tools.Tool.{Tool}
 use Rattle.ngc_commands.specs.declared.command.Action.{Action}
 use Rattle.ngc_commands.specs.declared.command.Action.TheVariants.{Move, Mount, Dwell, Spindle, Coolant, Override, Stop, OptionalStop, End}
@@ -14,27 +15,28 @@ use Rattle.ngc_commands.specs.Reached.{after, after_all}
 use Rattle.ngc_cells.specs.Grids.{IsGrid}
 use Rattle.ngc_stock.specs.declared.stock.Stock.{Stock}
 use Rattle.ngc_stock.specs.Stocks.{IsInStock}
+use Rattle.ngc_stock.specs.Discs.{discs_in}
 use Rattle.ngc_stock.specs.Walk.{IsCutIn, IsCutInAny, IsLeft, uncut}
 use Rattle.ngc_stock.specs.Feeds.{IsFeedClearOn, IsFeedClear, AreAfter, IsSafeFeedOn, IsSafeFeed, ClearFeed}
 use Rattle.ngc_stock.proofs.Bounds.{AreBounds, fewer}
 use Rattle.ngc_stock.proofs.Silences.{step_keeps, parts_safe, at_first}
 
 -- the heights after some commands bound what they have left
-pub after_bounds : (s : Stock) (grid : IsGrid s.grid) (commands : List Command) (r : Reached) (old new : List ℕ) (Left : Point3 → Type 0) →
-    ((q : Point3) → Left q → IsInStock s q) → AreBounds s old Left → AreAfter s r old commands new → AreBounds s new (λ q. Left q × ¬ (IsCutInAny r commands q))
-after_bounds s grid [] r old new Left stock bounds e =
-    subst (λ (l : List ℕ). AreBounds s l (λ q. Left q × ¬ (IsCutInAny r [] q))) (sym e) (fewer s old Left (λ q. Left q × ¬ (IsCutInAny r [] q)) (λ q h. h.0) bounds)
-after_bounds s grid (c ∷ cs) r old new Left stock bounds walk =
-    let Next : Point3 → Type 0 = λ q. Left q × ¬ (IsCutIn r.tool c.action q) in
-    let kept = step_keeps s r.tool c.action grid old walk.0 Left stock walk.1 bounds in
-    let rest = after_bounds s grid cs (after r c.action) walk.0 new Next (λ q h. stock q h.0) kept walk.2 in
-    fewer s new (λ q. Next q × ¬ (IsCutInAny (after r c.action) cs q)) (λ q. Left q × ¬ (IsCutInAny r (c ∷ cs) q))
+pub after_bounds : (s : Stock) (table : List ToolLimits) (grid : IsGrid s.grid) (commands : List Command) (r : Reached) (old new : List ℕ) (Left : Point3 → Type 0) →
+    ((q : Point3) → Left q → IsInStock s q) → AreBounds s old Left → AreAfter s table r old commands new → AreBounds s new (λ q. Left q × ¬ (IsCutInAny table r commands q))
+after_bounds s table grid [] r old new Left stock bounds e =
+    subst (λ (l : List ℕ). AreBounds s l (λ q. Left q × ¬ (IsCutInAny table r [] q))) (sym e) (fewer s old Left (λ q. Left q × ¬ (IsCutInAny table r [] q)) (λ q h. h.0) bounds)
+after_bounds s table grid (c ∷ cs) r old new Left stock bounds walk =
+    let Next : Point3 → Type 0 = λ q. Left q × ¬ (IsCutIn (discs_in table r.tool) r.tool c.action q) in
+    let kept = step_keeps s (discs_in table r.tool) r.tool c.action grid old walk.0 Left stock walk.1 bounds in
+    let rest = after_bounds s table grid cs (after r c.action) walk.0 new Next (λ q h. stock q h.0) kept walk.2 in
+    fewer s new (λ q. Next q × ¬ (IsCutInAny table (after r c.action) cs q)) (λ q. Left q × ¬ (IsCutInAny table r (c ∷ cs) q))
     (λ q h. ((h.0, λ i. h.1 (inl i)), λ i. h.1 (inr i))) rest
 
 way_safe : (s : Stock) (t : Tool) (way : Way) (pace : Pace) (grid : IsGrid s.grid) (heights : List ℕ) (Left : Point3 → Type 0) →
     ((q : Point3) → Left q → IsInStock s q) → IsFeedClearOn s t way pace heights → AreBounds s heights Left → IsSafeFeedOn s Left t way pace
 way_safe s t (Line a b) Rapid grid heights Left stock clear bounds = tt
-way_safe s t (Line a b) (Feed f) grid heights Left stock clear bounds = parts_safe s t 1 a b grid heights Left stock clear bounds
+way_safe s t (Line a b) (Feed f) grid heights Left stock clear bounds = parts_safe s t a b grid heights Left stock clear bounds
 way_safe s t (Arc arc) pace grid heights Left stock clear bounds = tt
 
 feed_safe : (s : Stock) (tool : Option Tool) (action : Action) (grid : IsGrid s.grid) (heights : List ℕ) (Left : Point3 → Type 0) →
@@ -51,7 +53,7 @@ feed_safe s (Some t) OptionalStop grid heights Left stock clear bounds = tt
 feed_safe s (Some t) End grid heights Left stock clear bounds = tt
 
 pub clear_feed : ClearFeed
-clear_feed s r before c heights grid walk clear =
-    let bounds = after_bounds s grid (before ++ c ∷ []) r (uncut s) heights (IsInStock s) (λ q h. h) (at_first s) walk in
-    feed_safe s (after_all r before).tool c.action grid heights (IsLeft s r (before ++ c ∷ [])) (λ q h. h.stock) clear
-    (fewer s heights (λ q. IsInStock s q × ¬ (IsCutInAny r (before ++ c ∷ []) q)) (IsLeft s r (before ++ c ∷ [])) (λ q h. (h.stock, h.uncut)) bounds)
+clear_feed s table r before c heights grid walk clear =
+    let bounds = after_bounds s table grid (before ++ c ∷ []) r (uncut s) heights (IsInStock s) (λ q h. h) (at_first s) walk in
+    feed_safe s (after_all r before).tool c.action grid heights (IsLeft s table r (before ++ c ∷ [])) (λ q h. h.stock) clear
+    (fewer s heights (λ q. IsInStock s q × ¬ (IsCutInAny table r (before ++ c ∷ []) q)) (IsLeft s table r (before ++ c ∷ [])) (λ q h. (h.stock, h.uncut)) bounds)

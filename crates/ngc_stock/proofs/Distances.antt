@@ -6,7 +6,6 @@ use Rattle.std.proofs.lemmas.Int.{ints, clamps, by_lt_z}
 use Rattle.std.specs.Int.{int_min, int_max}
 use Rattle.ngc_fixed_length.proofs.RootLaws.{whole_root_above-least}
 use Rattle.ngc_fixed_length.specs.declared.points.Point3.{Point3}
-use Rattle.ngc_machine_files.specs.declared.tools.Tool.{Tool}
 use Rattle.ngc_cells.specs.declared.grid.Grid.{Grid}
 use Rattle.ngc_cells.specs.declared.stretch.Spot.{Spot}
 use Rattle.ngc_cells.specs.Stretches.{square, ahead, IsAround, REACH}
@@ -14,6 +13,7 @@ use Rattle.ngc_cells.specs.Grids.{IsGrid, centre}
 use Rattle.ngc_cells.proofs.Ring.{V, S, P, ring}
 use Rattle.ngc_cells.proofs.Vectors.{Q, L, times_most, times_out, sum_most, product_least, same_signs}
 use Rattle.ngc_cells.proofs.Quotients.{floor_is, ceiling_is}
+use Rattle.ngc_stock.specs.declared.cylinder.Cylinder.{Cylinder}
 use Rattle.ngc_stock.specs.declared.stock.Stock.{Stock}
 use Rattle.ngc_stock.specs.Stocks.{kappa, tip, pieces, highest_tip, lowest_tip, natural_of, level_of, IsInCell}
 
@@ -153,7 +153,7 @@ tip_low z d n k m j h i =
 swap_times : (n m : ℕ) (x : ℤ) → pos n *ℤ (pos m *ℤ x) ≡ pos m *ℤ (pos n *ℤ x)
 swap_times n m x = ring (pos n ∷ pos m ∷ x ∷ []) (P (V 0) (P (V 1) (V 2))) (P (V 1) (P (V 0) (V 2))) refl
 
-pub tip_below : (t : Tool) (a b : Point3) (k m j : ℕ) → 0 < pieces a b → k * m ≤ j * pieces a b → j * pieces a b ≤ (k + 1) * m →
+pub tip_below : (t : Cylinder) (a b : Point3) (k m j : ℕ) → 0 < pieces a b → k * m ≤ j * pieces a b → j * pieces a b ≤ (k + 1) * m →
     tip t m j a b ≤ℤ (pos m *ℤ highest_tip t a b k)
 tip_below t a b k m j some h i =
     let n = pieces a b in
@@ -165,7 +165,7 @@ tip_below t a b k m j some h i =
     ring (pos m ∷ highest_tip t a b k ∷ pos n ∷ []) (P (V 0) (P (V 1) (V 2))) (P (V 2) (P (V 0) (V 1))) refl in
     times_out (pos n) (tip t m j a b) (pos m *ℤ highest_tip t a b k) (omega (arith, ints, some)) (omega (arith, ints, p, q, e))
 
-pub tip_above : (t : Tool) (a b : Point3) (k m j : ℕ) → 0 < pieces a b → k * m ≤ j * pieces a b → j * pieces a b ≤ (k + 1) * m →
+pub tip_above : (t : Cylinder) (a b : Point3) (k m j : ℕ) → 0 < pieces a b → k * m ≤ j * pieces a b → j * pieces a b ≤ (k + 1) * m →
     (pos m *ℤ lowest_tip t a b k) ≤ℤ tip t m j a b
 tip_above t a b k m j some h i =
     let n = pieces a b in

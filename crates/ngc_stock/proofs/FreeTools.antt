@@ -17,7 +17,7 @@ use Rattle.ngc_cells.specs.Grids.{middle_of}
 use Rattle.ngc_cells.proofs.Vectors.{from_squares, square_least, times_out}
 use Rattle.ngc_stock.specs.declared.change.Change.{Change}
 use Rattle.ngc_stock.specs.declared.stock.Stock.{Stock}
-use Rattle.ngc_stock.specs.Stocks.{radius, flat, natural_of, IsInStock, IsCutBy}
+use Rattle.ngc_stock.specs.Stocks.{radius, lowest_part, flat, natural_of, IsInStock, IsCutBy}
 use Rattle.ngc_stock.specs.Changes.{is_beside, is_over, depth_at, tool_number, change_with, change_from, change_on, change_at, with_change, changes, IsFree, IsFreeChange, FreeChange, FreeChanges}
 use Rattle.ngc_stock.proofs.Distances.{point_around}
 
@@ -53,28 +53,28 @@ some_of zero h k less = absurd (omega (arith, less))
 some_of (suc w) h k less = omega arith
 
 -- the cutter of a tool that is over a point of the stock is over the cells
-over_cells : (s : Stock) (t : Tool) (p q : Point3) → IsInStock s q → IsCutBy t p p q → is_over s t p ≡ true
+over_cells : (s : Stock) (t : Tool) (p q : Point3) → IsInStock s q → IsCutBy (lowest_part t) p p q → is_over s t p ≡ true
 over_cells s t p q stock cut =
     let g = s.grid in
     let k = stock.cell in
     let some = some_of g.columns g.rows k stock.within in
-    let around = point_around cut.n cut.k (radius t) (flat p) (flat p) (flat q) cut.some cut.around in
+    let around = point_around cut.n cut.k (radius (lowest_part t)) (flat p) (flat p) (flat q) cut.some cut.around in
     let sx = square_least (ahead 1 1 p.x p.x q.x) in
     let sy = square_least (ahead 1 1 p.y p.y q.y) in
-    let m : (1 * radius t) * (1 * radius t) ≡ radius t * radius t = omega arith in
-    let dx = root_most (ahead 1 1 p.x p.x q.x) (radius t) (omega (arith, ints, around, sy, m)) in
-    let dy = root_most (ahead 1 1 p.y p.y q.y) (radius t) (omega (arith, ints, around, sx, m)) in
-    let nx : unsigned_abs (q.x -ℤ p.x) ≤ radius t = subst (λ (z : ℤ). unsigned_abs z ≤ radius t) (at_one p.x q.x) dx in
-    let ny : unsigned_abs (q.y -ℤ p.y) ≤ radius t = subst (λ (z : ℤ). unsigned_abs z ≤ radius t) (at_one p.y q.y) dy in
-    let x = is_beside_of g.corner.x p.x g.half g.columns (radius t) (beside g.corner.x p.x q.x g.half g.columns (k % g.columns) (radius t) (mod_below k g.columns some) stock.in_cell.x nx) in
-    let y = is_beside_of g.corner.y p.y g.half g.rows (radius t) (beside g.corner.y p.y q.y g.half g.rows (k / g.columns) (radius t) (div_below k g.columns g.rows some (omega (arith, stock.within))) stock.in_cell.y ny) in
+    let m : (1 * radius (lowest_part t)) * (1 * radius (lowest_part t)) ≡ radius (lowest_part t) * radius (lowest_part t) = omega arith in
+    let dx = root_most (ahead 1 1 p.x p.x q.x) (radius (lowest_part t)) (omega (arith, ints, around, sy, m)) in
+    let dy = root_most (ahead 1 1 p.y p.y q.y) (radius (lowest_part t)) (omega (arith, ints, around, sx, m)) in
+    let nx : unsigned_abs (q.x -ℤ p.x) ≤ radius (lowest_part t) = subst (λ (z : ℤ). unsigned_abs z ≤ radius (lowest_part t)) (at_one p.x q.x) dx in
+    let ny : unsigned_abs (q.y -ℤ p.y) ≤ radius (lowest_part t) = subst (λ (z : ℤ). unsigned_abs z ≤ radius (lowest_part t)) (at_one p.y q.y) dy in
+    let x = is_beside_of g.corner.x p.x g.half g.columns (radius (lowest_part t)) (beside g.corner.x p.x q.x g.half g.columns (k % g.columns) (radius (lowest_part t)) (mod_below k g.columns some) stock.in_cell.x nx) in
+    let y = is_beside_of g.corner.y p.y g.half g.rows (radius (lowest_part t)) (beside g.corner.y p.y q.y g.half g.rows (k / g.columns) (radius (lowest_part t)) (div_below k g.columns g.rows some (omega (arith, stock.within))) stock.in_cell.y ny) in
     rw (x, y) refl
 
 no_climb : (k : ℕ) (z : ℤ) → pos k *ℤ (z -ℤ z) ≡ pos 0
 no_climb k z = ap (λ (x : ℤ). pos k *ℤ x) (let e : z -ℤ z ≡ pos 0 = omega (arith, ints) in e) ∙ *ℤ-zero (pos k)
 
 -- its tip is at most as high as the point
-tip_most : (t : Tool) (p q : Point3) → IsCutBy t p p q → (p.z +ℤ t.bottom) ≤ℤ q.z
+tip_most : (t : Tool) (p q : Point3) → IsCutBy (lowest_part t) p p q → (p.z +ℤ t.bottom) ≤ℤ q.z
 tip_most t p q cut =
     let e = no_climb cut.k p.z in
     times_out (pos cut.n) (p.z +ℤ t.bottom) q.z (omega (arith, ints, cut.some)) (omega (arith, ints, e, cut.low))

@@ -1,3 +1,5 @@
+-- The discs of a cutter are inside it.
+pub mod Discs
 -- From a cell's centre to its points, and from the points of a line to those of its pieces.
 pub mod Distances
 -- The heights of the cells bound what is left.

@@ -6,16 +6,16 @@ use Rattle.ngc_fixed_length.specs.Places.{shifted, dot}
 use Rattle.ngc_fixed_length.specs.declared.modes.Plane.TheVariants.{XY}
 use Rattle.ngc_fixed_length.specs.declared.points.Point2.{Point2}
 use Rattle.ngc_fixed_length.specs.declared.points.Point3.{Point3}
-use Rattle.ngc_machine_files.specs.declared.tools.Tool.{Tool}
 use Rattle.ngc_arc_geometry.specs.Shape.{ArcShape}
 use Rattle.ngc_arc_geometry.specs.Radii.{inner_radius, outer_radius}
 use Rattle.ngc_arc_geometry.specs.Sector.{in_sector}
 use Rattle.ngc_cells.specs.declared.stretch.Stretch.{Stretch}
 use Rattle.ngc_cells.specs.Stretches.{middle, square, spot}
+use Rattle.ngc_stock.specs.declared.cylinder.Cylinder.{Cylinder}
 use Rattle.ngc_stock.specs.Stocks.{radius, IsCutBy}
 
--- the tip's height at the higher end
-abbrev pub upper_tip : Tool → ArcShape → ℤ
+-- the height of the foot at the higher end
+abbrev pub upper_tip : Cylinder → ArcShape → ℤ
 upper_tip t a = int_max a.start.z a.end.z +ℤ t.bottom
 
 -- the n-th part of a vector d leads from the centre to a point in the arc's sector, at most `room`
@@ -32,10 +32,10 @@ IsBeside a n d r q =
     (square ((pos n *ℤ (q.x -ℤ a.centre.u)) -ℤ d.u) +ℤ square ((pos n *ℤ (q.y -ℤ a.centre.v)) -ℤ d.v))
     ≤ℤ pos ((n * r) * (n * r))
 
--- a point is at most `room` from the arc, and q is at most the cutter's radius less `room` from that
--- point: so at some point of the arc the cutter is over q. The tip is at most as high as q at the arc's
+-- a point is at most `room` from the arc, and q is at most the cylinder's radius less `room` from that
+-- point: so at some point of the arc the cylinder is over q. The foot is at most as high as q at the arc's
 -- higher end, and so all along a helix
-pub record IsCutAlong (t : Tool) (a : ArcShape) (q : Point3) : Type 0 where
+pub record IsCutAlong (t : Cylinder) (a : ArcShape) (q : Point3) : Type 0 where
   pub plane : a.plane ≡ XY
   pub room : ℕ
   pub n : ℕ
@@ -46,8 +46,8 @@ pub record IsCutAlong (t : Tool) (a : ArcShape) (q : Point3) : Type 0 where
   pub around : IsBeside a n d (radius t - room) q
   pub low : upper_tip t a ≤ℤ q.z
 
--- an arc cuts q on its way, or at its end, where the tip may be lower
-abbrev pub IsCutByArc : Tool → ArcShape → Point3 → Type 0
+-- an arc cuts q on its way, or at its end, where the foot may be lower
+abbrev pub IsCutByArc : Cylinder → ArcShape → Point3 → Type 0
 IsCutByArc t a q = IsCutAlong t a q ⊎ IsCutBy t a.end a.end q
 
 -- ---- chords

@@ -20,7 +20,7 @@ use Rattle.ngc_stock.specs.declared.below.AllBelow.{AllBelow}
 use Rattle.ngc_stock.specs.declared.below.Below.{Below}
 use Rattle.ngc_stock.specs.declared.below.PathBox.{PathBox}
 use Rattle.ngc_stock.specs.declared.stock.Stock.{Stock}
-use Rattle.ngc_stock.specs.Stocks.{radius, natural_of, IsInCell, IsCutBy}
+use Rattle.ngc_stock.specs.Stocks.{radius, lowest_part, natural_of, IsInCell, IsCutBy}
 
 -- ---- the box of a path
 
@@ -58,8 +58,8 @@ is_beside_any corner half count r low high =
 -- a tool somewhere in a box is over the cells, or at most its radius beside them along each axis
 abbrev pub is_over_any : Stock → Tool → PathBox → Bool
 is_over_any s t b =
-    is_beside_any s.grid.corner.x s.grid.half s.grid.columns (radius t) b.low.x b.high.x &&
-    is_beside_any s.grid.corner.y s.grid.half s.grid.rows (radius t) b.low.y b.high.y
+    is_beside_any s.grid.corner.x s.grid.half s.grid.columns (radius (lowest_part t)) b.low.x b.high.x &&
+    is_beside_any s.grid.corner.y s.grid.half s.grid.rows (radius (lowest_part t)) b.low.y b.high.y
 
 -- how far the tip is below the bottom at the box's lowest; 0 if the tool isn't over the stock
 abbrev pub depth_in : Stock → Tool → PathBox → ℕ
@@ -119,7 +119,7 @@ pub record IsUnderStock (s : Stock) (q : Point3) : Type 0 where
 
 -- a straight feed cuts no such point
 abbrev pub IsAboveOn : Stock → Tool → Way → Pace → Type 0
-IsAboveOn s t (Line a b) (Feed f) = (q : Point3) → IsUnderStock s q → ¬ (IsCutBy t a b q)
+IsAboveOn s t (Line a b) (Feed f) = (q : Point3) → IsUnderStock s q → ¬ (IsCutBy (lowest_part t) a b q)
 IsAboveOn s t (Line a b) Rapid = Unit {0}
 IsAboveOn s t (Arc arc) pace = Unit {0}
 

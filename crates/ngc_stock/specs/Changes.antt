@@ -9,7 +9,7 @@ use Rattle.ngc_commands.specs.declared.reached.Reached.{Reached}
 use Rattle.ngc_commands.specs.Reached.{after, after_all}
 use Rattle.ngc_stock.specs.declared.change.Change.{Change}
 use Rattle.ngc_stock.specs.declared.stock.Stock.{Stock}
-use Rattle.ngc_stock.specs.Stocks.{radius, flat, natural_of, IsInStock, IsCutBy}
+use Rattle.ngc_stock.specs.Stocks.{radius, lowest_part, flat, natural_of, IsInStock, IsCutBy}
 
 -- ---- how deep a tool is
 
@@ -20,8 +20,8 @@ is_beside corner half count r x = int_le (corner -ℤ pos r) x && int_le x (corn
 -- a tool with its nose at p is over the cells, or at most its radius beside them along each axis
 abbrev pub is_over : Stock → Tool → Point3 → Bool
 is_over s t p =
-    is_beside s.grid.corner.x s.grid.half s.grid.columns (radius t) p.x &&
-    is_beside s.grid.corner.y s.grid.half s.grid.rows (radius t) p.y
+    is_beside s.grid.corner.x s.grid.half s.grid.columns (radius (lowest_part t)) p.x &&
+    is_beside s.grid.corner.y s.grid.half s.grid.rows (radius (lowest_part t)) p.y
 
 -- how far the tip is then below the stock's top; 0 if the tool isn't over it, and without a tool
 abbrev pub depth_at : Stock → Option Tool → Point3 → ℕ
@@ -69,7 +69,7 @@ changes s r index (c ∷ cs) = with_change (change_at s r index c) (changes s (a
 -- no point of the stock is in the cutter of a tool with its nose at p
 abbrev pub IsFree : Stock → Option Tool → Point3 → Type 0
 IsFree s None p = Unit {0}
-IsFree s (Some t) p = (q : Point3) → IsInStock s q → ¬ (IsCutBy t p p q)
+IsFree s (Some t) p = (q : Point3) → IsInStock s q → ¬ (IsCutBy (lowest_part t) p p q)
 
 -- at a tool change both tools are free
 abbrev pub IsFreeChange : Stock → Reached → Action → Type 0

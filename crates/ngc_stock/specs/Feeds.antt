@@ -2,6 +2,7 @@
 -- those of the silence (Silence).
 use Rattle.std.specs.Prelude.{◌≡◌, ℕ, List, [], ◌∷◌, ◌++◌, Option, Some, None}
 use Rattle.ngc_fixed_length.specs.declared.points.Point3.{Point3}
+use Rattle.ngc_file_figures.specs.declared.limits.ToolLimits.{ToolLimits}
 use Rattle.ngc_machine_files.specs.declared.tools.Tool.{Tool}
 use Rattle.ngc_commands.specs.declared.command.Action.{Action}
 use Rattle.ngc_commands.specs.declared.command.Action.TheVariants.{Move}
@@ -14,12 +15,13 @@ use Rattle.ngc_commands.specs.declared.reached.Reached.{Reached}
 use Rattle.ngc_commands.specs.Reached.{after, after_all}
 use Rattle.ngc_cells.specs.Grids.{IsGrid}
 use Rattle.ngc_stock.specs.declared.stock.Stock.{Stock}
+use Rattle.ngc_stock.specs.Discs.{discs_in}
 use Rattle.ngc_stock.specs.Walk.{AreClear, IsStep, IsLeft, MeetNone, uncut}
 
 -- no part above the cutter may touch, along a straight feed, material of these heights, which the feed
 -- leaves
 abbrev pub IsFeedClearOn : Stock → Tool → Way → Pace → List ℕ → Type 0
-IsFeedClearOn s t (Line a b) (Feed f) heights = AreClear s t 1 a b heights
+IsFeedClearOn s t (Line a b) (Feed f) heights = AreClear s t a b heights
 IsFeedClearOn s t (Line a b) Rapid heights = Unit {0}
 IsFeedClearOn s t (Arc arc) pace heights = Unit {0}
 
@@ -30,15 +32,15 @@ IsFeedClear s (Some t) (Move m) heights = IsFeedClearOn s t m.way m.pace heights
 IsFeedClear s (Some t) _ heights = Unit {0}
 
 -- the heights after some commands, of which no traverse is reported
-abbrev pub AreAfter : Stock → Reached → List ℕ → List Command → List ℕ → Type 0
-AreAfter s r old [] new = new ≡ old
-AreAfter s r old (c ∷ cs) new =
-    (next : List ℕ) × IsStep s r.tool c.action old next × AreAfter s (after r c.action) next cs new
+abbrev pub AreAfter : Stock → List ToolLimits → Reached → List ℕ → List Command → List ℕ → Type 0
+AreAfter s table r old [] new = new ≡ old
+AreAfter s table r old (c ∷ cs) new =
+    (next : List ℕ) × IsStep s (discs_in table r.tool) r.tool c.action old next × AreAfter s table (after r c.action) next cs new
 
 -- ---- what it means that a feed isn't reported
 
 abbrev pub IsSafeFeedOn : Stock → (Point3 → Type 0) → Tool → Way → Pace → Type 0
-IsSafeFeedOn s Left t (Line a b) (Feed f) = MeetNone s Left t 1 a b
+IsSafeFeedOn s Left t (Line a b) (Feed f) = MeetNone s Left t a b
 IsSafeFeedOn s Left t (Line a b) Rapid = Unit {0}
 IsSafeFeedOn s Left t (Arc arc) pace = Unit {0}
 
@@ -52,6 +54,6 @@ IsSafeFeed s Left (Some t) _ = Unit {0}
 -- if a feed is clear, and no traverse before it is reported, then no part above the cutter meets what the
 -- feeds up to this one have left
 abbrev pub ClearFeed : Type 0
-ClearFeed = (s : Stock) (r : Reached) (before : List Command) (c : Command) (heights : List ℕ) → IsGrid s.grid →
-    AreAfter s r (uncut s) (before ++ c ∷ []) heights → IsFeedClear s (after_all r before).tool c.action heights →
-    IsSafeFeed s (IsLeft s r (before ++ c ∷ [])) (after_all r before).tool c.action
+ClearFeed = (s : Stock) (table : List ToolLimits) (r : Reached) (before : List Command) (c : Command) (heights : List ℕ) → IsGrid s.grid →
+    AreAfter s table r (uncut s) (before ++ c ∷ []) heights → IsFeedClear s (after_all r before).tool c.action heights →
+    IsSafeFeed s (IsLeft s table r (before ++ c ∷ [])) (after_all r before).tool c.action

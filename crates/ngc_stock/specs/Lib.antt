@@ -1,4 +1,5 @@
 pub mod Stocks
+pub mod Discs
 pub mod Arcs
 pub mod Walk
 pub mod Silence

@@ -13,6 +13,7 @@ use Rattle.ngc_cells.specs.declared.stretch.Spot.{Spot}
 use Rattle.ngc_cells.specs.declared.stretch.Stretch.{Stretch}
 use Rattle.ngc_cells.specs.Stretches.{RADIUS_LIMIT, IsAround, spot}
 use Rattle.ngc_cells.specs.Grids.{centre}
+use Rattle.ngc_stock.specs.declared.cylinder.Cylinder.{Cylinder}
 use Rattle.ngc_stock.specs.declared.stock.Stock.{Stock}
 
 -- ---- the stock
@@ -49,17 +50,21 @@ pub record IsInStock (s : Stock) (q : Point3) : Type 0 where
   pub bottom : s.bottom ≤ℤ q.z
   pub top : q.z <ℤ (s.bottom +ℤ pos s.height)
 
--- ---- the cutter: the lowest part of the tool, from its tip up
+-- ---- a tool is cylinders about its axis, each from its foot up
+
+-- no cylinder has a radius over the limit
+abbrev pub radius : Cylinder → ℕ
+radius t = min RADIUS_LIMIT t.radius
 
 abbrev pub first_part : List Part → Part
 first_part [] = unused
 first_part (p ∷ ps) = p
 
--- its radius; no part has one over the limit
-abbrev pub radius : Tool → ℕ
-radius t = min RADIUS_LIMIT (unsigned_abs (first_part t.parts).radius)
+-- the lowest part of a tool, from its tip up
+abbrev pub lowest_part : Tool → Cylinder
+lowest_part t = record { bottom = t.bottom; radius = unsigned_abs (first_part t.parts).radius }
 
--- ---- the other parts: the shank and the holder, cylinders from their feet up
+-- ---- the parts above the cutter: the shank and the holder
 
 -- a tool without its lowest part: the part above it is then the lowest; no foot is over the limit
 abbrev pub above : Tool → Tool
@@ -73,17 +78,18 @@ abbrev pub from_part : Tool → ℕ → Tool
 from_part t zero = t
 from_part t (suc p) = above (from_part t p)
 
--- ---- what a cutter covers
+-- ---- what a cylinder covers, as it is or as a part of a cutter
 
 abbrev pub flat : Point3 → Spot
 flat p = spot p.x p.y
 
--- n times the height of the tip at the point at k/n of the line from a to b
-abbrev pub tip : Tool → ℕ → ℕ → Point3 → Point3 → ℤ
+-- n times the height of the foot at the point at k/n of the line from a to b; a tip, below, is the foot of
+-- a cylinder
+abbrev pub tip : Cylinder → ℕ → ℕ → Point3 → Point3 → ℤ
 tip t n k a b = (pos n *ℤ (a.z +ℤ t.bottom)) +ℤ (pos k *ℤ (b.z -ℤ a.z))
 
--- at some point of the line the cutter is over q, with its tip at most as high as q
-pub record IsCutBy (t : Tool) (a b q : Point3) : Type 0 where
+-- at some point of the line the cylinder is over q, with its foot at most as high as q
+pub record IsCutBy (t : Cylinder) (a b q : Point3) : Type 0 where
   pub n : ℕ
   pub k : ℕ
   pub some : 0 < n
@@ -91,8 +97,8 @@ pub record IsCutBy (t : Tool) (a b q : Point3) : Type 0 where
   pub around : IsAround n k (flat a) (flat b) (radius t) (flat q)
   pub low : tip t n k a b ≤ℤ (pos n *ℤ q.z)
 
--- at k/n of the line q is in the cutter, made smaller by a margin and raised
-pub record IsInReduced (t : Tool) (a b : Point3) (less raise n k : ℕ) (q : Point3) : Type 0 where
+-- at k/n of the line q is in the cylinder, made smaller by a margin and raised
+pub record IsInReduced (t : Cylinder) (a b : Point3) (less raise n k : ℕ) (q : Point3) : Type 0 where
   pub fits : less ≤ radius t
   pub around : IsAround n k (flat a) (flat b) (radius t - less) (flat q)
   pub low : (tip t n k a b +ℤ pos (n * raise)) ≤ℤ (pos n *ℤ q.z)
@@ -119,11 +125,11 @@ abbrev pub point_at : Point3 → Stretch
 point_at p = record { start = flat p; end = flat p; parts = 1; part = 0 }
 
 -- the heights of the tip at the higher and at the lower end of a piece, rounded up and down
-abbrev pub highest_tip : Tool → Point3 → Point3 → ℕ → ℤ
+abbrev pub highest_tip : Cylinder → Point3 → Point3 → ℕ → ℤ
 highest_tip t a b k =
     neg_ℤ (int_div_euclid (neg_ℤ (int_max (tip t (pieces a b) k a b) (tip t (pieces a b) (k + 1) a b))) (pos (pieces a b)))
 
-abbrev pub lowest_tip : Tool → Point3 → Point3 → ℕ → ℤ
+abbrev pub lowest_tip : Cylinder → Point3 → Point3 → ℕ → ℤ
 lowest_tip t a b k =
     int_div_euclid (int_min (tip t (pieces a b) k a b) (tip t (pieces a b) (k + 1) a b)) (pos (pieces a b))
 

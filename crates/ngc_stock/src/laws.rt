@@ -2,11 +2,13 @@
 ghost use Rattle.ngc_stock.specs.Below.{AllAbove};
 ghost use Rattle.ngc_stock.specs.Changes.{FreeChange, FreeChanges};
 ghost use Rattle.ngc_stock.specs.Cuts.{CutDepth};
+ghost use Rattle.ngc_stock.specs.Discs.{BallInside, ConeInside};
 ghost use Rattle.ngc_stock.specs.Feeds.{ClearFeed};
 ghost use Rattle.ngc_stock.specs.Silence.{Silence};
 
-/// States that no straight traverse meets material that the feeds before it have left, for each part of
-/// the tool, smaller by a margin and raised by a tolerance, if no traverse of the commands is reported.
+/// States that no straight traverse meets material that the feeds before it have left, for each disc of
+/// the cutter and each part above it, smaller by a margin and raised by a tolerance, if no traverse of the
+/// commands is reported.
 pub fn silence()
     ensures { Silence }
 {}
@@ -35,9 +37,19 @@ pub fn all_above()
     ensures { AllAbove }
 {}
 
-/// States that what the cutter of a straight feed, smaller by a margin, meets of the material that the
-/// feeds before it have left is less than the feed's depth above the lower of its two tips, if no
+/// States that what the discs of a straight feed's cutter, smaller by a margin, meet of the material that
+/// the feeds before it have left is less than the feed's depth above the lower of its two tips, if no
 /// traverse before it is reported.
 pub fn cut_depth()
     ensures { CutDepth }
+{}
+
+/// States that the discs of a ball cutter are inside it.
+pub fn ball_inside()
+    ensures { BallInside }
+{}
+
+/// States that the discs of a vee or a drill are inside its cone, and above it.
+pub fn cone_inside()
+    ensures { ConeInside }
 {}

@@ -7,10 +7,12 @@
 mod below;
 mod change;
 mod cut;
+mod cylinder;
 pub mod laws;
 mod stock;
 
 pub use below::{AllBelow, Below, PathBox};
 pub use change::Change;
 pub use cut::Cut;
+pub use cylinder::Cylinder;
 pub use stock::Stock;

@@ -86,7 +86,7 @@ unwalked_text form (Some b) = far_line form
 abbrev pub rest_text : Form → MachineFile → List Tool → List Command → WalkData → List ℕ
 rest_text form m tools commands w =
     depths_text form (block_origin m m.stock) w.stock (at_start m) commands
-    ++ (cuts_text form w.cuts ++ untested_text form w.stock.grid tools w.cuts)
+    ++ (cuts_text form tools w.cuts ++ untested_text form w.stock.grid tools w.cuts)
 
 abbrev pub walk_text : Form → MachineFile → List Tool → List Command → WalkData → List ℕ
 walk_text form m tools commands w =

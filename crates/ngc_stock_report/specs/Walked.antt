@@ -1,6 +1,7 @@
 -- What the traverses and the feeds of a program may touch of a machine's material, and how deep its feeds
--- cut. Our own.
+-- cut. `table` says what shapes the cutters of the tools have. Our own.
 use Rattle.std.specs.Prelude.{◌≡◌, ◌⊎◌, ℕ, List, [], Option, Some, None, IsTrue}
+use Rattle.ngc_file_figures.specs.declared.limits.ToolLimits.{ToolLimits}
 use Rattle.ngc_machine_files.specs.Machine.{MachineFile}
 use Rattle.ngc_commands.specs.declared.command.Command.{Command}
 use Rattle.ngc_commands.specs.Reached.{at_start}
@@ -33,14 +34,14 @@ pub record IsFarFrom (most : ℕ) (m : MachineFile) (commands : List Command) : 
   pub far : IsFar stock commands
 
 -- what a walk over the commands finds in the uncut material, in at most `most` cells
-pub record IsWalk (most : ℕ) (m : MachineFile) (commands : List Command) (w : WalkData) : Type 0 where
+pub record IsWalk (most : ℕ) (table : List ToolLimits) (m : MachineFile) (commands : List Command) (w : WalkData) : Type 0 where
   pub placed : IsPlaced most m w.stock
   pub grid : IsGrid w.stock.grid
   pub near : IsTrue (are_reached commands)
-  pub found : AreFound w.stock (at_start m) (uncut w.stock) 0 commands w.found w.feeds
-  pub cuts : AreCuts w.stock (at_start m) (uncut w.stock) 0 commands w.found [] w.cuts
+  pub found : AreFound w.stock table (at_start m) (uncut w.stock) 0 commands w.found w.feeds
+  pub cuts : AreCuts w.stock table (at_start m) (uncut w.stock) 0 commands w.found [] w.cuts
 
 -- no walk without a block of material, and none where it or a motion is far
-abbrev pub IsWalked : ℕ → MachineFile → List Command → Option WalkData → Type 0
-IsWalked most m commands None = (m.stock ≡ None) ⊎ IsFarFrom most m commands
-IsWalked most m commands (Some w) = IsWalk most m commands w
+abbrev pub IsWalked : ℕ → List ToolLimits → MachineFile → List Command → Option WalkData → Type 0
+IsWalked most table m commands None = (m.stock ≡ None) ⊎ IsFarFrom most m commands
+IsWalked most table m commands (Some w) = IsWalk most table m commands w

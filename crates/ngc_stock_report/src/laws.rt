@@ -2,8 +2,8 @@
 ghost use Rattle.ngc_stock_report.specs.Silent.{DeepestReport, SilentFeeds, SilentReport};
 
 /// States that if a walk over a program's commands finds no traverse, no straight traverse meets material
-/// that the feeds before it have left, for each part of the tool, smaller by a margin and raised by a
-/// tolerance. So it is for every number of cells, here and below; the margin is that of the cells.
+/// that the feeds before it have left, for each disc of the cutter and each part above it, smaller by a margin and
+/// raised by a tolerance. So it is for every number of cells, here and below; the margin is that of the cells.
 pub fn silent_report()
     ensures { SilentReport }
 {}
@@ -14,7 +14,7 @@ pub fn silent_feeds()
     ensures { SilentFeeds }
 {}
 
-/// States that what the cutter of a straight feed, smaller by a margin, meets of the material that the
+/// States that what the discs of a straight feed's cutter, smaller by a margin, meet of the material that the
 /// feeds and the reported traverses before it have left is less than the depth of its tool, which the
 /// report names, above the lower of the feed's two tips.
 pub fn deepest_report()

@@ -7,6 +7,7 @@ ghost use Rattle.ngc_stock_report.specs.Walked.{IsWalked};
 use crate::grids::is_grid;
 use crate::placed::stock_in;
 use ngc_commands::{Command, Reached};
+use ngc_file_figures::ToolLimits;
 use ngc_machine_files::Machine;
 use ngc_material::{Touches, WalkFault, find_touches};
 use ngc_stock::Stock;
@@ -37,16 +38,18 @@ impl<A: Allocator> Model for Walk<A> {
 /// its commands at a setting of block delete, and the material is divided into at most `most` cells.
 /// It returns `None` if the machine has no block of material, or if some of it, or the end of a motion,
 /// is more than two metres from the machine's zero. It does so too if the cells are more than 4,000,000,
-/// which they aren't where `most` isn't.
+/// which they aren't where `most` isn't. `table` says what shapes the cutters of the tools have; a tool that it
+/// doesn't know has a flat one.
 ///
 /// It fails if memory is refused.
 pub fn find_walk<A: Allocator + Copy, B: Allocator>(
     alloc: A,
     most: u32,
+    table: &[ToolLimits],
     machine: &Machine<B>,
     commands: &[Command],
 ) -> Result<Option<Walk<A>>, AllocError>
-    ensures { IfOk result (IsWalked most (file_of machine.now) commands.now) }
+    ensures { IfOk result (IsWalked most table.now (file_of machine.now) commands.now) }
 {
     let Some(stock) = stock_in(most, machine) else {
         return Ok(None);
@@ -54,7 +57,7 @@ pub fn find_walk<A: Allocator + Copy, B: Allocator>(
     if !is_grid(&stock.grid) {
         return Ok(None);
     }
-    match find_touches(alloc, &stock, &Reached::at_start(machine), commands) {
+    match find_touches(alloc, &stock, table, &Reached::at_start(machine), commands) {
         Ok(touches) => Ok(Some(Walk { stock, touches })),
         Err(WalkFault::Far) => Ok(None),
         Err(WalkFault::Memory) => Err(AllocError),

@@ -105,7 +105,7 @@ fn write_rest<A: Allocator, B: Allocator, W: Sink>(
     let start = Reached::at_start(machine);
     let cuts = walk.touches.cuts.as_slice();
     write_depths(form, &origin, &walk.stock, &start, commands, output)?;
-    write_cuts(form, cuts, output)?;
+    write_cuts(form, tools, cuts, output)?;
     write_untested(form, &walk.stock.grid, tools, cuts, output)
 }
 

@@ -1,8 +1,8 @@
 //! Prints the tools of tables, or why they are refused. Each table of standard input is between a line
 //! `file NAME` and a line `end`; a line that begins with `##` between tables is a comment. A tool is
 //! printed as its number, its offset, where its tip is, its parts from the tip up, each with its length
-//! and its radius, and its name. Then each tool of which the table says more has a line with its cutter
-//! and its limits. Lengths are in nm, feeds in nm per minute, speeds of the spindle in millionths of rpm.
+//! and its radius, and its name. Then each tool of which the table says more has a line with its cutter,
+//! the height of its cone and its limits. Lengths are in nm, feeds in nm per minute, speeds of the spindle in millionths of rpm.
 #![tactic(auto)]
 
 use ngc_file_figures::{Limits, ToolLimits};
@@ -46,6 +46,9 @@ fn limits_line(alloc: Global, limits: &ToolLimits) -> Result<String, AllocError>
     if let Some(cutter) = limits.cutter {
         let name = cutter.name();
         said.push_str(format!(in alloc; " cutter {name}")?.as_str())?;
+    }
+    if let Some(cone) = limits.cone {
+        said.push_str(format!(in alloc; " cone {cone}")?.as_str())?;
     }
     add_limits(alloc, &mut said, "speed", &limits.speed)?;
     add_limits(alloc, &mut said, "feed", &limits.feed)?;

@@ -1,6 +1,8 @@
 -- The cutter of a tool, and limits of which reports warn. Our own.
 use Rattle.std.specs.Prelude.{ℕ, List, [], map, Option, Some, None, Result, Ok, Err, if◌then◌else◌}
 use Rattle.toml.specs.Data.{Data}
+use Rattle.ngc_file_figures.specs.declared.cutter.Cutter.{Cutter}
+use Rattle.ngc_file_figures.specs.declared.cutter.Cutter.TheVariants.{Vee}
 use Rattle.ngc_file_figures.specs.declared.limits.Limits.{Limits}
 use Rattle.ngc_file_figures.specs.declared.limits.ToolLimits.{ToolLimits}
 use Rattle.ngc_machine_figures.specs.Kinds.{speed_value}
@@ -14,6 +16,7 @@ use Rattle.ngc_machine_figures.specs.declared.sheet.Speed.{Speed}
 use Rattle.ngc_machine_figures.specs.declared.tool_key.ToolKey.TheVariants as keys
 use Rattle.ngc_written_tools.specs.declared.sheet.LimitSheet.{LimitSheet}
 use Rattle.ngc_written_tools.specs.declared.sheet.MeasuredTool.{MeasuredTool}
+use Rattle.ngc_written_tools.specs.declared.sheet.Size.{Size}
 
 abbrev pub turning : Option TurningLimits → Option Limits
 turning None = None
@@ -37,11 +40,22 @@ limits_at n section = do
   plunge ← optional speed_value (Tool (keys.Plunge n)) section
   Ok (record { cutter = cutter; speed = turning speed; feed = feeds feed; plunge = up_to plunge })
 
+abbrev pub nanometres : Option Size → Option ℕ
+nanometres None = None
+nanometres (Some s) = Some s.nanometres
+
+-- the height of a cone: of the point, or else of a vee's flute, which isn't lower
+abbrev pub cone_by : Option Cutter → Option Size → Option Size → Option ℕ
+cone_by cutter (Some point) flute = Some point.nanometres
+cone_by (Some Vee) None flute = nanometres flute
+cone_by _ None flute = None
+
 -- what is said of a tool besides its body
 abbrev pub limits_by : MeasuredTool → ToolLimits
 limits_by t = record {
   number = t.sheet.number.number;
   cutter = t.sheet.limits.cutter;
+  cone = cone_by t.sheet.limits.cutter t.sheet.point t.sheet.flute;
   speed = t.sheet.limits.speed;
   feed = t.sheet.limits.feed;
   plunge = t.sheet.limits.plunge;

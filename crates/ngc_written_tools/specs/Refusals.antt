@@ -17,6 +17,7 @@ tool_fault tools.NoPart = faults.Document
 tool_fault tools.NoLength = faults.Document
 tool_fault tools.LoneShank = faults.Document
 tool_fault tools.NoCutter = faults.Document
+tool_fault tools.LonePoint = faults.Document
 tool_fault _ = faults.Tools
 
 abbrev pub key_fault : Wrong → FileFault

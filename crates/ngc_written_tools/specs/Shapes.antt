@@ -2,6 +2,8 @@
 -- nose. Lengths are in nanometres. Our own.
 use Rattle.std.specs.Prelude.{ℕ, ◌+◌, ◌-◌, ◌==◌, nat_lt, nat_le, Option, Some, None, Result, Ok}
 use Rattle.std.specs.Prelude.{if◌then◌else◌}
+use Rattle.ngc_file_figures.specs.declared.cutter.Cutter.{Cutter}
+use Rattle.ngc_file_figures.specs.declared.cutter.Cutter.TheVariants.{Vee, Drill}
 use Rattle.ngc_machine_figures.specs.declared.key.Key.TheVariants.{Tool}
 use Rattle.ngc_machine_figures.specs.declared.refusal.FileRefusal.{FileRefusal}
 use Rattle.ngc_machine_figures.specs.declared.refusal.Wrong.TheVariants as wrongs
@@ -93,6 +95,20 @@ blade_by n sheet stickout None (Some shank) = refuse (keys.Shank n) tools.LoneSh
 abbrev pub blade_of : ℕ → ToolSheet → Size → Result Blade FileRefusal
 blade_of n sheet stickout = blade_by n sheet stickout sheet.flute sheet.shank
 
+-- ---- the point of a cutter
+
+-- the point is a part of the cutter
+abbrev pub checked_length : ℕ → Size → Blade → Result (Unit {0}) FileRefusal
+checked_length n point blade =
+    if nat_lt blade.cutter.length.nanometres point.nanometres then refuse (keys.Point n) tools.LongPoint else Ok tt
+
+-- only a vee and a drill have one
+abbrev pub checked_point : ℕ → Option Cutter → Option Size → Blade → Result (Unit {0}) FileRefusal
+checked_point n cutter None blade = Ok tt
+checked_point n (Some Vee) (Some point) blade = checked_length n point blade
+checked_point n (Some Drill) (Some point) blade = checked_length n point blade
+checked_point n _ (Some point) blade = refuse (keys.Point n) tools.LonePoint
+
 -- ---- all
 
 -- a tool has at most four parts: not a shank and three parts of the holder
@@ -107,5 +123,6 @@ unfoldable pub measured : ℕ → ToolSheet → HolderSheet → Result MeasuredT
 measured n sheet holder = do
   reach ← reach_of n sheet.length sheet.stickout (holder_length holder)
   blade ← blade_of n sheet reach.stickout
+  pointed ← checked_point n sheet.limits.cutter sheet.point blade
   few ← checked_parts n blade holder
   Ok (record { place = n; sheet = sheet; reach = reach; blade = blade; holder = holder })

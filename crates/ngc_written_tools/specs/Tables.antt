@@ -25,8 +25,8 @@ abbrev pub tool_keys : ℕ → List Key
 tool_keys n =
     Tool (keys.Number n) ∷ Tool (keys.Name n) ∷ Tool (keys.Diameter n) ∷ Tool (keys.Length n)
     ∷ Tool (keys.Stickout n) ∷ Tool (keys.Flute n) ∷ Tool (keys.Shank n) ∷ Tool (keys.Offset n)
-    ∷ Tool (keys.Holder n) ∷ Tool (keys.Cutter n) ∷ Tool (keys.Speed n) ∷ Tool (keys.Feed n)
-    ∷ Tool (keys.Plunge n) ∷ []
+    ∷ Tool (keys.Holder n) ∷ Tool (keys.Cutter n) ∷ Tool (keys.Point n) ∷ Tool (keys.Speed n)
+    ∷ Tool (keys.Feed n) ∷ Tool (keys.Plunge n) ∷ []
 
 -- what else is written of a tool with this name and these limits
 unfoldable pub sheet_with : ℕ → Option (List ℕ) → LimitSheet → Data → Result ToolSheet FileRefusal
@@ -38,6 +38,7 @@ sheet_with n name limits section = do
   flute ← optional size_value (Tool (keys.Flute n)) section
   shank ← optional size_value (Tool (keys.Shank n)) section
   offset ← optional offset_value (Tool (keys.Offset n)) section
+  point ← optional size_value (Tool (keys.Point n)) section
   Ok (record {
     number = number;
     name = name;
@@ -47,6 +48,7 @@ sheet_with n name limits section = do
     flute = flute;
     shank = shank;
     offset = offset;
+    point = point;
     limits = limits;
   })
 

@@ -3,8 +3,8 @@ ghost use Rattle.std.specs.Prelude.{◌≡◌, IfOk, map};
 ghost use Rattle.toml.specs.View.{view};
 ghost use Rattle.ngc_written_tools.specs.Limits as spec;
 
-use crate::sheet::{LimitSheet, MeasuredTool};
-use ngc_file_figures::{Limits, ToolLimits};
+use crate::sheet::{LimitSheet, MeasuredTool, Size, ToolSheet};
+use ngc_file_figures::{Cutter, Limits, ToolLimits};
 use ngc_machine_figures::{FeedLimits, FileRefusal, Key, Speed, ToolKey, TurningLimits, optional};
 use std::alloc::{AllocError, Global};
 use toml::Value;
@@ -57,6 +57,26 @@ pub(crate) fn limits_at(tool: u16, table: &Value) -> Result<LimitSheet, FileRefu
     })
 }
 
+fn nanometres(size: Option<Size>) -> Option<u32>
+    ensures { result ≡ spec.nanometres size }
+{
+    match size {
+        Some(size) => Some(size.nanometres),
+        None => None,
+    }
+}
+
+// Returns the height of a cone: of the point, or else of a vee's flute, which isn't lower.
+fn cone_of(sheet: &ToolSheet) -> Option<u32>
+    ensures { result ≡ spec.cone_by sheet.now.limits.cutter sheet.now.point sheet.now.flute }
+{
+    match (sheet.point, sheet.limits.cutter) {
+        (Some(point), _) => Some(point.nanometres),
+        (None, Some(Cutter::Vee)) => nanometres(sheet.flute),
+        (None, _) => None,
+    }
+}
+
 fn limits_by(tool: &MeasuredTool) -> ToolLimits
     ensures { result ≡ spec.limits_by tool.now }
 {
@@ -64,6 +84,7 @@ fn limits_by(tool: &MeasuredTool) -> ToolLimits
     ToolLimits {
         number: tool.sheet.number.number,
         cutter: limits.cutter,
+        cone: cone_of(&tool.sheet),
         speed: limits.speed,
         feed: limits.feed,
         plunge: limits.plunge,

@@ -32,7 +32,8 @@ fn tool_fault(wrong: ToolWrong) -> FileFault
         | ToolWrong::NoPart
         | ToolWrong::NoLength
         | ToolWrong::LoneShank
-        | ToolWrong::NoCutter => FileFault::Document,
+        | ToolWrong::NoCutter
+        | ToolWrong::LonePoint => FileFault::Document,
         _ => FileFault::Tools,
     }
 }

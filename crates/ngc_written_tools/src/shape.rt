@@ -3,6 +3,7 @@ ghost use Rattle.std.specs.Prelude.{◌≡◌, ◌≤◌};
 ghost use Rattle.ngc_written_tools.specs.Shapes as spec;
 
 use crate::sheet::{Blade, HolderSheet, MeasuredTool, PartSheet, Reach, Size, ToolSheet};
+use ngc_file_figures::Cutter;
 use ngc_machine_figures::{FileRefusal, Key, ToolKey, ToolWrong, Wrong};
 
 // A tool is at most this long, in nanometres.
@@ -171,6 +172,16 @@ fn blade_of(tool: u16, sheet: &ToolSheet, stickout: Size) -> Result<Blade, FileR
     }
 }
 
+fn check_length(tool: u16, point: Size, blade: &Blade) -> Result<(), FileRefusal>
+    ensures { result ≡ spec.checked_length tool point blade.now }
+{
+    if blade.cutter.length.nanometres < point.nanometres {
+        refused(ToolKey::Point(tool), ToolWrong::LongPoint)
+    } else {
+        Ok(())
+    }
+}
+
 // Refuses a tool of more than four parts, which has a shank and three parts of the holder.
 fn check_parts(tool: u16, blade: &Blade, holder: &HolderSheet) -> Result<(), FileRefusal>
     ensures { result ≡ spec.checked_parts tool blade.now holder.now }
@@ -178,6 +189,18 @@ fn check_parts(tool: u16, blade: &Blade, holder: &HolderSheet) -> Result<(), Fil
     match (blade.shank, holder.third) {
         (Some(_), Some(_)) => refused(ToolKey::Holder(tool), ToolWrong::ManyParts),
         _ => Ok(()),
+    }
+}
+
+// Refuses a point of another cutter than a vee or a drill, and one that is longer than the cutter.
+fn check_point(tool: u16, sheet: &ToolSheet, blade: &Blade) -> Result<(), FileRefusal>
+    ensures { result ≡ spec.checked_point tool sheet.now.limits.cutter sheet.now.point blade.now }
+{
+    match (sheet.point, sheet.limits.cutter) {
+        (None, _) => Ok(()),
+        (Some(point), Some(Cutter::Vee)) => check_length(tool, point, blade),
+        (Some(point), Some(Cutter::Drill)) => check_length(tool, point, blade),
+        (Some(_), _) => refused(ToolKey::Point(tool), ToolWrong::LonePoint),
     }
 }
 
@@ -192,6 +215,7 @@ pub(crate) fn measured(
 {
     let reach = reach_of(tool, sheet.length, sheet.stickout, holder_length(holder))?;
     let blade = blade_of(tool, sheet, reach.stickout)?;
+    check_point(tool, sheet, &blade)?;
     check_parts(tool, &blade, holder)?;
     Ok(MeasuredTool {
         place: tool,

@@ -64,6 +64,8 @@ pub struct ToolSheet {
     pub shank: Option<Size>,
     /// What G43 adds to Z.
     pub offset: Option<Offset>,
+    /// The height of the cone of a vee or a drill.
+    pub point: Option<Size>,
     pub limits: LimitSheet,
 }
 

@@ -20,7 +20,7 @@ use toml::Value;
 pub const TABLE_KEYS: [Key; 2] = [Key::Version, Key::Tool(ToolKey::Tools)];
 
 // Returns the keys of a tool, in the order of the format's example.
-fn tool_keys(tool: u16) -> [Key; 13]
+fn tool_keys(tool: u16) -> [Key; 14]
     ensures { result ≡ spec.tool_keys tool }
 {
     [
@@ -34,6 +34,7 @@ fn tool_keys(tool: u16) -> [Key; 13]
         Key::Tool(ToolKey::Offset(tool)),
         Key::Tool(ToolKey::Holder(tool)),
         Key::Tool(ToolKey::Cutter(tool)),
+        Key::Tool(ToolKey::Point(tool)),
         Key::Tool(ToolKey::Speed(tool)),
         Key::Tool(ToolKey::Feed(tool)),
         Key::Tool(ToolKey::Plunge(tool)),
@@ -56,6 +57,7 @@ fn sheet_with(
     let flute = optional(Key::Tool(ToolKey::Flute(tool)), table)?;
     let shank = optional(Key::Tool(ToolKey::Shank(tool)), table)?;
     let offset = optional(Key::Tool(ToolKey::Offset(tool)), table)?;
+    let point = optional(Key::Tool(ToolKey::Point(tool)), table)?;
     Ok(ToolSheet {
         number,
         name,
@@ -65,6 +67,7 @@ fn sheet_with(
         flute,
         shank,
         offset,
+        point,
         limits,
     })
 }

@@ -1,4 +1,4 @@
-use Rattle.std.proofs.Common.{◌-◌, ◌∙◌, sym, length, None, arith}
+use Rattle.std.proofs.Common.{◌-◌, ◌∙◌, sym, length, arith}
 use Rattle.ngc_material.proofs.LaterFeeds.{first_below, later_below, last_below}
 use Rattle.ngc_material.proofs.below.find_below.Goals as goal
 

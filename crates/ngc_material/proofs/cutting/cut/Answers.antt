@@ -7,7 +7,7 @@ use Rattle.ngc_material.proofs.cutting.cut.Goals as goal
 pub returns-else-level-piece_level : goal.returns-else-level-piece_level
 returns-else-level-piece_level c =
     let s = c.args.stock.now in
-    let t = c.args.tool.now in
+    let t = c.args.cylinder.now in
     let a = c.args.line.now.start in
     let b = c.args.line.now.end in
     let whole : c.loop-part.part ≡ pieces a b = omega (arith, c.loop-part-test.false, c.loop-part.auto.part-end, c.pieces-part-end.ensures.value) in

@@ -5,5 +5,5 @@ use Rattle.ngc_material.proofs.cutting.cut.Given as goal
 abbrev pub invariant-loop-part : goal.invariant-loop-part
 invariant-loop-part l = record {
   count : length l.heights ≡ l.stock.grid.columns * l.stock.grid.rows;
-  cut : ArePiecesCut l.stock l.tool l.line.start l.line.end l.part l.fn.heights l.heights;
+  cut : ArePiecesCut l.stock l.cylinder l.line.start l.line.end l.part l.fn.heights l.heights;
 }

@@ -1,26 +1,10 @@
-use Rattle.std.proofs.Common.{◌≤◌, arith, ap, length, List}
-use Rattle.ngc_machine_files.specs.declared.parts.Part.{Part}
-use Rattle.ngc_stock.specs.Walk.{IsClear}
-use Rattle.ngc_material.proofs.Uppers.{next_upper, one_lower}
+use Rattle.ngc_material.proofs.Uppers.{none_with, upper_first}
 use Rattle.ngc_material.proofs.touch.first_touch.Goals as goal
-use Rattle.ngc_material.proofs.touch.first_touch.Goals.{then-first-part+in_default, else-first-part}
 
-pub loop-part-preserved : goal.loop-part-preserved
-loop-part-preserved c =
-    let s = c.args.stock.now in
-    let t = c.args.tool.now in
-    let u = c.loop-part.upper in
-    let a = c.args.line.now.start in
-    let b = c.args.line.now.end in
-    let v = c.loop-part.invariant in
-    let size = ap (λ (l : List Part). length l) c.as_slice-part-end.ensures.parts in
-    let clear : c.args.first ≤ c.loop-part.part → IsClear s u a b c.args.heights.now =
-    elim c.if-first-part.branch [
-      | then-first-part+in_default w ↦ (λ h. w.in_default.ensures.none)
-      | else-first-part w ↦ (λ h. absurd (omega (arith, w.if-first-part.false, h)))
-    ] in
-    record {
-      lower = one_lower s t u c.args.first a b c.args.heights.now c.loop-part.part
-          (omega (arith, c.loop-part-test.true, c.loop-part.auto.part-end, size)) v.upper clear v.lower;
-      upper = λ less. next_upper t u c.above-upper.result c.loop-part.part v.upper c.above-upper.ensures less;
-    }
+pub returns-in-None-clause-none : goal.returns-in-None-clause-none
+returns-in-None-clause-none c = none_with c.upper_touch.result _ _ c.in-None.ensures.none c.upper_touch.ensures.none
+
+pub returns-in-None-clause-some : goal.returns-in-None-clause-some
+returns-in-None-clause-some c =
+    upper_first c.args.stock.now c.args.discs.now c.args.tool.now c.args.line.now.start c.args.line.now.end c.args.heights.now c.upper_touch.result
+    c.in-None.ensures.none c.upper_touch.ensures.some

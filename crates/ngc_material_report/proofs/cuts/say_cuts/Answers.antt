@@ -8,8 +8,8 @@ loop-cut-init g c = no_text _ _ _
 
 pub loop-cut-preserved : goal.loop-cut-preserved
 loop-cut-preserved g c =
-    one_more (cut_text c.args.form) c.args.cuts.now c.loop-cut.cut-index _ c.loop-cut-test.true
+    one_more (cut_text c.args.form c.args.tools.now) c.args.cuts.now c.loop-cut.cut-index _ c.loop-cut-test.true
     (get_or_default c.args.cuts.now c.loop-cut.cut-index _ _ c.loop-cut-test.true) c.loop-cut.invariant c.say_cut.ensures
 
 pub returns : goal.returns
-returns g c = all_said (cut_text c.args.form) c.args.cuts.now c.loop-cut.cut-index c.loop-cut-test.false c.loop-cut.invariant
+returns g c = all_said (cut_text c.args.form c.args.tools.now) c.args.cuts.now c.loop-cut.cut-index c.loop-cut-test.false c.loop-cut.invariant

@@ -6,4 +6,4 @@ use Rattle.ngc_material_report.proofs.cuts.say_cuts.Given as goal
 abbrev pub invariant-loop-cut : goal.invariant-loop-cut
 invariant-loop-cut g l =
     Says (g.W.Sink.written l.initial.output) (g.W.Sink.written l.output) (g.W.Sink.failures l.initial.output) (g.W.Sink.failures l.output)
-    l.initial.page l.page (flat_map (cut_text l.form) (take l.cut-index l.cuts))
+    l.initial.page l.page (flat_map (cut_text l.form l.tools) (take l.cut-index l.cuts))

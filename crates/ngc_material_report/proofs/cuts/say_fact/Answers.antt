@@ -4,4 +4,4 @@ use Rattle.ngc_material_report.proofs.cuts.say_fact.Goals as goal
 
 pub returns : goal.returns
 unfolding cut_fact
-returns g c = then c.say.ensures (then c.say_command_fact.ensures (rw (← c.whole_depth.ensures) c.say-2.ensures))
+returns g c = then c.say_depth_values.ensures (then (rw (← c.short_cutter.ensures) c.say_short_value.ensures) c.say.ensures)

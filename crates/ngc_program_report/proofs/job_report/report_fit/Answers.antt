@@ -47,9 +47,9 @@ returns-then-not-apart-clause-tells g c =
       fit_once f said c.args.request.now.form c.args.request.now.origins c.args.request.now.cells c.in_ok-off_time.accepted (planned_by c.motions_at-motions.result) (findings c.in_ok-off_time.off_time c.in_ok-material.material)
           (reported c.args.text.now) none is
           (c.motions_at-motions.ensures ∙ planned_as j c.in_ok-off_time.accepted false (plan_at Off c.args.plans.now) is)
-          (found_off c.args.request.now.cells c.accept-accepted.result j (findings c.in_ok-off_time.off_time c.in_ok-material.material) c.accept-accepted.ensures (record {
+          (found_off c.args.request.now.cells (reported c.args.text.now).figures.tools c.accept-accepted.result j (findings c.in_ok-off_time.off_time c.in_ok-material.material) c.accept-accepted.ensures (record {
             lasts = c.in_ok-off_time.ensures.lasts;
-            walked = walked_as _ _ _ _ false c.in_ok-off_time.ensures.back c.in_ok-material.ensures.walked;
+            walked = walked_as _ _ _ _ _ false c.in_ok-off_time.ensures.back (rw c.limits_in-table.ensures at c.in_ok-material.ensures.walked);
           })),
       c.in_ok-write_once.ensures.ok,
     )
@@ -69,9 +69,9 @@ returns-in_err-write_once-clause-tells g c =
       fit_once f said c.args.request.now.form c.args.request.now.origins c.args.request.now.cells c.in_ok-off_time.accepted (planned_by c.motions_at-motions.result) (findings c.in_ok-off_time.off_time c.in_ok-material.material)
           (reported c.args.text.now) none is
           (c.motions_at-motions.ensures ∙ planned_as j c.in_ok-off_time.accepted false (plan_at Off c.args.plans.now) is)
-          (found_off c.args.request.now.cells c.accept-accepted.result j (findings c.in_ok-off_time.off_time c.in_ok-material.material) c.accept-accepted.ensures (record {
+          (found_off c.args.request.now.cells (reported c.args.text.now).figures.tools c.accept-accepted.result j (findings c.in_ok-off_time.off_time c.in_ok-material.material) c.accept-accepted.ensures (record {
             lasts = c.in_ok-off_time.ensures.lasts;
-            walked = walked_as _ _ _ _ false c.in_ok-off_time.ensures.back c.in_ok-material.ensures.walked;
+            walked = walked_as _ _ _ _ _ false c.in_ok-off_time.ensures.back (rw c.limits_in-table.ensures at c.in_ok-material.ensures.walked);
           })),
       c.in_err-write_once.ensures.fault,
     )
@@ -91,13 +91,13 @@ returns-clause-tells g c =
           (reported c.args.text.now) some is
           (c.motions_at-off_motions.ensures ∙ planned_as j c.in_ok-on_time.accepted false (plan_at Off c.args.plans.now) is)
           (c.motions_at-on_motions.ensures ∙ planned_as j c.in_ok-on_time.accepted true (plan_at On c.args.plans.now) is)
-          (found_off c.args.request.now.cells c.accept-accepted.result j (findings c.in_ok-off_time.off_time c.in_ok-off_material.off_material) c.accept-accepted.ensures (record {
+          (found_off c.args.request.now.cells (reported c.args.text.now).figures.tools c.accept-accepted.result j (findings c.in_ok-off_time.off_time c.in_ok-off_material.off_material) c.accept-accepted.ensures (record {
             lasts = c.in_ok-off_time.ensures.lasts;
-            walked = walked_as _ _ _ _ false (c.in_ok-on_time.ensures.back ∙ c.in_ok-off_time.ensures.back) c.in_ok-off_material.ensures.walked;
+            walked = walked_as _ _ _ _ _ false (c.in_ok-on_time.ensures.back ∙ c.in_ok-off_time.ensures.back) (rw c.limits_in-table.ensures at c.in_ok-off_material.ensures.walked);
           }))
-          (found_on c.args.request.now.cells c.in_ok-off_time.accepted j (findings c.in_ok-on_time.on_time c.in_ok-on_material.on_material) before (record {
+          (found_on c.args.request.now.cells (reported c.args.text.now).figures.tools c.in_ok-off_time.accepted j (findings c.in_ok-on_time.on_time c.in_ok-on_material.on_material) before (record {
             lasts = c.in_ok-on_time.ensures.lasts;
-            walked = walked_as _ _ _ _ true c.in_ok-on_time.ensures.back c.in_ok-on_material.ensures.walked;
+            walked = walked_as _ _ _ _ _ true c.in_ok-on_time.ensures.back (rw c.limits_in-table.ensures at c.in_ok-on_material.ensures.walked);
           }))
           c.frames_or-on_history.ensures,
       c.in_ok-write_both.ensures.ok,
@@ -122,13 +122,13 @@ returns-in_err-write_both-clause-tells g c =
           (reported c.args.text.now) some is
           (c.motions_at-off_motions.ensures ∙ planned_as j c.in_ok-on_time.accepted false (plan_at Off c.args.plans.now) is)
           (c.motions_at-on_motions.ensures ∙ planned_as j c.in_ok-on_time.accepted true (plan_at On c.args.plans.now) is)
-          (found_off c.args.request.now.cells c.accept-accepted.result j (findings c.in_ok-off_time.off_time c.in_ok-off_material.off_material) c.accept-accepted.ensures (record {
+          (found_off c.args.request.now.cells (reported c.args.text.now).figures.tools c.accept-accepted.result j (findings c.in_ok-off_time.off_time c.in_ok-off_material.off_material) c.accept-accepted.ensures (record {
             lasts = c.in_ok-off_time.ensures.lasts;
-            walked = walked_as _ _ _ _ false (c.in_ok-on_time.ensures.back ∙ c.in_ok-off_time.ensures.back) c.in_ok-off_material.ensures.walked;
+            walked = walked_as _ _ _ _ _ false (c.in_ok-on_time.ensures.back ∙ c.in_ok-off_time.ensures.back) (rw c.limits_in-table.ensures at c.in_ok-off_material.ensures.walked);
           }))
-          (found_on c.args.request.now.cells c.in_ok-off_time.accepted j (findings c.in_ok-on_time.on_time c.in_ok-on_material.on_material) before (record {
+          (found_on c.args.request.now.cells (reported c.args.text.now).figures.tools c.in_ok-off_time.accepted j (findings c.in_ok-on_time.on_time c.in_ok-on_material.on_material) before (record {
             lasts = c.in_ok-on_time.ensures.lasts;
-            walked = walked_as _ _ _ _ true c.in_ok-on_time.ensures.back c.in_ok-on_material.ensures.walked;
+            walked = walked_as _ _ _ _ _ true c.in_ok-on_time.ensures.back (rw c.limits_in-table.ensures at c.in_ok-on_material.ensures.walked);
           }))
           c.frames_or-on_history.ensures,
       c.in_err-write_both.ensures.fault,

@@ -25,7 +25,7 @@ returns-in_err-write_cuts-clause-fault g c =
     let same = ap (λ (w : WalkData). depths_text a.form c.block_origin-origin.result w.stock c.at_start-start.result a.commands.now) c.walk.view_is
     ∙ ap (λ (o : Spot). depths_text a.form o a.walk.now.stock c.at_start-start.result a.commands.now) c.block_origin-origin.ensures
     ∙ ap (λ (r : Reached). depths_text a.form (block_origin m m.stock) a.walk.now.stock r a.commands.now) c.at_start-start.ensures in
-    let cuts = ap (λ (cs : List Cut). cuts_text a.form cs) (c.as_slice-cuts.ensures.value ∙ ap (λ (w : WalkData). w.cuts) c.walk.view_is) in
+    let cuts = ap (λ (cs : List Cut). cuts_text a.form a.tools.now cs) (c.as_slice-cuts.ensures.value ∙ ap (λ (w : WalkData). w.cuts) c.walk.view_is) in
     on_err _ _ (begins_last _ _ _ _ _ (appends_as _ _ _ _ same c.in_ok-write_depths.ensures.ok)
     (begins_first _ _ _ _ (begins_as _ _ _ _ cuts c.in_err-write_cuts.ensures.fault)))
 
@@ -37,7 +37,7 @@ returns-clause-fault g c =
     ∙ ap (λ (o : Spot). depths_text a.form o a.walk.now.stock c.at_start-start.result a.commands.now) c.block_origin-origin.ensures
     ∙ ap (λ (r : Reached). depths_text a.form (block_origin m m.stock) a.walk.now.stock r a.commands.now) c.at_start-start.ensures in
     let deepest = c.as_slice-cuts.ensures.value ∙ ap (λ (w : WalkData). w.cuts) c.walk.view_is in
-    let cuts = ap (λ (cs : List Cut). cuts_text a.form cs) deepest in
+    let cuts = ap (λ (cs : List Cut). cuts_text a.form a.tools.now cs) deepest in
     let untested = ap (λ (w : WalkData). untested_text a.form w.stock.grid a.tools.now c.as_slice-cuts.result.now) c.walk.view_is
     ∙ ap (λ (cs : List Cut). untested_text a.form a.walk.now.stock.grid a.tools.now cs) deepest in
     third_fault c.write_untested.result (g.W.Sink.written a.output.now) (g.W.Sink.written c.write_depths.new.output)

@@ -6,6 +6,6 @@ pub loop-index-preserved : goal.loop-index-preserved
 loop-index-preserved c =
     let w = c.args.self.now in
     let v = c.loop-index.invariant in record {
-      count = some_count w.stock w.tool w.arc c.loop-index.heights c.cut_chord.new.heights c.cut_chord.ensures ∙ v.count;
-      cut = some_join w.stock w.tool w.arc c.args.heights.now c.loop-index.heights c.cut_chord.new.heights v.cut c.cut_chord.ensures;
+      count = some_count w.stock w.cylinder w.arc c.loop-index.heights c.cut_chord.new.heights c.cut_chord.ensures ∙ v.count;
+      cut = some_join w.stock w.cylinder w.arc c.args.heights.now c.loop-index.heights c.cut_chord.new.heights v.cut c.cut_chord.ensures;
     }

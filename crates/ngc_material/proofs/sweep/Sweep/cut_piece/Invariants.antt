@@ -6,5 +6,5 @@ use Rattle.ngc_material.proofs.sweep.Sweep.cut_piece.Given as goal
 abbrev pub invariant-loop-index : goal.invariant-loop-index
 invariant-loop-index l = record {
   count : length l.heights ≡ l.self.stock.grid.columns * l.self.stock.grid.rows;
-  cut : AreSomeCut l.self.stock l.self.tool l.self.arc l.fn.heights l.heights;
+  cut : AreSomeCut l.self.stock l.self.cylinder l.self.arc l.fn.heights l.heights;
 }
