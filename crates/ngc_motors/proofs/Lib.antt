@@ -4,5 +4,7 @@ pub mod Quotients
 pub mod Sizes
 -- How far a motor may stand from the path.
 pub mod Slack
+-- Places to which counts move the axes, in whole nanometres.
+pub mod Places
 -- Worked rows of the definition.
 mod Worked
