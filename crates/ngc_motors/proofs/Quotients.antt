@@ -65,7 +65,7 @@ times_rises n (negsuc a) (negsuc b) h =
     let p = mul-le (suc b) n (suc a) n (omega (arith, ints, h)) (omega arith) in omega (arith, ints, p)
 times_rises n (pos a) (negsuc b) h = absurd (omega (arith, ints, h))
 
-one_more : (n : ℕ) (k : ℤ) → (k +ℤ pos 1) *ℤ pos n ≡ (k *ℤ pos n) +ℤ pos n
+pub one_more : (n : ℕ) (k : ℤ) → (k +ℤ pos 1) *ℤ pos n ≡ (k *ℤ pos n) +ℤ pos n
 one_more n (pos m) = omega (arith, ints)
 one_more n (negsuc zero) = omega (arith, ints)
 one_more n (negsuc (suc m)) =

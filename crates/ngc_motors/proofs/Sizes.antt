@@ -45,6 +45,14 @@ motor_step g m is h =
     let on = on_grid g m h in
     record { some = on.some; least = longer g m.steps m.nanometres is on.least; greatest = on.bound }
 
+twice : (g : ℤ) (s n : ℕ) → IsStep g → (g *ℤ pos s) ≤ℤ pos n → 2 * s ≤ n
+twice (pos g) s n is h =
+    let p = mul-le 2 s g s (omega (arith, ints, is.least)) (omega arith) in omega (arith, ints, h, p)
+twice (negsuc g) s n is h = absurd (omega (arith, ints, is.least))
+
+pub twice_within : (g : ℤ) (m : MotorStep) → IsStep g → IsTrue (is_motor g m) → 2 * m.steps ≤ m.nanometres
+twice_within g m is h = twice g m.steps m.nanometres is (on_grid g m h).least
+
 pub some_nanometres : (m : MotorStep) → IsMotorStep m → 0 < m.nanometres
 some_nanometres m is = omega (arith, is.some, is.least)
 

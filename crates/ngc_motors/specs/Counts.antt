@@ -96,10 +96,29 @@ commanded_high m p = record {
   z = place_above m.steps.z (p.z *ℤ m.grid);
 }
 
+-- ---- ends of a travel
+
 -- The motor can stand at both ends of a travel, to the nanometre: for an end it stands less than a
 -- nanometre inside it.
 abbrev pub ends_at_steps : MotorStep → ℤ → ℤ → Bool
 ends_at_steps m low high = int_eq (place_below m low) low && int_eq (place_above m high) high
+
+-- the count of the first whole step from a place in nanometres up, and from there down
+abbrev pub count_up : MotorStep → ℤ → ℤ
+count_up m place =
+    int_div_euclid (((place *ℤ pos m.steps) +ℤ pos m.nanometres) -ℤ pos 1) (pos m.nanometres)
+
+abbrev pub count_down : MotorStep → ℤ → ℤ
+count_down m place = int_div_euclid (place *ℤ pos m.steps) (pos m.nanometres)
+
+-- a low end that is moved up to that step, and a high end that is moved down: the whole nanometre
+-- there, or the next outside
+abbrev pub first_place : MotorStep → ℤ → ℤ
+first_place m place = int_div_euclid (count_up m place *ℤ pos m.nanometres) (pos m.steps)
+
+abbrev pub last_place : MotorStep → ℤ → ℤ
+last_place m place =
+    int_div_euclid (((count_down m place *ℤ pos m.nanometres) +ℤ pos m.steps) -ℤ pos 1) (pos m.steps)
 
 -- ---- how far motors stand from the path
 

@@ -1,6 +1,8 @@
 -- What the counts of motors are. Our own.
-use Rattle.std.specs.Prelude.{◌≡◌, ◌<◌, ℤ, pos, ◌+ℤ◌, ◌-ℤ◌, ◌*ℤ◌, ◌≤ℤ◌}
-use Rattle.ngc_motors.specs.Counts.{commanded_parts, count, place_above, place_below}
+use Rattle.std.specs.Prelude.{◌≡◌, ◌<◌, ℤ, pos, ◌+ℤ◌, ◌-ℤ◌, ◌*ℤ◌, ◌≤ℤ◌, IsTrue}
+use Rattle.ngc_fixed_length.specs.Length.{IsStep}
+use Rattle.ngc_motors.specs.Counts.{commanded_parts, count, ends_at_steps, first_place, is_motor, last_place}
+use Rattle.ngc_motors.specs.Counts.{place_above, place_below}
 use Rattle.ngc_motors.specs.declared.step.MotorStep.{MotorStep}
 
 -- a place in nanometres, in the parts of which the motor's `steps` make a nanometre
@@ -31,6 +33,11 @@ CountMovesByOne = (m : MotorStep) (a b : ℤ) → 0 < m.nanometres →
 abbrev pub CountOfWhole : Type 0
 CountOfWhole = (m : MotorStep) (k place : ℤ) → 0 < m.nanometres →
     parts m place ≡ k *ℤ pos m.nanometres → count m place ≡ k
+
+-- a travel whose ends are moved ends at steps
+abbrev pub MovedEndsFit : Type 0
+MovedEndsFit = (grid : ℤ) (m : MotorStep) (low high : ℤ) → IsStep grid → IsTrue (is_motor grid m) →
+    IsTrue (ends_at_steps m (first_place m low) (last_place m high))
 
 -- the place of a count is between two whole nanometres, of which one is at most 1 nm above the other
 pub record IsBetween (m : MotorStep) (place : ℤ) : Type 0 where

@@ -1,5 +1,6 @@
 //! The step of a motor.
-ghost use Rattle.std.specs.Prelude.{◌≡◌, ◌≤◌, ◌<ℤ◌, ◌+◌, ◌^◌, pos, unsigned_abs};
+ghost use Rattle.std.specs.Prelude.{◌≡◌, ◌≤◌, ◌<ℤ◌, ◌+ℤ◌, ◌-ℤ◌, ◌*ℤ◌, ◌+◌, ◌^◌, pos, unsigned_abs};
+ghost use Rattle.std.specs.Int.{int_div_euclid};
 ghost use Rattle.ngc_motors.specs.Counts.{IsMotorStep};
 ghost use Rattle.ngc_motors.specs.Counts as spec;
 
@@ -57,10 +58,8 @@ impl MotorStep {
         ensures value { result ≡ spec.count self.now place }
         ensures bound { unsigned_abs result ≤ 2 ^ 63 + 1 }
     {
-        nearest(
-            i128::from(place) * i128::from(self.steps),
-            i128::from(self.nanometres),
-        )
+        let parts = i128::from(place) * i128::from(self.steps);
+        nearest(parts, i128::from(self.nanometres))
     }
 
     // Returns where the count for a place moves the axis, in parts of a nanometre, of which `steps`
@@ -87,8 +86,50 @@ impl MotorStep {
         requires { IsMotorStep self.now }
         ensures { result ≡ spec.place_above self.now place }
     {
-        let steps = i128::from(self.steps);
-        (self.commanded_parts(place) + steps - 1).div_euclid(steps)
+        rounded_up(self.commanded_parts(place), i128::from(self.steps))
+    }
+
+    // Returns where the first whole step from a place up is, in parts of a nanometre, of which `steps`
+    // make one.
+    fn parts_up(&self, place: i64) -> i128
+        requires { IsMotorStep self.now }
+        ensures value { result ≡ spec.count_up self.now place *ℤ pos self.now.nanometres }
+        ensures bound { unsigned_abs result ≤ 2 ^ 104 }
+    {
+        let nanometres = i128::from(self.nanometres);
+        let parts = i128::from(place) * i128::from(self.steps);
+        rounded_up(parts, nanometres) * nanometres
+    }
+
+    // Returns where the first whole step from a place down is.
+    fn parts_down(&self, place: i64) -> i128
+        requires { IsMotorStep self.now }
+        ensures value { result ≡ spec.count_down self.now place *ℤ pos self.now.nanometres }
+        ensures bound { unsigned_abs result ≤ 2 ^ 104 }
+    {
+        let nanometres = i128::from(self.nanometres);
+        let parts = i128::from(place) * i128::from(self.steps);
+        parts.div_euclid(nanometres) * nanometres
+    }
+
+    /// Returns the low end of a travel, moved up to the first whole step: the whole nanometre there, or
+    /// the next below.
+    pub fn first_place(&self, low: i64) -> i64
+        requires motor { IsMotorStep self.now }
+        requires near { unsigned_abs low ≤ 4000000000 }
+        ensures { result ≡ spec.first_place self.now low }
+    {
+        self.parts_up(low).div_euclid(i128::from(self.steps)) as i64
+    }
+
+    /// Returns the high end of a travel, moved down to the last whole step: the whole nanometre there,
+    /// or the next above.
+    pub fn last_place(&self, high: i64) -> i64
+        requires motor { IsMotorStep self.now }
+        requires near { unsigned_abs high ≤ 4000000000 }
+        ensures { result ≡ spec.last_place self.now high }
+    {
+        rounded_up(self.parts_down(high), i128::from(self.steps)) as i64
     }
 
     /// Returns whether the motor can stand at both ends of a travel, to the nanometre: for each end it
@@ -99,6 +140,16 @@ impl MotorStep {
     {
         self.place_below(low) == i128::from(low) && self.place_above(high) == i128::from(high)
     }
+}
+
+// Returns a / b, rounded up.
+fn rounded_up(a: i128, b: i128) -> i128
+    requires some { pos 0 <ℤ b }
+    requires a { unsigned_abs a ≤ 2 ^ 104 }
+    requires b { unsigned_abs b ≤ 2 ^ 40 }
+    ensures { result ≡ int_div_euclid ((a +ℤ b) -ℤ pos 1) b }
+{
+    (a + b - 1).div_euclid(b)
 }
 
 // Returns the whole number nearest to a / b. Of two that are equally near it is the greater one.

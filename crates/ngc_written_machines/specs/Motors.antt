@@ -1,11 +1,10 @@
 -- The motors of a machine's axes: the path's grid, and the travel that ends at whole steps of each. Our
 -- own.
-use Rattle.std.specs.Prelude.{ℕ, ◌/◌, min, ℤ, pos, ◌+ℤ◌, ◌-ℤ◌, ◌*ℤ◌, Bool, ◌&&◌, ◌||◌, not}
+use Rattle.std.specs.Prelude.{ℕ, ◌/◌, min, pos, Bool, ◌&&◌, ◌||◌, not}
 use Rattle.std.specs.Prelude.{if◌then◌else◌}
-use Rattle.std.specs.Int.{int_div_euclid}
 use Rattle.ngc_fixed_length.specs.Signed.{is_within}
 use Rattle.ngc_quantities.specs.declared.range.Range.{Range}
-use Rattle.ngc_motors.specs.Counts.{is_grid_step}
+use Rattle.ngc_motors.specs.Counts.{first_place, is_grid_step, last_place}
 use Rattle.ngc_motors.specs.declared.step.MotorStep.{MotorStep}
 use Rattle.ngc_motors.specs.declared.step.MotorSteps.{MotorSteps}
 use Rattle.ngc_motor_scale.specs.Scales.{IsScale}
@@ -28,21 +27,6 @@ grid_of own = min (min (rounded_down own.x) (rounded_down own.y)) (rounded_down 
 
 -- ---- the travel
 
--- the number of the first whole step from a coordinate up, and of the first from there down
-abbrev pub count_up : MotorStep → ℤ → ℤ
-count_up m c = int_div_euclid (((c *ℤ pos m.steps) +ℤ pos m.nanometres) -ℤ pos 1) (pos m.nanometres)
-
-abbrev pub count_down : MotorStep → ℤ → ℤ
-count_down m c = int_div_euclid (c *ℤ pos m.steps) (pos m.nanometres)
-
--- an end that is moved to that step: the whole nanometre there, or the next outside
-abbrev pub moved_up : MotorStep → ℤ → ℤ
-moved_up m c = int_div_euclid (count_up m c *ℤ pos m.nanometres) (pos m.steps)
-
-abbrev pub moved_down : MotorStep → ℤ → ℤ
-moved_down m c =
-    int_div_euclid (((count_down m c *ℤ pos m.nanometres) +ℤ pos m.steps) -ℤ pos 1) (pos m.steps)
-
 abbrev pub is_beyond : Range → Bool
 is_beyond r = not (is_within TRAVEL_LIMIT r.low && is_within TRAVEL_LIMIT r.high)
 
@@ -51,7 +35,7 @@ is_beyond r = not (is_within TRAVEL_LIMIT r.low && is_within TRAVEL_LIMIT r.high
 abbrev pub ends_of : ℕ → MotorStep → Range → Range
 ends_of grid m r =
     if is_grid_step (pos grid) m || is_beyond r then r
-    else record { low = moved_up m r.low; high = moved_down m r.high }
+    else record { low = first_place m r.low; high = last_place m r.high }
 
 abbrev pub travel_ends : ℕ → MotorSteps → AxesSheet → PerAxis Range
 travel_ends grid own a = record {

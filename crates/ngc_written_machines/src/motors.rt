@@ -1,5 +1,6 @@
 //! The motors of a machine's axes.
-ghost use Rattle.std.specs.Prelude.{◌≡◌, ◌≤◌, ◌<◌, false, unsigned_abs};
+ghost use Rattle.std.specs.Prelude.{◌≡◌, ◌<◌, false};
+ghost use Rattle.ngc_motors.specs.Counts.{first_place, last_place};
 ghost use Rattle.ngc_motor_scale.specs.Scales.{IsScale};
 ghost use Rattle.ngc_written_machines.specs.Motors as spec;
 
@@ -12,6 +13,7 @@ use ngc_quantities::Range;
 const TRAVEL_LIMIT: u64 = 3_999_000_000;
 
 // Returns a step in whole nanometres, rounded down.
+#[tactic(auto, using(crate::proofs::Steps::least, crate::proofs::Steps::most))]
 fn rounded_down(motor: &MotorStep) -> u32
     requires { IsScale motor.now }
     ensures value { result ≡ spec.rounded_down motor.now }
@@ -37,43 +39,17 @@ fn is_beyond(travel: Range) -> bool
     !(travel.low.unsigned_abs() <= TRAVEL_LIMIT && travel.high.unsigned_abs() <= TRAVEL_LIMIT)
 }
 
-// Returns where the first whole step from the low end of a travel up is. If that is no whole
-// nanometre, it is the next one below.
-fn moved_up(motor: &MotorStep, end: i64) -> i64
-    requires motor { IsScale motor.now }
-    requires near { unsigned_abs end ≤ 3999000000 }
-    ensures { result ≡ spec.moved_up motor.now end }
-{
-    let nanometres = i128::from(motor.nanometres);
-    let steps = i128::from(motor.steps);
-    let count = (i128::from(end) * steps + nanometres - 1).div_euclid(nanometres);
-    (count * nanometres).div_euclid(steps) as i64
-}
-
-// Returns where the first whole step from the high end of a travel down is. If that is no whole
-// nanometre, it is the next one above.
-fn moved_down(motor: &MotorStep, end: i64) -> i64
-    requires motor { IsScale motor.now }
-    requires near { unsigned_abs end ≤ 3999000000 }
-    ensures { result ≡ spec.moved_down motor.now end }
-{
-    let nanometres = i128::from(motor.nanometres);
-    let steps = i128::from(motor.steps);
-    let count = (i128::from(end) * steps).div_euclid(nanometres);
-    (count * nanometres + steps - 1).div_euclid(steps) as i64
-}
-
 fn moved_inwards(motor: &MotorStep, travel: Range) -> Range
     requires motor { IsScale motor.now }
     requires near { spec.is_beyond travel ≡ false }
     ensures { result ≡ record {
-      low = spec.moved_up motor.now travel.low;
-      high = spec.moved_down motor.now travel.high;
+      low = first_place motor.now travel.low;
+      high = last_place motor.now travel.high;
     } }
 {
     Range {
-        low: moved_up(motor, travel.low),
-        high: moved_down(motor, travel.high),
+        low: motor.first_place(travel.low),
+        high: motor.last_place(travel.high),
     }
 }
 

@@ -6,8 +6,8 @@ use Rattle.ngc_motors.proofs.Sizes.{count_size, parts_size}
 use Rattle.ngc_motors.proofs.step.MotorStep.count.Goals.{After-nearest}
 use Rattle.ngc_motors.proofs.step.MotorStep.count.Goals as goal
 
-pub overflow_mul-nearest : goal.overflow_mul-nearest
-overflow_mul-nearest c =
+pub overflow_mul-parts : goal.overflow_mul-parts
+overflow_mul-parts c =
     let m = c.args.self.now in
     let small = parts_size m c.args.place c.requires (omega (arith, ints)) in
     let place : to_z w128 (of_z w128 c.from.result) ≡ c.args.place = omega (arith, ints) in
