@@ -54,7 +54,7 @@ close_on : (grid margin : ℤ) (m : MotorStep) (low high p : ℤ) → IsStep gri
     IsClose margin low high (p *ℤ grid) (place_below m (p *ℤ grid)) (place_above m (p *ℤ grid))
 close_on grid margin m low high p on is least fits = elim fits [
   | inl same ↦ close_same margin low high (p *ℤ grid) (place_below m (p *ℤ grid)) (place_above m (p *ℤ grid)) least
-    (grid_below p grid m on is.some same) (grid_above p grid m on is.some same)
+      (grid_below p grid m on is.some same) (grid_above p grid m on is.some same)
   | inr held ↦ close_held margin m low high (p *ℤ grid) is least held
 ]
 
