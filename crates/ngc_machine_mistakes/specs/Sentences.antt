@@ -1,5 +1,5 @@
 -- What is wrong with the figures of a machine file. Our own.
-use Rattle.std.specs.Prelude.{List, [], ◌++◌, codes}
+use Rattle.std.specs.Prelude.{ℕ, List, [], ◌++◌, codes}
 use Rattle.ngc_motor_scale.specs.declared.scale.ScaleRefusal.{ScaleRefusal}
 use Rattle.ngc_motor_scale.specs.declared.scale.ScaleRefusal.TheVariants as scales
 use Rattle.ngc_machine_figures.specs.declared.key.AxisName.{AxisName}
