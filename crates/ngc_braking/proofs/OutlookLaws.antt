@@ -148,7 +148,7 @@ all_nearer i legs near later low high is h = elim (cases_lt i 2) [
   nothing near later few h =
       rw (drop_all 2 legs few) (no_legs (change_at (i - 1) legs) (exit_at (i - 1) legs) (change_at 1 legs) (exit_at 1 legs) near later none h)
 
--- ---- how much more work than that up to the end of the second leg may be needed
+-- ---- how much work beyond the end of the second leg braking may use
 
 least_of : (s w x m n : ℕ) → min GREATEST x ≡ min m n →
     min GREATEST (min s (w + x)) ≡ min (min GREATEST (min s (w + m))) (min GREATEST (w + n))

@@ -1,5 +1,5 @@
--- How much more work than that up to the end of the second of some legs may be needed, updated from
--- load to load. Our own.
+-- How much work beyond the end of the second of some legs braking may use, updated from load to
+-- load. Our own.
 use Rattle.std.specs.Prelude.{◌≡◌, ℕ, zero, suc, ◌+◌, min, List, [], ◌∷◌, drop, if◌then◌else◌}
 use Rattle.ngc_braking.specs.declared.leg.Leg.{Leg}
 use Rattle.ngc_braking.specs.declared.outlook.Allowance.{Allowance}
@@ -10,8 +10,8 @@ use Rattle.ngc_braking.specs.Work.{GREATEST, leg_work, slack}
 abbrev pub none : Allowance
 none = record { least = GREATEST; total = 0 }
 
--- how much more work than that up to the joint before a leg may be needed, after a leg with the
--- change a and this exit
+-- how much work beyond the joint before a leg braking may use, after a leg with the change a and
+-- this exit
 abbrev pub joint_slack : ℕ → ℕ → Leg → ℕ
 joint_slack a exit l = if l.joined then slack (passes exit l) a else 0
 

@@ -10,8 +10,8 @@ abbrev pub work : ℕ → ℕ → ℕ
 work w a = a * braking w a
 
 -- A tick that passes a joint begins on the leg before it, and brakes by that leg's change. If the
--- change b after the joint is greater than the change a before it, the work after the joint is less
--- by their difference times the rate, which is at most the joint's limit.
+-- change b after the joint is greater than the change a before it, the leg after the joint counts for
+-- less: by the difference of the changes times the greatest rate that the joint lets pass.
 abbrev pub deduction : ℕ → ℕ → ℕ → ℕ
 deduction a b limit = (b - a) * limit
 
@@ -20,7 +20,7 @@ abbrev pub leg_work : ℕ → ℕ → Leg → ℕ
 leg_work a exit l = l.change * l.millionths - deduction a l.change (passes exit l)
 
 -- How much work may be left at a joint with this limit, if the leg before it has the change a: less
--- than that of the first rate above the limit after one slower tick.
+-- than the least rate above the limit needs after one slower tick.
 abbrev pub slack : ℕ → ℕ → ℕ
 slack limit a = work (limit + 1 - a) a
 
@@ -51,8 +51,8 @@ can_brake w rest head (l ∷ ls) =
     l.change l.exit ls
     else nat_lt (work w head.change) (head.change * rest)
 
--- how much more work than that up to a leg's end may be needed, for a leg with the change a and this
--- exit: the least over the joints after it and the end of the known path
+-- how much work beyond a leg's end braking may use, for a leg with the change a and this exit: the
+-- least over the joints after it and the end of the known path
 abbrev pub beyond : ℕ → ℕ → List Leg → ℕ
 beyond a exit [] = 0
 beyond a exit (l ∷ ls) =
@@ -67,7 +67,7 @@ work_ahead a exit [] = 0
 work_ahead a exit (l ∷ ls) =
     if l.joined then leg_work a exit l + work_ahead l.change l.exit ls else 0
 
--- what may be needed beyond the first of some legs, in 64 bits
+-- how much work beyond the first of some legs braking may use, in 64 bits
 abbrev pub GREATEST : ℕ
 GREATEST = 18446744073709551615
 

@@ -1,5 +1,4 @@
-//! How much more work than that up to the end of the second motion may be needed, updated from load
-//! to load.
+//! How much work beyond the end of the second motion braking may use, updated from load to load.
 ghost use Rattle.std.specs.Prelude.{◌≡◌, ◌≤◌, ◌++◌, ◌∷◌, List, [], length, reverse};
 ghost use Rattle.std.specs.Prelude.{vec_capacity, IfOk};
 ghost use Rattle.std.specs.List.{All};
@@ -12,8 +11,8 @@ use crate::leg::Leg;
 use crate::stretch::{joint_slack, leg_work};
 use std::alloc::{AllocError, Allocator};
 
-/// How much work from the beginning of some motions may be needed: the least over the joints among
-/// them, and their whole work, each limited to 64 bits.
+/// How much work braking may use on some motions: the least over their joints, and their whole work,
+/// each limited to 64 bits.
 #[derive(Clone, Copy)]
 pub struct Allowance {
     pub least: u64,
@@ -137,8 +136,7 @@ impl<A: Allocator> Outlook<A> {
         }
     }
 
-    /// Returns how much more work than that up to the end of the second motion may be needed, in 64
-    /// bits.
+    /// Returns how much work beyond the end of the second motion braking may use, in 64 bits.
     pub fn beyond(&self) -> u64
         ensures { (legs : List TheLeg) → IsOutlook legs self.now.near
             (reverse self.now.later.items) self.now.far → result ≡ legs_beyond legs }

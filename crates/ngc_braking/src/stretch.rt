@@ -26,7 +26,7 @@ fn slack(limit: u64, change: u64) -> u64
     change * braking((limit + 1).saturating_sub(change), change)
 }
 
-/// Returns how much more work than that up to the joint before a motion may be needed.
+/// Returns how much work beyond the joint before a motion braking may use.
 pub(crate) fn joint_slack(before: &Leg, next: &Leg) -> u64
     requires before { IsLeg before.now }
     requires next { IsLeg next.now }
@@ -58,8 +58,8 @@ fn ends_within(needed: u64, work: u64, beyond: u64) -> bool
     needed < work || needed - work < beyond
 }
 
-/// Returns how much more work than that up to the end of a motion may be needed, in 64 bits, with
-/// these motions after it.
+/// Returns how much work beyond the end of a motion braking may use, in 64 bits, with these motions
+/// after it.
 pub fn beyond(head: &Leg, legs: &[Leg]) -> u64
     requires head { IsLeg head.now }
     requires each { All IsLeg legs.now }
@@ -80,8 +80,8 @@ pub fn beyond(head: &Leg, legs: &[Leg]) -> u64
     least.min(total)
 }
 
-/// Returns how much more work than that up to the end of the first of the motions after the head may
-/// be needed, in 64 bits.
+/// Returns how much work beyond the end of the first motion after the head braking may use, in 64
+/// bits.
 fn next_beyond(afterwards: &[Leg]) -> u64
     requires { All IsLeg afterwards.now }
     ensures { result ≡ next_beyond afterwards.now }
@@ -92,8 +92,7 @@ fn next_beyond(afterwards: &[Leg]) -> u64
     }
 }
 
-/// Returns how much more work than that up to the end of the second of some motions may be needed,
-/// in 64 bits.
+/// Returns how much work beyond the end of the second of some motions braking may use, in 64 bits.
 pub fn legs_beyond(legs: &[Leg]) -> u64
     requires { All IsLeg legs.now }
     ensures { result ≡ legs_beyond legs.now }
@@ -107,8 +106,7 @@ pub fn legs_beyond(legs: &[Leg]) -> u64
 /// Returns whether a rate can brake on the rest of the head and the motions after it. Each tick may
 /// reduce it by the change of the motion that it begins on. At each joint it must be at most what
 /// the joint lets pass, and it must be 0 before the end of the last joined motion. `beyond` is how
-/// much more work than that up to the end of the first of the motions after the head may be needed,
-/// in 64 bits.
+/// much work beyond the end of the first motion after the head braking may use, in 64 bits.
 pub fn can_brake(rate: u64, rest: u64, head: &Leg, afterwards: &[Leg], beyond: u64) -> bool
     requires rate { rate ≤ MILLION }
     requires head { IsLeg head.now }

@@ -35,9 +35,8 @@ pub(crate) fn setup() -> &'static [Row]
             example: "machine file `step = 499`",
             answer: "`ngc: fault 262 machine`",
             place: None,
-            mend: "A step of 0.01 mm is `step = 10000`. In version 3 the `motor` of each axis says its step. Where\n\
-             it isn't a whole number of nanometres, it is rounded to one. If that is off by more than a step\n\
-             over the travel, `ngc machine --steps-per-mm` makes a file for the machine.",
+            mend: "A step of 0.01 mm is `step = 10000`. In version 3 the `motor` of each axis says its step,\n\
+             which is from 500 to 50,000 nm and needn't be a whole number of them.",
         },
         Row {
             number: 263,

@@ -3,7 +3,7 @@ use Rattle.std.proofs.Common.{◌≡◌, ◌∙◌, ℤ, List, ◌∷◌, true, 
 use Rattle.toml.specs.Data.{Data}
 use Rattle.ngc_machine_files.specs.Tree.{◌>>=◌, known, has_only}
 use Rattle.ngc_machine_files.specs.MachineText.{common_keys, has_axis_rates, machine_keys, machine_numbers, machine_axis_rates, machine_options, machine_points, machine_origins}
-use Rattle.ngc_machine_files.specs.MachineText.{machine_fixtures, machine_values, equal_steps}
+use Rattle.ngc_machine_files.specs.MachineText.{machine_fixtures, machine_values, grid_steps}
 use Rattle.ngc_machine_files.specs.declared.machine_contents.Coordinates.{Coordinates}
 use Rattle.ngc_machine_files.specs.declared.machine_contents.Corners.{Corners}
 use Rattle.ngc_machine_files.specs.declared.machine_contents.MachineNumbers.{MachineNumbers}
@@ -29,7 +29,7 @@ there None x f h = cc
 pub values_read : (d : Data) (numbers : MachineNumbers) (options : MachineOptions) (rates : Coordinates) (points : MachinePoints) (origins : List Coordinates) (fixtures : List Corners)
     → Some numbers ≡ machine_numbers d → has_only (machine_keys numbers.version) d ≡ true → Some options ≡ machine_options d → Some rates ≡ machine_axis_rates numbers.version d
     → Some points ≡ machine_points d → Some origins ≡ machine_origins d → Some fixtures ≡ machine_fixtures numbers.version d
-    → Some (record { numbers = numbers; options = options; motor_steps = equal_steps numbers.step; axis_rates = rates; points = points; origins = origins; fixtures = fixtures }) ≡ machine_values d
+    → Some (record { numbers = numbers; options = options; motor_steps = grid_steps numbers.step; axis_rates = rates; points = points; origins = origins; fixtures = fixtures }) ≡ machine_values d
 values_read d numbers options rates points origins fixtures n k t r p o f =
     sym (
     there (machine_numbers d) numbers _ n

@@ -11,6 +11,7 @@ use Rattle.std.proofs.lemmas.List.Elements.{All-weaker}
 use Rattle.ngc_fixed_length.specs.Signed.{is_within, is_zero}
 use Rattle.ngc_fixed_length.specs.Length.{IsStep}
 use Rattle.ngc_motors.specs.Counts.{AreMotors, is_motor}
+use Rattle.ngc_motors.specs.declared.step.MotorSteps.{MotorSteps}
 use Rattle.ngc_machine_files.specs.Ranges.{PLACE_LIMIT, TRAVEL_LIMIT, BLOCK_LIMIT, place_limit, travel_limit, CORNER_LIMIT, IsFrom, IsSized, IsAtMost, IsBelow, IsOnGrid, IsTravel, IsFixture}
 use Rattle.ngc_machine_files.specs.Numbers.{from_to}
 use Rattle.ngc_machine_files.specs.Refusals.{◌>>◌, refuse_unless}
@@ -146,7 +147,7 @@ a_stock (Some s) h = a_block s h
 each_passes : {X : Type 0} (p : X → Bool) (P : X → Type 0) → ((x : X) → p x ≡ true → P x) → (xs : List X) → list_all p xs ≡ true → All P xs
 each_passes p P tells xs h = All-weaker (λ x. p x ≡ true) P tells xs (AllPass-from_list_all p xs h)
 
-some_motors : (step : ℤ) (motors : Coordinates) → IsStep step → good_motors step motors ≡ true → AreMotors (record { grid = step; steps = place_of motors })
+some_motors : (step : ℤ) (motors : MotorSteps) → IsStep step → good_motors step motors ≡ true → AreMotors (record { grid = step; steps = motors })
 unfolding good_motors
 some_motors step motors is h =
     let (x, y, z) = three (is_motor step motors.x) (is_motor step motors.y) (is_motor step motors.z) h in

@@ -12,13 +12,14 @@ use Rattle.ngc_machine_files.specs.declared.machine.Margins.{Margins}
 use Rattle.ngc_machine_files.specs.declared.machine.Rapids.{Rapids}
 use Rattle.ngc_machine_files.specs.declared.machine.StockBox.{StockBox}
 use Rattle.ngc_dialect_names.specs.declared.dialect.Dialect.{Dialect}
-use Rattle.ngc_motors.specs.Counts.{MotorData}
+use Rattle.ngc_motors.specs.Counts.{MotorData, equal_steps}
+use Rattle.ngc_motors.specs.declared.step.MotorSteps.{MotorSteps}
 use Rattle.ngc_machine_files.specs.declared.machine.Rapids.TheVariants.{Straight}
 
 pub record MachineFile : Type 0 where
   pub step : ℤ
-  -- the length of a step of each motor
-  pub motor_steps : Point3
+  -- the step of each motor
+  pub motor_steps : MotorSteps
   pub ticks_per_second : ℕ
   pub max_rate : ℕ
   pub axis_rates : AxisRates
@@ -77,7 +78,7 @@ motors_of m = record { grid = m.step; steps = m.motor_steps }
 abbrev pub built_in_machine : MachineFile
 built_in_machine = record {
   step = pos 10000;
-  motor_steps = record { x = pos 10000; y = pos 10000; z = pos 10000 };
+  motor_steps = equal_steps 10000;
   ticks_per_second = 10000;
   max_rate = 400000;
   axis_rates = record { x = 1000000; y = 1000000; z = 1000000 };

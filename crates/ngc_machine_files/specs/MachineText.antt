@@ -7,7 +7,9 @@ use Rattle.std.specs.Ordering.{int_eq}
 use Rattle.toml.specs.Data.{Data, array, Items, get}
 use Rattle.ngc_fixed_length.specs.Signed.{is_within, is_zero}
 use Rattle.ngc_fixed_length.specs.declared.points.Point3.{Point3}
-use Rattle.ngc_motors.specs.Counts.{AreMotors, is_motor}
+use Rattle.ngc_motors.specs.Counts.{AreMotors, ends_at_steps, equal_steps, is_grid_step, is_motor}
+use Rattle.ngc_motors.specs.declared.step.MotorStep.{MotorStep}
+use Rattle.ngc_motors.specs.declared.step.MotorSteps.{MotorSteps}
 use Rattle.ngc_machine_files.specs.declared.machine.ArcFeed.{ArcFeed}
 use Rattle.ngc_machine_files.specs.declared.machine.ArcFeed.TheVariants.{Off, Feed, FeedAndTurn}
 use Rattle.ngc_machine_files.specs.declared.machine.AxisRates.{AxisRates}
@@ -42,7 +44,7 @@ use Rattle.ngc_machine_files.specs.Tree.{each, list_at, or_missing, name_at, rap
 pub record MachineValues : Type 0 where
   pub numbers : MachineNumbers
   pub options : MachineOptions
-  pub motor_steps : Coordinates
+  pub motor_steps : MotorSteps
   pub axis_rates : Coordinates
   pub points : MachinePoints
   pub origins : List Coordinates
@@ -90,8 +92,8 @@ machine_axis_rates version tree =
     else Some (record { x = pos 1000000; y = pos 1000000; z = pos 1000000 })
 
 -- in these versions each motor has the step of the grid
-abbrev pub equal_steps : ℤ → Coordinates
-equal_steps step = record { x = step; y = step; z = step }
+abbrev pub grid_steps : ℤ → MotorSteps
+grid_steps step = equal_steps (unsigned_abs step)
 
 -- a missing ring is 16, and any other missing number is 0
 abbrev pub optional_numbers : Data → Option OptionalNumbers
@@ -217,7 +219,7 @@ machine_values root = do
   Some (record {
     numbers = numbers;
     options = options;
-    motor_steps = equal_steps numbers.step;
+    motor_steps = grid_steps numbers.step;
     axis_rates = axis_rates;
     points = points;
     origins = origins;
@@ -247,7 +249,7 @@ good_version version = int_eq version (pos 1) || has_axis_rates version
 unfoldable pub is_rate : ℤ → Bool
 is_rate z = from_to (pos 1) (pos 1000000) z
 
-unfoldable pub good_motors : ℤ → Coordinates → Bool
+unfoldable pub good_motors : ℤ → MotorSteps → Bool
 good_motors step motors = is_motor step motors.x && is_motor step motors.y && is_motor step motors.z
 
 abbrev pub good_jump : ℤ → Bool
@@ -285,10 +287,10 @@ good_limits step p =
 
 -- Where a motor's step isn't the grid's, the travel of its axis ends at whole steps of the motor. So
 -- the motor can stand at each end, and is never sent past it.
-unfoldable pub good_ends : ℤ → ℤ → ℤ → ℤ → Bool
-good_ends step motor low high = int_eq motor step || (is_multiple motor low && is_multiple motor high)
+unfoldable pub good_ends : ℤ → MotorStep → ℤ → ℤ → Bool
+good_ends step motor low high = is_grid_step step motor || ends_at_steps motor low high
 
-unfoldable pub good_axis_ends : ℤ → Coordinates → MachinePoints → Bool
+unfoldable pub good_axis_ends : ℤ → MotorSteps → MachinePoints → Bool
 good_axis_ends step motors p =
     good_ends step motors.x p.low.x p.high.x && good_ends step motors.y p.low.y p.high.y
     && good_ends step motors.z p.low.z p.high.z
@@ -365,7 +367,7 @@ has_changer z = int_eq z (pos 1)
 abbrev pub machine_from : MachineValues → MachineFile
 machine_from m = record {
   step = m.numbers.step;
-  motor_steps = place_of m.motor_steps;
+  motor_steps = m.motor_steps;
   ticks_per_second = unsigned_abs m.numbers.ticks_per_second;
   max_rate = unsigned_abs m.numbers.max_rate;
   axis_rates = axis_rates_of m.axis_rates;
@@ -402,7 +404,7 @@ pub record IsBlock (s : StockNumbers) : Type 0 where
 -- the same checks, as facts
 pub record IsGood (m : MachineValues) : Type 0 where
   pub step : IsStep m.numbers.step
-  pub motors : AreMotors (record { grid = m.numbers.step; steps = place_of m.motor_steps })
+  pub motors : AreMotors (record { grid = m.numbers.step; steps = m.motor_steps })
   pub ticks_per_second : IsFrom (pos 1) (pos 1000000) m.numbers.ticks_per_second
   pub max_rate : IsFrom (pos 1) (pos 1000000) m.numbers.max_rate
   pub axis_rates : AreFrom (pos 1) (pos 1000000) m.axis_rates

@@ -1,10 +1,11 @@
-ghost use Rattle.std.specs.Prelude.{◌≡◌, pos};
+ghost use Rattle.std.specs.Prelude.{◌≡◌};
 ghost use Rattle.ngc_machine_files.specs.Machine.{file_of, built_in_machine as row_file};
 ghost use Rattle.ngc_fixed_length.specs.Places.{zero_point as zero_place};
 
 use crate::machine::{ArcFeed, AxisRates, Machine, Margins, Rapids};
 use crate::numbers::length;
 use ngc_fixed_length::Point3;
+use ngc_motors::MotorSteps;
 use std::alloc::Allocator;
 
 fn zero_point() -> Point3
@@ -14,16 +15,6 @@ fn zero_point() -> Point3
         x: length(0),
         y: length(0),
         z: length(0),
-    }
-}
-
-fn motor_steps() -> Point3
-    ensures { result ≡ record { x = pos 10000; y = pos 10000; z = pos 10000 } }
-{
-    Point3 {
-        x: length(10_000),
-        y: length(10_000),
-        z: length(10_000),
     }
 }
 
@@ -49,7 +40,7 @@ pub fn built_in_machine<A: Allocator>(alloc: A) -> Machine<A>
     };
     Machine {
         step: length(10_000),
-        motor_steps: motor_steps(),
+        motor_steps: MotorSteps::equal(10_000),
         ticks_per_second: 10_000,
         max_rate: 400_000,
         axis_rates,

@@ -9,7 +9,7 @@ ghost use Rattle.ngc_machine_files.specs.Ranges.{IsSized, IsRing, AreFixtures, A
 use crate::name::Name;
 use ngc_dialect_names::Dialect;
 use ngc_fixed_length::{Nm, Point3};
-use ngc_motors::Motors;
+use ngc_motors::{MotorSteps, Motors};
 use std::alloc::{AllocError, Allocator};
 
 /// A box that tools must stay out of, in nanometres.
@@ -73,8 +73,8 @@ pub struct StockBox {
 pub struct Machine<A: Allocator> {
     /// The step length, 500 to 50,000 nm.
     pub step: Nm,
-    /// The length of a step of each motor, from that of `step` to 1,000,000 nm.
-    pub motor_steps: Point3,
+    /// The step of each motor, from `step` to 1,000,000 nm.
+    pub motor_steps: MotorSteps,
     /// The ticks per second, 1 to 1,000,000.
     pub ticks_per_second: u32,
     /// The greatest rate, 1 to 1,000,000.

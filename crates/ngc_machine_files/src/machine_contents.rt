@@ -6,7 +6,7 @@ ghost use Rattle.ngc_machine_files.specs.Tree.{has_only};
 ghost use Rattle.ngc_machine_files.specs.MachineText.{machine_options, stock_at, stock_numbers};
 ghost use Rattle.ngc_machine_files.specs.MachineText.{values_of, optional_numbers, machine_numbers};
 ghost use Rattle.ngc_machine_files.specs.MachineText.{machine_points, machine_origins, has_axis_rates};
-ghost use Rattle.ngc_machine_files.specs.MachineText.{machine_axis_rates, corners, equal_steps};
+ghost use Rattle.ngc_machine_files.specs.MachineText.{machine_axis_rates, corners, grid_steps};
 ghost use Rattle.ngc_machine_files.specs.MachineText.{machine_keys};
 ghost use Rattle.ngc_machine_files.specs.MachineText.{machine_values, nine_coordinates, has_fixture_keys};
 
@@ -17,6 +17,7 @@ use crate::tree::{
     whole_at, whole_or,
 };
 use ngc_dialect_names::Dialect;
+use ngc_motors::MotorSteps;
 use std::alloc::{AllocError, Global};
 use toml::Value;
 
@@ -96,8 +97,8 @@ pub struct MachineOptions {
 pub struct MachineContents {
     pub numbers: MachineNumbers,
     pub options: MachineOptions,
-    /// The length of a step of each motor.
-    pub motor_steps: Coordinates,
+    /// The step of each motor.
+    pub motor_steps: MotorSteps,
     pub axis_rates: Coordinates,
     pub points: MachinePoints,
     pub origins: [Coordinates; 9],
@@ -158,14 +159,10 @@ fn machine_numbers(tree: &Value) -> Option<MachineNumbers>
 }
 
 /// Returns the steps of motors that all have the step of the grid.
-fn equal_steps(numbers: &MachineNumbers) -> Coordinates
-    ensures { result ≡ equal_steps numbers.now.step }
+fn grid_steps(numbers: &MachineNumbers) -> MotorSteps
+    ensures { result ≡ grid_steps numbers.now.step }
 {
-    Coordinates {
-        x: numbers.step,
-        y: numbers.step,
-        z: numbers.step,
-    }
+    MotorSteps::equal(numbers.step.unsigned_abs())
 }
 
 /// Returns whether the version has rates of the axes.
@@ -333,7 +330,7 @@ impl MachineContents {
             Some(fixtures) => Ok(Some(MachineContents {
                 numbers,
                 options,
-                motor_steps: equal_steps(&numbers),
+                motor_steps: grid_steps(&numbers),
                 axis_rates,
                 points,
                 origins,

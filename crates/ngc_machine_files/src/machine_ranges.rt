@@ -2,7 +2,7 @@ ghost use Rattle.std.specs.Prelude.{◌≡◌, ◌≤◌, ◌<ℤ◌, pos, map, 
 ghost use Rattle.std.specs.List.{All, list_all};
 ghost use Rattle.std.specs.Ordering.{int_eq};
 ghost use Rattle.ngc_fixed_length.specs.Length.{IsStep};
-ghost use Rattle.ngc_motors.specs.Counts.{AreMotors, is_motor};
+ghost use Rattle.ngc_motors.specs.Counts.{IsMotorStep};
 ghost use Rattle.ngc_machine_files.specs.Machine.{file_of};
 ghost use Rattle.ngc_machine_files.specs.Numbers.{from_to};
 ghost use Rattle.ngc_machine_files.specs.Ranges.{CORNER_LIMIT, IsFrom, IsRate, IsJump, IsRing, AreRates};
@@ -27,6 +27,7 @@ use crate::machine_contents::{
 use crate::name::name_from;
 use crate::numbers::{is_from_to, length};
 use ngc_fixed_length::{Nm, Point3};
+use ngc_motors::{MotorStep, MotorSteps};
 use std::alloc::{AllocError, Global};
 
 /// The greatest size of a coordinate of home positions and origins, in nanometres.
@@ -118,17 +119,11 @@ fn is_rate(value: i64) -> bool
     is_from_to(1, 1_000_000, value)
 }
 
-fn is_motor(step: i64, motor: i64) -> bool
-    ensures { result ≡ is_motor step motor }
-{
-    step <= motor && motor <= 1_000_000
-}
-
 #[tactic(auto, unfolding(crate::specs::MachineText::good_motors))]
-fn are_motors_good(step: i64, motors: &Coordinates) -> bool
+fn are_motors_good(step: i64, motors: &MotorSteps) -> bool
     ensures { result ≡ good_motors step motors.now }
 {
-    is_motor(step, motors.x) && is_motor(step, motors.y) && is_motor(step, motors.z)
+    motors.x.is_motor(step) && motors.y.is_motor(step) && motors.z.is_motor(step)
 }
 
 fn are_ticks_good(numbers: &MachineNumbers) -> bool
@@ -183,31 +178,31 @@ fn are_limits_good(step: i64, points: &MachinePoints) -> bool
 }
 
 #[tactic(auto, unfolding(crate::specs::MachineText::good_ends))]
-fn are_ends_good(step: i64, motor: i64, low: i64, high: i64) -> bool
-    requires { pos 0 <ℤ motor }
-    ensures { result ≡ good_ends step motor low high }
+fn are_ends_good(step: i64, motor: &MotorStep, low: i64, high: i64) -> bool
+    requires { IsMotorStep motor.now }
+    ensures { result ≡ good_ends step motor.now low high }
 {
-    motor == step || is_multiple(motor, low) && is_multiple(motor, high)
+    motor.is_grid_step(step) || motor.ends_at_steps(low, high)
 }
 
 #[tactic(auto, unfolding(crate::specs::MachineText::good_axis_ends))]
-fn are_axis_ends_good(step: i64, motors: &Coordinates, points: &MachinePoints) -> bool
-    requires x { pos 0 <ℤ motors.now.x }
-    requires y { pos 0 <ℤ motors.now.y }
-    requires z { pos 0 <ℤ motors.now.z }
+fn are_axis_ends_good(step: i64, motors: &MotorSteps, points: &MachinePoints) -> bool
+    requires x { IsMotorStep motors.now.x }
+    requires y { IsMotorStep motors.now.y }
+    requires z { IsMotorStep motors.now.z }
     ensures { result ≡ good_axis_ends step motors.now points.now }
 {
-    are_ends_good(step, motors.x, points.low.x, points.high.x)
-        && are_ends_good(step, motors.y, points.low.y, points.high.y)
-        && are_ends_good(step, motors.z, points.low.z, points.high.z)
+    are_ends_good(step, &motors.x, points.low.x, points.high.x)
+        && are_ends_good(step, &motors.y, points.low.y, points.high.y)
+        && are_ends_good(step, &motors.z, points.low.z, points.high.z)
 }
 
 #[tactic(auto, unfolding(crate::specs::MachineText::good_travel))]
 fn is_travel_good(contents: &MachineContents) -> bool
     requires step { pos 0 <ℤ contents.now.numbers.step }
-    requires x { pos 0 <ℤ contents.now.motor_steps.x }
-    requires y { pos 0 <ℤ contents.now.motor_steps.y }
-    requires z { pos 0 <ℤ contents.now.motor_steps.z }
+    requires x { IsMotorStep contents.now.motor_steps.x }
+    requires y { IsMotorStep contents.now.motor_steps.y }
+    requires z { IsMotorStep contents.now.motor_steps.z }
     ensures { result ≡ good_travel (values_of contents.now) }
 {
     are_limits_good(contents.numbers.step, &contents.points)
@@ -370,13 +365,6 @@ fn place(point: &Coordinates) -> Point3
     }
 }
 
-fn motor_steps(step: i64, steps: &Coordinates) -> Point3
-    requires { AreMotors (record { grid = step; steps = place_of steps.now }) }
-    ensures { result ≡ place_of steps.now }
-{
-    place(steps)
-}
-
 fn fixture(corners: &Corners) -> Fixture
     requires { IsFixture (fixture_of corners.now) }
     ensures { result ≡ fixture_of corners.now }
@@ -483,7 +471,7 @@ impl MachineContents {
         let fixtures = fixtures(alloc, self.fixtures.as_slice())?;
         Ok(Machine {
             step: step_length(&self.numbers),
-            motor_steps: motor_steps(self.numbers.step, &self.motor_steps),
+            motor_steps: self.motor_steps,
             ticks_per_second: rate(self.numbers.ticks_per_second),
             max_rate: rate(self.numbers.max_rate),
             axis_rates: axis_rates(&self.axis_rates),

@@ -71,12 +71,12 @@ lines_of_grbl = refl
 no_lines_of_a_dialect : dialect_lines false ≡ codes ""
 no_lines_of_a_dialect = refl
 
-no_note_of_a_small_router : notes_text small_numbers small_router ≡ codes ""
+no_note_of_a_small_router : notes_text true small_numbers small_router ≡ codes ""
 unfolding scale_after offset_after
 no_note_of_a_small_router = refl
 
 -- 799.996932 mm in steps of 5,292 nm are 151,171 steps, which the motor makes 799.948141 mm long
-note_of_a_large_router : notes_text (record small_numbers {
+note_of_a_large_router : notes_text true (record small_numbers {
   step = 5292;
   low = three (pos 0) (pos 0) (pos 0);
   high = three (pos 799996932) (pos 599996376) (pos 99997632);
@@ -84,8 +84,13 @@ note_of_a_large_router : notes_text (record small_numbers {
 unfolding digits number_text scale_after offset_after scale_text steps_text errors_text
 note_of_a_large_router = refl
 
+-- a file of version 3 has the motors' own steps
+no_note_without_rates : notes_text false (record small_numbers { step = 5292 }) large_router ≡ codes ""
+unfolding offset_after
+no_note_without_rates = refl
+
 -- a note speaks of one step that serves all motors
-no_note_of_unequal_motors : notes_text (record small_numbers { step = 5292 }) (record large_router { motors = three (motor 40000000) (motor 40000000) (motor 188976000) }) ≡ codes ""
+no_note_of_unequal_motors : notes_text true (record small_numbers { step = 5292 }) (record large_router { motors = three (motor 40000000) (motor 40000000) (motor 188976000) }) ≡ codes ""
 unfolding scale_after offset_after
 no_note_of_unequal_motors = refl
 

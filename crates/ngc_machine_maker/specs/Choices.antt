@@ -16,7 +16,7 @@ use Rattle.ngc_machine_maker.specs.declared.refusal.Stop.{Stop}
 use Rattle.ngc_machine_maker.specs.declared.refusal.Stop.TheVariants as stops
 use Rattle.ngc_machine_maker.specs.Decimals.{begins, number_in, three_texts, three_by}
 use Rattle.ngc_machine_maker.specs.Formulas.{and_then}
-use Rattle.ngc_machine_maker.specs.Motors.{checked_motors, has_rates}
+use Rattle.ngc_machine_maker.specs.Motors.{checked_motors}
 use Rattle.ngc_machine_maker.specs.Options.{each_of, length_of, acceleration_of, read_by}
 use Rattle.ngc_machine_maker.specs.Options.{second_speed_in}
 
@@ -124,7 +124,7 @@ chosen f choices =
       ticks = ticks;
       ring = ring;
       arc_feed = f.arc_feed || choices.arc_feed;
-      far = f.far && not (has_rates choices.rates motors);
+      far = f.far && not choices.rates;
       grbl = f.grbl;
       zero = f.zero;
       start = start;

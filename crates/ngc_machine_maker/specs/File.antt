@@ -120,6 +120,9 @@ file_text n f = heading ++ scale_after (codes "# ") n f ++ supplied_lines f.dump
     ++ joint_lines n ++ acceleration_lines n ++ ring_lines n.ring ++ arc_feed_lines n.arc_feed
     ++ place_lines n f ++ origin_lines f.dump.places ++ dialect_lines f.grbl
 
--- the notes on it
-abbrev pub notes_text : MachineNumbers → Figures → List ℕ
-notes_text n f = scale_after (codes "note: ") n f ++ offset_after (codes "note: ") f.dump.places
+-- the notes on it; only a file with rates has a step of its own
+abbrev pub scale_note : Bool → MachineNumbers → Figures → List ℕ
+scale_note rates n f = if rates then scale_after (codes "note: ") n f else []
+
+abbrev pub notes_text : Bool → MachineNumbers → Figures → List ℕ
+notes_text rates n f = scale_note rates n f ++ offset_after (codes "note: ") f.dump.places

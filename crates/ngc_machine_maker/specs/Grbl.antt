@@ -17,7 +17,6 @@ use Rattle.ngc_machine_maker.specs.declared.refusal.FigureRefusal.{FigureRefusal
 use Rattle.ngc_machine_maker.specs.declared.refusal.FigureRefusal.TheVariants as refusals
 use Rattle.ngc_machine_maker.specs.Decimals.{begins, is_number, number_in}
 use Rattle.ngc_machine_maker.specs.Formulas.{and_then}
-use Rattle.ngc_machine_maker.specs.Motors.{has_rates}
 use Rattle.ngc_machine_maker.specs.Options.{each_of, length_of, speed_of, acceleration_of, steps}
 use Rattle.ngc_machine_maker.specs.Options.{same_for_all, figures_by}
 use Rattle.ngc_machine_maker.specs.Stored.{places_in}
@@ -205,8 +204,5 @@ figures_from s places =
 abbrev pub figures_in : Bool → List ℕ → Result Figures FigureRefusal
 figures_in far text =
     and_then (settings_in text) (λ s.
-    and_then (places_in text (record {
-      inches = is_inches s.unit;
-      far = far && not (has_rates false s.motors);
-    })) (λ places.
+    and_then (places_in text (record { inches = is_inches s.unit; far = far })) (λ places.
     Ok (figures_from s places)))

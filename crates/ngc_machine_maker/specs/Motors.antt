@@ -1,5 +1,5 @@
 -- The motors of the axes, whose steps may differ. Our own.
-use Rattle.std.specs.Prelude.{◌%◌, ◌==◌, ◌&&◌, ◌||◌, not, nat_le, max, Bool, Result, Ok, Err, if◌then◌else◌}
+use Rattle.std.specs.Prelude.{◌==◌, ◌&&◌, not, nat_le, max, Bool, Result, Ok, Err, if◌then◌else◌}
 use Rattle.ngc_machine_maker.specs.declared.figures.PerAxis.{PerAxis}
 use Rattle.ngc_machine_maker.specs.declared.figures.StepsPerMillimetre.{StepsPerMillimetre}
 use Rattle.ngc_machine_maker.specs.declared.refusal.FigureRefusal.{FigureRefusal}
@@ -11,15 +11,6 @@ finest m = record { millionths = max (max m.x.millionths m.y.millionths) m.z.mil
 
 abbrev pub are_equal : PerAxis StepsPerMillimetre → Bool
 are_equal m = m.x.millionths == m.y.millionths && m.y.millionths == m.z.millionths
-
--- a million millimetres, in nanometres, are a whole number of nanometres for each of the motor's steps
-abbrev pub is_whole : StepsPerMillimetre → Bool
-is_whole s = 1000000000000 % max s.millionths 1 == 0
-
--- a machine file has rates, as in version 2, if they are asked for, or if one step serves all motors
--- and is no whole number of nanometres
-abbrev pub has_rates : Bool → PerAxis StepsPerMillimetre → Bool
-has_rates rates m = rates || are_equal m && not (is_whole m.x)
 
 -- a motor's step is from 500 to 50,000 nm, so 20 to 2,000 of them make a millimetre
 abbrev pub is_motor : StepsPerMillimetre → Bool

@@ -5,7 +5,7 @@ ghost use Rattle.ngc_machine_maker.specs.Options.{second_speed_in};
 
 use crate::decimal::{begins, number_in, split_three, without_first};
 use crate::figures::{Acceleration, End, Figures, Length, PerAxis, Speed};
-use crate::motors::{checked_motors, has_rates};
+use crate::motors::checked_motors;
 use crate::options::acceleration_of;
 use crate::refusal::{Field, FigureRefusal, Stop};
 
@@ -241,7 +241,7 @@ impl Figures {
             ticks,
             ring,
             arc_feed: self.arc_feed || choices.arc_feed,
-            far: self.far && !has_rates(choices.rates, &motors),
+            far: self.far && !choices.rates,
             grbl: self.grbl,
             zero: self.zero,
             start,

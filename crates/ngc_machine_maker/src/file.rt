@@ -11,7 +11,7 @@ ghost use Rattle.ngc_machine_maker.specs.File.{heading, direction_text, steps_te
 ghost use Rattle.ngc_machine_maker.specs.File.{scale_text, scale_after, step_lines, rate_line};
 ghost use Rattle.ngc_machine_maker.specs.File.{speed_lines, joint_lines, acceleration_lines, place_line};
 ghost use Rattle.ngc_machine_maker.specs.File.{corner_comment, jump_comment, ring_lines, arc_feed_comment, arc_feed_lines, place_lines};
-ghost use Rattle.ngc_machine_maker.specs.File.{arcs_remark, grbl_lines, dialect_lines, file_text, notes_text};
+ghost use Rattle.ngc_machine_maker.specs.File.{arcs_remark, grbl_lines, dialect_lines, file_text, notes_text, scale_note};
 ghost use Rattle.ngc_machine_maker.specs.InFile.{AreInFile};
 ghost use Rattle.ngc_machine_maker.specs.Ranges.{IsScale};
 ghost use Rattle.ngc_machine_maker.specs.Texts.{axes_text, line_text};
@@ -362,20 +362,46 @@ pub fn write_machine_file<W: Sink>(
     page.finish(sink)
 }
 
-fn say_notes<W: Sink>(numbers: &MachineNumbers, figures: &Figures, page: &mut Page, output: &mut W)
+fn say_scale_note<W: Sink>(
+    rates: bool,
+    numbers: &MachineNumbers,
+    figures: &Figures,
+    page: &mut Page,
+    output: &mut W,
+)
     requires numbers { AreInFile numbers.now }
     requires scale { IsScale (scale_in numbers.now figures.now) }
     ensures { Says (W.written output.old) (W.written output.new)
         (W.failures output.old) (W.failures output.new) page.old page.new
-        (notes_text numbers.now figures.now) }
+        (scale_note rates numbers.now figures.now) }
 {
-    say_scale_after(b"note: ", numbers, figures, page, output);
+    if rates {
+        say_scale_after(b"note: ", numbers, figures, page, output);
+    }
+}
+
+fn say_notes<W: Sink>(
+    rates: bool,
+    numbers: &MachineNumbers,
+    figures: &Figures,
+    page: &mut Page,
+    output: &mut W,
+)
+    requires numbers { AreInFile numbers.now }
+    requires scale { IsScale (scale_in numbers.now figures.now) }
+    ensures { Says (W.written output.old) (W.written output.new)
+        (W.failures output.old) (W.failures output.new) page.old page.new
+        (notes_text rates numbers.now figures.now) }
+{
+    say_scale_note(rates, numbers, figures, page, output);
     say_offset_after(b"note: ", &figures.dump.places, page, output);
 }
 
-/// Writes the notes on the file: how far the axes go if the motors have one step and it is no whole
-/// number of nanometres, and that an offset of G92 was in force. After a fault a prefix of them is written, and the sink has counted the failure.
+/// Writes the notes on the file: how far the axes go if it has rates and the motors' step is no whole
+/// number of nanometres, and that an offset of G92 was in force. After a fault a prefix of them is
+/// written, and the sink has counted the failure.
 pub fn write_notes<W: Sink>(
+    rates: bool,
     numbers: &MachineNumbers,
     figures: &Figures,
     sink: &mut W,
@@ -383,12 +409,12 @@ pub fn write_notes<W: Sink>(
     requires numbers { AreInFile numbers.now }
     requires scale { IsScale (scale_in numbers.now figures.now) }
     ensures ok { OnOk result
-        (Appends (W.written sink.old) (W.written sink.new) (notes_text numbers.now figures.now)) }
+        (Appends (W.written sink.old) (W.written sink.new) (notes_text rates numbers.now figures.now)) }
     ensures fault { OnErr result (AppendsPrefix (W.written sink.old) (W.written sink.new)
-        (notes_text numbers.now figures.now)) }
+        (notes_text rates numbers.now figures.now)) }
     ensures counts { CountsFailure (W.failures sink.old) (W.failures sink.new) result }
 {
     let mut page = Page::new();
-    say_notes(numbers, figures, &mut page, sink);
+    say_notes(rates, numbers, figures, &mut page, sink);
     page.finish(sink)
 }

@@ -7,7 +7,7 @@ use crate::decimal::{begins, is_number, number_in, without_first};
 use crate::figures::{
     Dump, End, Figures, Length, PerAxis, PlaceForm, StepsPerMillimetre, StoredPlaces, Supplied,
 };
-use crate::motors::{has_rates, motors_of};
+use crate::motors::motors_of;
 use crate::options::{accelerations, all_at, figures_by, length_of, lengths, speeds};
 use crate::refusal::FigureRefusal;
 use crate::stored::places_in;
@@ -269,14 +269,12 @@ fn figures_from(settings: &Settings, places: StoredPlaces) -> Figures
 /// the start is where homing ends, and programs are in the language of Grbl. A speed, an
 /// acceleration, `$23`, `$27` or `$13` that is missing is Grbl's default. It refuses the first
 /// setting that can't be read, steps or travel that are missing, and the first place that can't be
-/// read. Places may be up to 4,000 mm from zero if `far` says so and these motors need no rates, and
-/// otherwise up to 1,000 mm.
+/// read. Places may be up to 4,000 mm from zero if `far` says so, and otherwise up to 1,000 mm.
 pub fn read_grbl(far: bool, text: &[u8]) -> Result<Figures, FigureRefusal>
     ensures { result ≡ spec.figures_in far text.now }
 {
     let settings = settings_in(text)?;
     let inches = or_default(0, settings.unit) != 0;
-    let far = far && !has_rates(false, &settings.motors);
     let places = places_in(text, PlaceForm { inches, far })?;
     Ok(figures_from(&settings, places))
 }

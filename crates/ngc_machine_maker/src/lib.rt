@@ -32,4 +32,3 @@ pub use numbers::{MachineNumbers, numbers_of};
 pub use options::Options;
 pub use refusal::{Field, FigureRefusal, Stop, Stored};
 pub use sentences::write_refusal;
-pub use shop_units::is_rounded;

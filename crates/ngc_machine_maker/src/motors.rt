@@ -10,10 +10,6 @@ const LEAST: u32 = 20_000_000;
 
 const GREATEST: u32 = 2_000_000_000;
 
-/// The nanometres of a million millimetres, in which a motor makes its steps per millimetre in
-/// millionths.
-const NANOMETRES: u64 = 1_000_000_000_000;
-
 /// Returns motors with these steps per millimetre, which are in millionths.
 pub(crate) fn motors_of(numbers: &PerAxis<u32>) -> PerAxis<StepsPerMillimetre>
     ensures { result ≡ each_of steps numbers.now }
@@ -46,15 +42,6 @@ pub(crate) fn are_equal(motors: &PerAxis<StepsPerMillimetre>) -> bool
     ensures { result ≡ spec.are_equal motors.now }
 {
     motors.x.millionths == motors.y.millionths && motors.y.millionths == motors.z.millionths
-}
-
-/// Returns whether a machine file with these motors has rates: `rates` asks for them, or one step
-/// serves all motors and is no whole number of nanometres.
-pub(crate) fn has_rates(rates: bool, motors: &PerAxis<StepsPerMillimetre>) -> bool
-    ensures { result ≡ spec.has_rates rates motors.now }
-{
-    let steps = u64::from(motors.x.millionths.max(1));
-    rates || (are_equal(motors) && NANOMETRES % steps != 0)
 }
 
 // Returns whether the motor's step is from 500 to 50,000 nm.

@@ -111,7 +111,7 @@ fn is_whole(numbers: &MachineNumbers, figures: &Figures) -> bool
 
 /// Returns whether one step serves all motors and isn't a whole number of nanometres, so that the
 /// file's is rounded.
-pub fn is_rounded(numbers: &MachineNumbers, figures: &Figures) -> bool
+pub(crate) fn is_rounded(numbers: &MachineNumbers, figures: &Figures) -> bool
     requires { IsScale (scale_in numbers.now figures.now) }
     ensures { result ≡ is_rounded numbers.now figures.now }
 {

@@ -1,5 +1,5 @@
 -- What is wrong with the figures of a machine file. Our own.
-use Rattle.std.specs.Prelude.{ℕ, List, [], ◌++◌, codes, decimal}
+use Rattle.std.specs.Prelude.{ℕ, List, [], ◌++◌, codes}
 use Rattle.ngc_motor_scale.specs.declared.scale.ScaleRefusal.{ScaleRefusal}
 use Rattle.ngc_motor_scale.specs.declared.scale.ScaleRefusal.TheVariants as scales
 use Rattle.ngc_machine_figures.specs.declared.key.AxisName.{AxisName}
@@ -51,15 +51,9 @@ range_text faults.Fixtures = codes "fixture: a corner is farther than 4,000 mm f
 range_text faults.Stock = codes "stock: a corner is farther than 1,000 mm from zero, or a side has no length"
 range_text _ = codes "a number is out of its range"
 
-unfoldable pub error_text : AxisName → ℕ → List ℕ
-error_text axis nanometres =
-    axis_text axis ++ codes ".motor: rounded to nanometres it is off by " ++ decimal nanometres
-    ++ codes " nm over the travel: use `ngc machine`"
-
 -- a key that can't be read has a text of its own
 unfoldable pub figures_text : WrittenRefusal → List ℕ
 figures_text (refusals.Sheet refusal) = []
 figures_text (refusals.Motor axis refusal) = axis_text axis ++ codes ".motor: " ++ motor_text refusal
-figures_text (refusals.TravelError axis nanometres) = error_text axis nanometres
 figures_text (refusals.Figure refusal) = figure_axis refusal ++ figure_text refusal
 figures_text (refusals.Range fault) = range_text fault

@@ -85,15 +85,6 @@ fn range_text(fault: FileFault) -> &'static [u8]
     }
 }
 
-#[tactic(auto, unfolding(crate::specs::Sentences::error_text))]
-fn say_error<W: Sink>(axis: AxisName, nanometres: u64, page: &mut Page, output: &mut W)
-    ensures { Says (W.written output.old) (W.written output.new)
-        (W.failures output.old) (W.failures output.new) page.old page.new
-        (spec.error_text axis nanometres) }
-{
-    say!(page, output; Part::Text(axis_text(axis)), b".motor: rounded to nanometres it is off by ", Part::Number(nanometres as u128), b" nm over the travel: use `ngc machine`");
-}
-
 // Says what is wrong with a figure. A key that can't be read is none.
 #[tactic(auto, unfolding(crate::specs::Sentences::figures_text))]
 pub(crate) fn say_figures<W: Sink>(refusal: WrittenRefusal, page: &mut Page, output: &mut W)
@@ -105,9 +96,6 @@ pub(crate) fn say_figures<W: Sink>(refusal: WrittenRefusal, page: &mut Page, out
         WrittenRefusal::Sheet(_) => {}
         WrittenRefusal::Motor(axis, refusal) =>
             say!(page, output; Part::Text(axis_text(axis)), b".motor: ", Part::Text(motor_text(refusal))),
-        WrittenRefusal::TravelError { axis, nanometres } => {
-            say_error(axis, nanometres, page, output)
-        }
         WrittenRefusal::Figure(refusal) =>
             say!(page, output; Part::Text(figure_axis(refusal)), Part::Text(figure_text(refusal))),
         WrittenRefusal::Range(fault) => say!(page, output; Part::Text(range_text(fault))),

@@ -1,8 +1,9 @@
 -- A machine's rates as speeds and accelerations. Our own.
-use Rattle.std.specs.Prelude.{ℕ, ◌+◌, ◌*◌, ◌/◌, unsigned_abs}
+use Rattle.std.specs.Prelude.{ℕ, ◌+◌, ◌*◌, ◌/◌, max, unsigned_abs}
 use Rattle.ngc_machine_files.specs.Machine.{MachineFile}
 use Rattle.ngc_machine_files.specs.declared.machine.ArcFeed.{ArcFeed}
 use Rattle.ngc_machine_files.specs.declared.machine.ArcFeed.TheVariants as arc_feeds
+use Rattle.ngc_motors.specs.declared.step.MotorStep.{MotorStep}
 
 -- a number in a unit, to the nearest; halves go up
 abbrev pub rounded : ℕ → ℕ → ℕ
@@ -25,6 +26,9 @@ gain m steps = steps * (step_speed m * m.ticks_per_second)
 
 abbrev pub steps_a_millimetre : MachineFile → ℕ
 steps_a_millimetre m = rounded 1000000000 (unsigned_abs m.step)
+
+abbrev pub motor_steps_a_millimetre : MotorStep → ℕ
+motor_steps_a_millimetre m = rounded (1000000000 * m.steps) (max m.nanometres 1)
 
 abbrev pub millimetres_a_minute : MachineFile → ℕ → ℕ
 millimetres_a_minute m rate = rounded (60 * speed m rate) 1000000000

@@ -5,9 +5,11 @@ ghost use Rattle.ngc_machine_files.specs.Machine.{file_of};
 ghost use Rattle.ngc_machine_speeds.specs.Speeds.{rounded, step_speed, speed, gain};
 ghost use Rattle.ngc_machine_speeds.specs.Speeds.{millimetres_a_minute, acceleration};
 ghost use Rattle.ngc_machine_speeds.specs.Speeds.{diagonal_turns, pull, arc_acceleration, steps_a_millimetre};
+ghost use Rattle.ngc_machine_speeds.specs.Speeds.{motor_steps_a_millimetre};
 
 use ngc_fixed_length::Nm;
 use ngc_machine_files::{ArcFeed, Machine};
+use ngc_motors::MotorStep;
 use std::alloc::Allocator;
 
 /// Returns a number in a unit, rounded to the nearest, halves upwards.
@@ -60,6 +62,14 @@ pub fn steps_a_millimetre<A: Allocator>(machine: &Machine<A>) -> u128
     ensures { result ≡ steps_a_millimetre (file_of machine.now) }
 {
     rounded(1_000_000_000, u128::from(size_of(machine.step)))
+}
+
+/// Returns the steps per millimetre of a motor, in thousandths.
+pub fn motor_steps_a_millimetre(motor: &MotorStep) -> u128
+    ensures { result ≡ motor_steps_a_millimetre motor.now }
+{
+    let nanometres = 1_000_000_000 * u128::from(motor.steps);
+    rounded(nanometres, u128::from(motor.nanometres.max(1)))
 }
 
 /// Returns the speed of a rate, in thousandths of a millimetre per minute.

@@ -6,12 +6,14 @@ use Rattle.std.specs.List.{list_all}
 use Rattle.std.proofs.lemmas.Int.{ints}
 use Rattle.ngc_fixed_length.specs.Boxes.{only}
 use Rattle.ngc_fixed_length.specs.declared.points.Point3.{Point3}
+use Rattle.ngc_fixed_length.specs.declared.points.StepPos.{StepPos}
+use Rattle.ngc_machine_files.specs.Machine.{MachineFile}
 use Rattle.ngc_machine_files.specs.declared.machine.Fixture.{Fixture}
 use Rattle.ngc_machine_files.specs.declared.parts.Part.{Part}
 use Rattle.ngc_machine_files.specs.declared.tools.Tool.{Tool}
-use Rattle.ngc_collision.specs.Body.{Solid, are_apart, bodies, clears, filled, is_below, nanometres_of, span, stacked}
+use Rattle.ngc_collision.specs.Body.{IsClearAt, Solid, are_apart, bodies, clears, filled, is_below, nanometres_of, span, stacked}
 use Rattle.ngc_margins.specs.Laws.{IsNear, MarginIsKept, SafeWithSmaller, TravelMarginIsKept}
-use Rattle.ngc_margins.specs.Margins.{grown, lowered, raised}
+use Rattle.ngc_margins.specs.Margins.{grown, lowered, raised, with_margins}
 use Rattle.ngc_margins.proofs.Tests.{and, both, le_of, le_test, list_to, of_images, or_to, to_images}
 
 -- ---- a box that moves by at most a margin
@@ -23,13 +25,13 @@ above_kept : (m a b c : ℤ) → (a -ℤ m) ≤ℤ c → IsTrue (int_le (b +ℤ 
 above_kept m a b c h i = let j : (b +ℤ m) ≤ℤ a = le_of (b +ℤ m) a i in le_test b c (omega (arith, ints, h, j))
 
 -- a box moves by at most m on each axis
-record Moved (m : ℤ) (b c : Solid) : Type 0 where
-  x_low : (b.low.x -ℤ m) ≤ℤ c.low.x
-  x_high : (c.high.x -ℤ m) ≤ℤ b.high.x
-  y_low : (b.low.y -ℤ m) ≤ℤ c.low.y
-  y_high : (c.high.y -ℤ m) ≤ℤ b.high.y
-  z_low : (b.low.z -ℤ m) ≤ℤ c.low.z
-  z_high : (c.high.z -ℤ m) ≤ℤ b.high.z
+pub record Moved (m : ℤ) (b c : Solid) : Type 0 where
+  pub x_low : (b.low.x -ℤ m) ≤ℤ c.low.x
+  pub x_high : (c.high.x -ℤ m) ≤ℤ b.high.x
+  pub y_low : (b.low.y -ℤ m) ≤ℤ c.low.y
+  pub y_high : (c.high.y -ℤ m) ≤ℤ b.high.y
+  pub z_low : (b.low.z -ℤ m) ≤ℤ c.low.z
+  pub z_high : (c.high.z -ℤ m) ≤ℤ b.high.z
 
 apart_kept : (m : ℤ) (f : Fixture) (b c : Solid) → Moved m b c → IsTrue (are_apart (grown m f) b) → IsTrue (are_apart f c)
 apart_kept m f b c w =
@@ -78,12 +80,18 @@ point_moved m p q n = record {
   z_high = n.z_high;
 }
 
-pub margin_law : MarginIsKept
-margin_law machine tool p q clear near =
+-- over a box that is near the point, the body is clear too
+pub box_law : (machine : MachineFile) (tool : Option Tool) (p : StepPos) (c : Solid) → IsClearAt (with_margins machine) tool p →
+    Moved machine.margins.fixtures (span machine.step (only p)) c → IsTrue (list_all (λ f. list_all (are_apart f) (bodies tool c)) machine.fixtures)
+box_law machine tool p c clear moved =
     let m = machine.margins.fixtures in
     let b = span machine.step (only p) in
-    of_images (grown m) (clears machine.step tool (only p)) (λ f. list_all (are_apart f) (bodies tool (point q))) machine.fixtures
-    (λ f h. bodies_kept m f tool b (point q) (point_moved m (nanometres_of machine.step p) q near) h) clear
+    of_images (grown m) (clears machine.step tool (only p)) (λ f. list_all (are_apart f) (bodies tool c)) machine.fixtures
+    (λ f h. bodies_kept m f tool b c moved h) clear
+
+pub margin_law : MarginIsKept
+margin_law machine tool p q clear near =
+    box_law machine tool p (point q) clear (point_moved machine.margins.fixtures (nanometres_of machine.step p) q near)
 
 pub travel_law : TravelMarginIsKept
 travel_law machine p q inside near =

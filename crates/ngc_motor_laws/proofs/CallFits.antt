@@ -1,23 +1,20 @@
 -- The machine of a call is fit for its motors.
 use Rattle.std.proofs.Common.{◌≡◌, ◌≤ℤ◌, ◌+ℤ◌, ◌*ℤ◌, ◌∙◌, ◌⊎◌, inl, inr, ℕ, ℤ, pos, List, Bool, true, false, Option, Some, None, Result, Ok, Err, arith, ap, refl, subst, sym}
-use Rattle.std.specs.Prelude.{◌<ℤ◌, ◌||◌, ◌&&◌, IfSome, if◌then◌else◌, int_div, int_rem, unwrap_or}
+use Rattle.std.specs.Prelude.{◌||◌, IfSome, IsTrue, if◌then◌else◌, unwrap_or}
 use Rattle.std.specs.Int.{int_max}
-use Rattle.std.specs.Ordering.{int_eq}
 use Rattle.std.proofs.lemmas.Bool.{and_parts}
-use Rattle.std.proofs.lemmas.Bool.Decides.{Decides-int_eq}
-use Rattle.std.proofs.lemmas.Int.{ints, clamps, quot-rem}
+use Rattle.std.proofs.lemmas.Int.{ints, clamps}
 use Rattle.toml.specs.Data.{Data}
-use Rattle.ngc_motors.specs.Counts.{AreMotors, commanded_place, slack}
-use Rattle.ngc_motors.proofs.Quotients.{whole_law}
-use Rattle.ngc_motors.proofs.Sizes.{least_step}
-use Rattle.ngc_motors.proofs.Slack.{enough_x, enough_y, enough_z}
+use Rattle.ngc_motors.specs.Counts.{AreMotors, ends_at_steps, is_grid_step, slack}
+use Rattle.ngc_motors.specs.declared.step.MotorStep.{MotorStep}
+use Rattle.ngc_motors.proofs.Slack.{IsEnough, enough_more, enough_x, enough_y, enough_z}
 use Rattle.ngc_machine_files.specs.Machine.{MachineFile, built_in_machine, motors_of}
-use Rattle.ngc_machine_files.specs.MachineText.{MachineValues, checked_machine, good_axis_ends, good_ends, is_multiple, machine_file, machine_from, machine_ranges, values_in}
+use Rattle.ngc_machine_files.specs.MachineText.{MachineValues, checked_machine, good_axis_ends, good_ends, machine_file, machine_from, machine_ranges, values_in}
 use Rattle.ngc_machine_files.specs.Ranges.{IsFrom, MARGIN_LIMIT}
 use Rattle.ngc_machine_files.specs.Refusals.{◌>>◌, refuse_unless}
 use Rattle.ngc_machine_files.specs.Tree.{tree_of}
 use Rattle.ngc_machine_files.specs.declared.fault.FileFault.{FileFault}
-use Rattle.ngc_machine_files.proofs.GoodFiles.{IsGood-from_ranges, ends-from_ranges, zero_of}
+use Rattle.ngc_machine_files.proofs.GoodFiles.{IsGood-from_ranges, ends-from_ranges}
 use Rattle.ngc_machine_figures.specs.Files.{SheetValues, sheet_of}
 use Rattle.ngc_machine_figures.specs.Version.{is_written}
 use Rattle.ngc_added_boxes.specs.Placing.{all_fit, boxed, with_boxes}
@@ -36,9 +33,9 @@ use Rattle.ngc_motor_laws.specs.Commanded.{FitsAxis, FitsMotors}
 
 -- ---- what holds of each machine that is read
 
--- a motor has the grid's step, or both ends are whole numbers of its steps
-abbrev EndsFit : ℤ → ℤ → ℤ → ℤ → Type 0
-EndsFit grid step low high = (step ≡ grid) ⊎ ((commanded_place step low ≡ low) × (commanded_place step high ≡ high))
+-- a motor has the grid's step, or the travel ends at whole steps of it
+abbrev EndsFit : ℤ → MotorStep → ℤ → ℤ → Type 0
+EndsFit grid m low high = IsTrue (is_grid_step grid m) ⊎ IsTrue (ends_at_steps m low high)
 
 record IsRead (m : MachineFile) : Type 0 where
   are : AreMotors (motors_of m)
@@ -48,25 +45,13 @@ record IsRead (m : MachineFile) : Type 0 where
   y : EndsFit m.step m.motor_steps.y m.low.y m.high.y
   z : EndsFit m.step m.motor_steps.z m.low.z m.high.z
 
--- a multiple of a motor's step is commanded as it is
-whole : (step c : ℤ) → pos 0 <ℤ step → is_multiple step c ≡ true → commanded_place step c ≡ c
-whole step c some h =
-    let none : int_rem c step ≡ pos 0 = zero_of (int_rem c step) h in
-    let parts = quot-rem c step in
-    let product : int_div c step *ℤ step ≡ c = omega (arith, ints, parts, none) in
-    let C : ℤ → ℤ = λ z. commanded_place step z in
-    ap C (sym product) ∙ ap (λ k. k *ℤ step) (whole_law step (int_div c step) some) ∙ product
-
 either : (a b : Bool) → (a || b) ≡ true → (a ≡ true) ⊎ (b ≡ true)
 either true b h = inl refl
 either false b h = inr h
 
-ends_fit : (grid step low high : ℤ) → pos 0 <ℤ step → good_ends grid step low high ≡ true → EndsFit grid step low high
+ends_fit : (grid : ℤ) (m : MotorStep) (low high : ℤ) → good_ends grid m low high ≡ true → EndsFit grid m low high
 unfolding good_ends
-ends_fit grid step low high some h = elim (either (int_eq step grid) (is_multiple step low && is_multiple step high) h) [
-  | inl e ↦ inl ((Decides-int_eq step grid).0 e)
-  | inr e ↦ (let parts = and_parts (is_multiple step low) (is_multiple step high) e in inr (whole step low some parts.0, whole step high some parts.1))
-]
+ends_fit grid m low high h = either (is_grid_step grid m) (ends_at_steps m low high) h
 
 read_values : (v : MachineValues) → machine_ranges v ≡ Ok tt → IsRead (machine_from v)
 unfolding good_axis_ends
@@ -81,9 +66,9 @@ read_values v h =
       are = good.motors;
       margin = good.margin.least;
       travel_margin = good.travel_margin.least;
-      x = ends_fit grid m.x p.low.x p.high.x (omega (arith, ints, good.step.least, least_step grid m.x good.motors.x)) x;
-      y = ends_fit grid m.y p.low.y p.high.y (omega (arith, ints, good.step.least, least_step grid m.y good.motors.y)) y;
-      z = ends_fit grid m.z p.low.z p.high.z (omega (arith, ints, good.step.least, least_step grid m.z good.motors.z)) z;
+      x = ends_fit grid m.x p.low.x p.high.x x;
+      y = ends_fit grid m.y p.low.y p.high.y y;
+      z = ends_fit grid m.z p.low.z p.high.z z;
     }
 
 -- ---- a file
@@ -146,13 +131,13 @@ built_in_read = record {
 not_less : (a b : ℤ) → pos 0 ≤ℤ a → a ≤ℤ b → pos 0 ≤ℤ b
 not_less a b least more = omega (arith, ints, least, more)
 
-fits_axis : (grid margin step low high : ℤ) (s : ℤ) → s ≤ℤ margin → (step ≡ grid) ⊎ (step ≤ℤ (s +ℤ s)) → EndsFit grid step low high →
-    FitsAxis grid margin step low high
-fits_axis grid margin step low high s more enough ends = elim enough [
+fits_axis : (grid margin : ℤ) (m : MotorStep) (low high s : ℤ) → s ≤ℤ margin → IsEnough grid m s → EndsFit grid m low high →
+    FitsAxis grid margin m low high
+fits_axis grid margin m low high s more enough ends = elim (enough_more grid m s margin more enough) [
   | inl same ↦ inl same
   | inr half ↦ elim ends [
     | inl same ↦ inl same
-    | inr e ↦ inr (record { half = omega (arith, ints, more, half); low_whole = e.0; high_whole = e.1 })
+    | inr at_steps ↦ inr (record { half = half; ends = at_steps })
   ]
 ]
 

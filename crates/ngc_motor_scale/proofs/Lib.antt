@@ -2,5 +2,5 @@
 pub mod Euclid
 -- The greatest common divisor of a ratio's numbers, and what is left of them.
 pub mod Terms
--- A quotient above or below a bound, a step to the nearest nanometre, and the error over a travel.
+-- A quotient above or below a bound.
 pub mod Quotients

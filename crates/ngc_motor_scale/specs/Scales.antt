@@ -1,9 +1,8 @@
--- A motor's step as a ratio in lowest terms, and the whole number of nanometres nearest to it. Our
--- own.
-use Rattle.std.specs.Prelude.{ℕ, zero, suc, ◌+◌, ◌-◌, ◌*◌, ◌/◌, ◌%◌, ◌==◌, ◌||◌, ◌<◌, ◌≤◌, ◌≡◌, nat_lt, Bool}
+-- A motor's step as a ratio in lowest terms. Our own.
+use Rattle.std.specs.Prelude.{ℕ, zero, suc, ◌*◌, ◌/◌, ◌%◌, ◌==◌, ◌||◌, ◌<◌, ◌≤◌, ◌≡◌, nat_lt, Bool}
 use Rattle.std.specs.Prelude.{Result, Ok, Err, if◌then◌else◌}
 use Rattle.ngc_quantities.specs.declared.motor.Step.{Step}
-use Rattle.ngc_motor_scale.specs.declared.scale.MotorScale.{MotorScale}
+use Rattle.ngc_motors.specs.declared.step.MotorStep.{MotorStep}
 use Rattle.ngc_motor_scale.specs.declared.scale.ScaleRefusal.{ScaleRefusal}
 use Rattle.ngc_motor_scale.specs.declared.scale.ScaleRefusal.TheVariants as refusals
 
@@ -15,20 +14,16 @@ is_short s = (s.nanometres == 0) || nat_lt s.nanometres (500 * s.steps)
 abbrev pub is_long : Step → Bool
 is_long s = nat_lt (50000 * s.steps) s.nanometres
 
--- the whole number of nanometres nearest to a step, halves upwards
-abbrev pub nearest : ℕ → ℕ → ℕ
-nearest steps per = (2 * per + steps) / (2 * steps)
-
-abbrev pub scale_with : ℕ → ℕ → MotorScale
-scale_with steps per = record { steps = steps; per = per; step = nearest steps per }
+abbrev pub step_with : ℕ → ℕ → MotorStep
+step_with steps nanometres = record { nanometres = nanometres; steps = steps }
 
 -- no number of the ratio is above 2^40
-abbrev pub scale_in : ℕ → ℕ → Result MotorScale ScaleRefusal
-scale_in steps per =
-    if nat_lt 1099511627776 per then Err refusals.Fine else Ok (scale_with steps per)
+abbrev pub scale_in : ℕ → ℕ → Result MotorStep ScaleRefusal
+scale_in steps nanometres =
+    if nat_lt 1099511627776 nanometres then Err refusals.Fine else Ok (step_with steps nanometres)
 
 -- the scale of a step, with the greatest common divisor of the ratio's numbers
-abbrev pub scale_by : Step → ℕ → Result MotorScale ScaleRefusal
+abbrev pub scale_by : Step → ℕ → Result MotorStep ScaleRefusal
 scale_by s divisor =
     if is_short s then Err refusals.Short else (
     if is_long s then Err refusals.Long
@@ -43,30 +38,16 @@ gcd_within (suc n) a b = if b == 0 then a else gcd_within n b (a % b)
 abbrev pub gcd : ℕ → ℕ → ℕ
 gcd a b = gcd_within b a b
 
-abbrev pub scale_of : Step → Result MotorScale ScaleRefusal
+abbrev pub scale_of : Step → Result MotorStep ScaleRefusal
 scale_of s = scale_by s (gcd s.nanometres s.steps)
 
--- a scale has the same ratio as a step
-abbrev pub IsSameRatio : Step → MotorScale → Type 0
-IsSameRatio s scale = scale.steps * s.nanometres ≡ scale.per * s.steps
+-- it is the same ratio
+abbrev pub IsSameRatio : Step → MotorStep → Type 0
+IsSameRatio s scale = scale.steps * s.nanometres ≡ scale.nanometres * s.steps
 
--- how far two numbers are apart
-abbrev pub difference : ℕ → ℕ → ℕ
-difference a b = (a - b) + (b - a)
-
--- the ratio's numbers are from 1 to 2^40, and the nearest step is from 500 to 50,000 nm
-pub record IsMotorScale (scale : MotorScale) : Type 0 where
-  pub some_steps : 0 < scale.steps
-  pub greatest_steps : scale.steps ≤ 1099511627776
-  pub some_length : 0 < scale.per
-  pub greatest_length : scale.per ≤ 1099511627776
-  pub least : 500 ≤ scale.step
-  pub greatest : scale.step ≤ 50000
-  pub nearest : 2 * difference (scale.step * scale.steps) scale.per ≤ scale.steps
-
--- the difference between a number of whole steps and the same number of the motor's steps, in
--- nanometres, rounded up
-abbrev pub travel_error : MotorScale → ℕ → ℕ
-travel_error scale nanometres =
-    let rounded = scale.step * scale.steps in
-    (nanometres * difference rounded scale.per + rounded - 1) / rounded
+-- a step of 500 to 50,000 nm, with numbers of 1 to 2^40
+pub record IsScale (scale : MotorStep) : Type 0 where
+  pub some : 0 < scale.steps
+  pub bound : scale.nanometres ≤ 1099511627776
+  pub least : 500 * scale.steps ≤ scale.nanometres
+  pub greatest : scale.nanometres ≤ 50000 * scale.steps

@@ -1,8 +1,7 @@
-//! A motor's step as a ratio in lowest terms, and as a whole number of nanometres.
+//! A motor's step as a ratio in lowest terms.
 #![tactic(auto)]
 
 mod divisor;
-mod error;
 mod scale;
 
-pub use scale::{MotorScale, ScaleRefusal, scale_of};
+pub use scale::{ScaleRefusal, scale_of};

@@ -1,23 +1,13 @@
 //! A motor's step as a ratio in lowest terms.
-ghost use Rattle.std.specs.Prelude.{◌≡◌, ◌*◌, ◌<◌, ◌≤◌, ◌^◌, IfOk, false};
+ghost use Rattle.std.specs.Prelude.{◌≡◌, ◌*◌, ◌<◌, ◌≤◌, IfOk, false};
 ghost use Rattle.std.specs.Int.{IsGcd};
 ghost use Rattle.ngc_motor_scale.specs.Scales as spec;
 
 use crate::divisor::common_divisor;
+use ngc_motors::MotorStep;
 use ngc_quantities::Step;
 
 const GREATEST_LENGTH: u128 = 1_099_511_627_776;
-
-/// The step of a motor: in `per` nanometres the motor makes `steps` steps, in lowest terms. Both are
-/// at most 2^40.
-#[derive(Clone, Copy)]
-pub struct MotorScale {
-    pub steps: u64,
-    pub per: u64,
-    /// The whole number of nanometres that is nearest to the step, from 500 to 50,000. Halves are
-    /// rounded up.
-    pub step: u32,
-}
 
 /// The reasons why a step is refused.
 #[derive(Clone, Copy)]
@@ -49,42 +39,27 @@ fn is_long(step: &Step) -> bool
     step.steps == 0 || (step.nanometres - 1) / step.steps >= 50_000
 }
 
-fn nearest(steps: u64, per: u64) -> u32
+// Returns the step of a ratio in lowest terms.
+fn step_with(steps: u128, nanometres: u128) -> MotorStep
     requires some { 0 < steps }
-    requires bound { per ≤ 2 ^ 40 }
-    requires least { 500 * steps ≤ per }
-    requires greatest { per ≤ 50000 * steps }
-    ensures value { result ≡ spec.nearest steps per }
-    ensures least { 500 ≤ result }
-    ensures greatest { result ≤ 50000 }
+    requires bound { nanometres ≤ 1099511627776 }
+    requires least { 500 * steps ≤ nanometres }
+    requires greatest { nanometres ≤ 50000 * steps }
+    ensures value { result ≡ spec.step_with steps nanometres }
+    ensures range { spec.IsScale result }
 {
-    ((2 * per + steps) / (2 * steps)) as u32
-}
-
-// Returns the scale of a ratio in lowest terms.
-fn scale_with(steps: u128, per: u128) -> MotorScale
-    requires some { 0 < steps }
-    requires bound { per ≤ 2 ^ 40 }
-    requires least { 500 * steps ≤ per }
-    requires greatest { per ≤ 50000 * steps }
-    ensures value { result ≡ spec.scale_with steps per }
-    ensures range { spec.IsMotorScale result }
-{
-    let steps = steps as u64;
-    let per = per as u64;
-    MotorScale {
-        steps,
-        per,
-        step: nearest(steps, per),
+    MotorStep {
+        nanometres: nanometres as u64,
+        steps: steps as u64,
     }
 }
 
 /// Returns a motor's step as a ratio in lowest terms, or the reason why no machine file can have it.
-pub fn scale_of(step: &Step) -> Result<MotorScale, ScaleRefusal>
+pub fn scale_of(step: &Step) -> Result<MotorStep, ScaleRefusal>
     ensures value { result ≡ spec.scale_of step.now }
     ensures same { IfOk result (spec.IsSameRatio step.now) }
-    ensures lowest { IfOk result (λ scale. IsGcd scale.per scale.steps 1) }
-    ensures range { IfOk result spec.IsMotorScale }
+    ensures lowest { IfOk result (λ scale. IsGcd scale.nanometres scale.steps 1) }
+    ensures range { IfOk result spec.IsScale }
 {
     let divisor = common_divisor(step.nanometres, step.steps);
     if is_short(step) {
@@ -93,9 +68,9 @@ pub fn scale_of(step: &Step) -> Result<MotorScale, ScaleRefusal>
     if is_long(step) {
         return Err(ScaleRefusal::Long);
     }
-    let per = step.nanometres / divisor;
-    if per > GREATEST_LENGTH {
+    let nanometres = step.nanometres / divisor;
+    if nanometres > GREATEST_LENGTH {
         return Err(ScaleRefusal::Fine);
     }
-    Ok(scale_with(step.steps / divisor, per))
+    Ok(step_with(step.steps / divisor, nanometres))
 }

@@ -1,9 +1,9 @@
 //! Takes the scales of motors, and compares the results with expected ones. A row of standard input
-//! has a call, its numbers and the expected result, separated by bars; a line that begins with `#`
-//! is a comment. Prints each row with another result, and the number of rows.
+//! has the two numbers of a step and the expected result, separated by bars; a line that begins with
+//! `#` is a comment. Prints each row with another result, and the number of rows.
 #![tactic(auto)]
 
-use ngc_motor_scale::{MotorScale, ScaleRefusal, scale_of};
+use ngc_motor_scale::{ScaleRefusal, scale_of};
 use ngc_quantities::Step;
 use std::alloc::{AllocError, Global};
 use std::io;
@@ -25,20 +25,13 @@ fn number_in<'a>(part: Option<&'a str>) -> u128 {
 
 fn shown(alloc: Global, row: &str) -> Result<String<Global>, AllocError> {
     let mut parts = row.split('|');
-    let call = parts.next();
     let step = Step {
         nanometres: number_in(parts.next()),
         steps: number_in(parts.next()),
     };
-    match (call, scale_of(&step)) {
-        (_, Err(refusal)) => format!(in alloc; "{}", refusal_word(refusal)),
-        (Some("scale"), Ok(scale)) => {
-            format!(in alloc; "{} per {}, {}", scale.steps, scale.per, scale.step)
-        }
-        (_, Ok(scale)) => {
-            let length = u64::try_from(number_in(parts.next())).unwrap_or(u64::MAX);
-            format!(in alloc; "{}", scale.travel_error(length))
-        }
+    match scale_of(&step) {
+        Err(refusal) => format!(in alloc; "{}", refusal_word(refusal)),
+        Ok(scale) => format!(in alloc; "{} in {}", scale.nanometres, scale.steps),
     }
 }
 

@@ -4,5 +4,9 @@ pub mod Quotients
 pub mod Sizes
 -- How far a motor may stand from the path.
 pub mod Slack
+-- Places to which counts move the axes, in whole nanometres.
+pub mod Places
+-- Where the ends of a travel are moved to, and that motors can stand there.
+pub mod Ends
 -- Worked rows of the definition.
 mod Worked

@@ -1,66 +1,82 @@
 -- How far a motor may stand from the path.
-use Rattle.std.proofs.Common.{◌≡◌, ℤ, pos, ◌+ℤ◌, ◌≤ℤ◌, ◌⊎◌, inl, inr, true, false, cond, ap, arith, lit<}
+use Rattle.std.proofs.Common.{◌≡◌, ℕ, ◌+◌, ◌-◌, ◌*◌, ◌/◌, ◌<◌, ◌≤◌, ℤ, pos, ◌+ℤ◌, ◌*ℤ◌, ◌≤ℤ◌, ◌⊎◌, inl, inr, true, false, cond, ap, sym, subst, arith}
 use Rattle.std.specs.Prelude.{IsTrue}
-use Rattle.std.specs.Int.{int_div_euclid}
-use Rattle.std.specs.Ordering.{int_eq}
 use Rattle.std.proofs.lemmas.Bool.{cases_Bool}
-use Rattle.std.proofs.lemmas.Bool.Decides.{Decides-int_eq}
 use Rattle.std.proofs.lemmas.Int.{ints, clamps}
-use Rattle.ngc_motors.specs.Counts.{AreMotors, MotorData, is_motor, longest, slack}
-use Rattle.ngc_motors.proofs.Quotients.{greatest, least}
-use Rattle.ngc_motors.proofs.Sizes.{least_step, most_step}
+use Rattle.std.proofs.Math.Nat.{div-lt_iff_lt-mul, lt-div-mul-add}
+use Rattle.ngc_motors.specs.Counts.{AreMotors, MotorData, is_grid_step, is_motor, slack, slack_of}
+use Rattle.ngc_motors.specs.declared.step.MotorStep.{MotorStep}
+use Rattle.ngc_motors.proofs.Quotients.{times_rises}
+use Rattle.ngc_motors.proofs.Sizes.{on_grid}
 
-pub longest_bounds : (m : MotorData) → AreMotors m → (m.grid ≤ℤ longest m.steps) × (longest m.steps ≤ℤ pos 1000000)
-longest_bounds m are =
-    let low = least_step m.grid m.steps.x are.x in
-    let x = most_step m.grid m.steps.x are.x in
-    let y = most_step m.grid m.steps.y are.y in
-    let z = most_step m.grid m.steps.z are.z in
-    (omega (arith, ints, clamps, low), omega (arith, ints, clamps, x, y, z))
+-- half of a number of nanometres in some steps, rounded up
+abbrev pub half_of : ℕ → ℕ → ℕ
+half_of n s = (n + 2 * s - 1) / (2 * s)
 
-abbrev half_of : ℤ → ℤ
-half_of l = int_div_euclid (l +ℤ pos 1) (pos 2)
+-- a step is at most twice its half
+half_enough : (n s : ℕ) → 0 < s → n ≤ 2 * half_of n s * s
+half_enough n s some =
+    let wide : 0 < 2 * s = omega (arith, some) in
+    let l : n + 2 * s - 1 < half_of n s * (2 * s) + 2 * s = lt-div-mul-add wide in
+    let e : 2 * half_of n s * s ≡ half_of n s * (2 * s) = grind arith in
+    omega (arith, l, e, wide)
 
--- a length is at most twice its half, and that is at most one more
-halved : (l : ℤ) → (l ≤ℤ (half_of l +ℤ half_of l)) × ((half_of l +ℤ half_of l) ≤ℤ (l +ℤ pos 1))
-halved l =
-    let g = greatest 2 (l +ℤ pos 1) (lit< tt) in
-    let e = least 2 (l +ℤ pos 1) (lit< tt) in
-    (omega (arith, ints, g), omega (arith, ints, e))
+pub half_most : (n s : ℕ) → 0 < s → n ≤ 1000000 * s → half_of n s ≤ 500000
+half_most n s some most =
+    let wide : 0 < 2 * s = omega (arith, some) in
+    let l : half_of n s < 500001 = (div-lt_iff_lt-mul wide).1 (omega (arith, some, most)) in
+    omega (arith, l)
 
-same_steps : (m : MotorData) → int_eq (longest m.steps) m.grid ≡ true → slack m ≡ pos 0
-same_steps m e = ap (λ b. cond b (pos 0) (half_of (longest m.steps))) e
+same_step : (g : ℤ) (m : MotorStep) → is_grid_step g m ≡ true → slack_of g m ≡ pos 0
+same_step g m e = ap (λ b. cond b (pos 0) (pos (half_of m.nanometres m.steps))) e
 
-other_steps : (m : MotorData) → int_eq (longest m.steps) m.grid ≡ false → slack m ≡ half_of (longest m.steps)
-other_steps m e = ap (λ b. cond b (pos 0) (half_of (longest m.steps))) e
+other_step : (g : ℤ) (m : MotorStep) → is_grid_step g m ≡ false → slack_of g m ≡ pos (half_of m.nanometres m.steps)
+other_step g m e = ap (λ b. cond b (pos 0) (pos (half_of m.nanometres m.steps))) e
+
+pub slack_of_range : (g : ℤ) (m : MotorStep) → IsTrue (is_motor g m) → (pos 0 ≤ℤ slack_of g m) × (slack_of g m ≤ℤ pos 500000)
+slack_of_range g m motor =
+    let on = on_grid g m motor in
+    let most = half_most m.nanometres m.steps on.some on.most in
+    elim (cases_Bool (is_grid_step g m)) [
+      | inl e ↦ (omega (arith, ints, same_step g m e), omega (arith, ints, same_step g m e))
+      | inr e ↦ (omega (arith, ints, other_step g m e), omega (arith, ints, other_step g m e, most))
+    ]
 
 pub slack_range : (m : MotorData) → AreMotors m → (pos 0 ≤ℤ slack m) × (slack m ≤ℤ pos 500000)
 slack_range m are =
-    let h = halved (longest m.steps) in
-    let b = longest_bounds m are in
-    elim (cases_Bool (int_eq (longest m.steps) m.grid)) [
-      | inl e ↦ (omega (arith, ints, same_steps m e), omega (arith, ints, same_steps m e))
-      | inr e ↦ (omega (arith, ints, other_steps m e, h.0, b.0, are.grid.least), omega (arith, ints, other_steps m e, h.1, b.1))
+    let x = slack_of_range m.grid m.steps.x are.x in
+    let y = slack_of_range m.grid m.steps.y are.y in
+    let z = slack_of_range m.grid m.steps.z are.z in
+    (omega (arith, ints, clamps, x.0), omega (arith, ints, clamps, x.1, y.1, z.1))
+
+-- a motor has the grid's step, or its step is at most twice a distance
+abbrev pub IsEnough : ℤ → MotorStep → ℤ → Type 0
+IsEnough g m distance =
+    (is_grid_step g m ≡ true) ⊎ (pos m.nanometres ≤ℤ ((distance +ℤ distance) *ℤ pos m.steps))
+
+pub enough_more : (g : ℤ) (m : MotorStep) (d e : ℤ) → d ≤ℤ e → IsEnough g m d → IsEnough g m e
+enough_more g m d e more enough = elim enough [
+  | inl same ↦ inl same
+  | inr half ↦ inr (let t = times_rises m.steps (d +ℤ d) (e +ℤ e) (omega (arith, ints, more)) in omega (arith, ints, half, t))
+]
+
+own_enough : (g : ℤ) (m : MotorStep) → IsTrue (is_motor g m) → IsEnough g m (slack_of g m)
+own_enough g m motor =
+    let on = on_grid g m motor in
+    let half = half_of m.nanometres m.steps in
+    let enough = half_enough m.nanometres m.steps on.some in
+    let e : 2 * half * m.steps ≡ (half + half) * m.steps = grind arith in
+    let D : ℤ → Type 0 = λ d. pos m.nanometres ≤ℤ ((d +ℤ d) *ℤ pos m.steps) in
+    elim (cases_Bool (is_grid_step g m)) [
+      | inl same ↦ inl same
+      | inr other ↦ inr (subst D (sym (other_step g m other)) (omega (arith, ints, enough, e)))
     ]
 
--- a motor has the grid's step, or its step is at most twice the slack
-abbrev IsSlackEnough : MotorData → ℤ → Type 0
-IsSlackEnough m step = (step ≡ m.grid) ⊎ (step ≤ℤ (slack m +ℤ slack m))
+pub enough_x : (m : MotorData) → AreMotors m → IsEnough m.grid m.steps.x (slack m)
+enough_x m are = enough_more m.grid m.steps.x (slack_of m.grid m.steps.x) (slack m) (omega (arith, ints, clamps)) (own_enough m.grid m.steps.x are.x)
 
-enough : (m : MotorData) (step : ℤ) → IsTrue (is_motor m.grid step) → step ≤ℤ longest m.steps → IsSlackEnough m step
-enough m step motor short =
-    let h = halved (longest m.steps) in
-    let low = least_step m.grid step motor in
-    elim (cases_Bool (int_eq (longest m.steps) m.grid)) [
-      | inl e ↦ inl (omega (arith, ints, (Decides-int_eq (longest m.steps) m.grid).0 e, low, short))
-      | inr e ↦ inr (omega (arith, ints, other_steps m e, h.0, short))
-    ]
+pub enough_y : (m : MotorData) → AreMotors m → IsEnough m.grid m.steps.y (slack m)
+enough_y m are = enough_more m.grid m.steps.y (slack_of m.grid m.steps.y) (slack m) (omega (arith, ints, clamps)) (own_enough m.grid m.steps.y are.y)
 
-pub enough_x : (m : MotorData) → AreMotors m → IsSlackEnough m m.steps.x
-enough_x m are = enough m m.steps.x are.x (omega (arith, ints, clamps))
-
-pub enough_y : (m : MotorData) → AreMotors m → IsSlackEnough m m.steps.y
-enough_y m are = enough m m.steps.y are.y (omega (arith, ints, clamps))
-
-pub enough_z : (m : MotorData) → AreMotors m → IsSlackEnough m m.steps.z
-enough_z m are = enough m m.steps.z are.z (omega (arith, ints, clamps))
+pub enough_z : (m : MotorData) → AreMotors m → IsEnough m.grid m.steps.z (slack m)
+enough_z m are = enough_more m.grid m.steps.z (slack_of m.grid m.steps.z) (slack m) (omega (arith, ints, clamps)) (own_enough m.grid m.steps.z are.z)

@@ -1,10 +1,11 @@
-ghost use Rattle.std.specs.Prelude.{◌≡◌, ◌≤◌, ◌≤ℤ◌, ◌<ℤ◌, ◌+ℤ◌, ◌*ℤ◌, pos, unsigned_abs, IsTrue};
-ghost use Rattle.std.specs.Int.{int_div_euclid};
+ghost use Rattle.std.specs.Prelude.{◌≡◌, ◌≤ℤ◌, ◌*ℤ◌, pos, IsTrue};
+ghost use Rattle.std.specs.Int.{int_max};
 ghost use Rattle.ngc_fixed_length.specs.Length.{IsStep};
 ghost use Rattle.ngc_motors.specs.Counts.{AreMotors, MotorData};
 ghost use Rattle.ngc_motors.specs.Counts as spec;
 
-use ngc_fixed_length::{Nm, Point3, StepPos};
+use crate::step::{MotorStep, MotorSteps};
+use ngc_fixed_length::{Nm, StepPos};
 use std::marker::Model;
 
 /// The motors of a machine: how far one step of each moves its axis. No step is shorter than the
@@ -12,7 +13,7 @@ use std::marker::Model;
 #[derive(Clone, Copy, PartialEq, Eq)]
 pub struct Motors {
     grid: Nm,
-    steps: Point3,
+    steps: MotorSteps,
 }
 
 impl Model for Motors {
@@ -27,25 +28,24 @@ impl Model for Motors {
 
 impl Motors {
     /// Returns the motors with these steps.
-    pub fn new(grid: Nm, steps: Point3) -> Motors
+    pub fn new(grid: Nm, steps: MotorSteps) -> Motors
         requires { AreMotors (record { grid = grid; steps = steps }) }
         ensures { result ≡ record { grid = grid; steps = steps } }
     {
         Motors { grid, steps }
     }
 
-    /// Returns how far a motor may stand from the place on its axis that the path is at: half of the
-    /// longest step, rounded up, or 0 if each motor has the grid's step.
+    /// Returns how far a motor may stand from the place on its axis that the path is at: the greatest
+    /// half of a step that isn't the grid's, rounded up, or 0 if each motor has the grid's step.
     pub fn slack(&self) -> Nm
         ensures value { result ≡ spec.slack self.now }
         ensures least { pos 0 ≤ℤ result }
         ensures most { result ≤ℤ pos 500000 }
     {
-        let longest = longest(&self.steps);
-        if longest == self.grid.nanometres() {
-            return Nm::zero();
-        }
-        length(half(longest))
+        let x = slack_of(self.grid, &self.steps.x);
+        let y = slack_of(self.grid, &self.steps.y);
+        let z = slack_of(self.grid, &self.steps.z);
+        length(x.max(y).max(z))
     }
 
     /// Returns the counts of the motors for a grid point.
@@ -53,61 +53,47 @@ impl Motors {
         ensures { result ≡ spec.counts self.now point.now }
     {
         StepPos {
-            x: count(self.grid, self.steps.x, point.x),
-            y: count(self.grid, self.steps.y, point.y),
-            z: count(self.grid, self.steps.z, point.z),
+            x: count(self.grid, &self.steps.x, point.x),
+            y: count(self.grid, &self.steps.y, point.y),
+            z: count(self.grid, &self.steps.z, point.z),
         }
     }
 }
 
-fn longest(steps: &Point3) -> i64
-    ensures { result ≡ spec.longest steps.now }
+// Returns how far a motor may stand from the place on its axis: half of its step, rounded up, or 0 if
+// it has the grid's step.
+fn slack_of(grid: Nm, step: &MotorStep) -> i64
+    requires grid { IsStep grid }
+    requires motor { IsTrue (spec.is_motor grid step.now) }
+    ensures value { result ≡ spec.slack_of grid step.now }
+    ensures least { pos 0 ≤ℤ result }
+    ensures most { result ≤ℤ pos 500000 }
 {
-    steps
-        .x
-        .nanometres()
-        .max(steps.y.nanometres())
-        .max(steps.z.nanometres())
-}
-
-// Returns half of a motor's step, rounded up.
-fn half(step: i64) -> i64
-    requires least { pos 0 ≤ℤ step }
-    requires most { step ≤ℤ pos 1000000 }
-    ensures { result ≡ int_div_euclid (step +ℤ pos 1) (pos 2) }
-{
-    (step + 1).div_euclid(2)
+    if step.is_grid_step(grid.nanometres()) {
+        return 0;
+    }
+    let twice = 2 * step.steps;
+    ((step.nanometres + twice - 1) / twice) as i64
 }
 
 fn length(nanometres: i64) -> Nm
-    requires { unsigned_abs nanometres ≤ 1000000 }
+    requires least { pos 0 ≤ℤ nanometres }
+    requires most { nanometres ≤ℤ pos 500000 }
     ensures { result ≡ nanometres }
 {
     Nm::from_nanometres(i128::from(nanometres)).unwrap()
 }
 
-// Returns a motor's count for a place on its axis in nanometres.
-fn count_at(step: i64, place: i64) -> i64
-    requires some { pos 0 <ℤ step }
-    requires motor { unsigned_abs step ≤ 1000000 }
-    requires place { unsigned_abs place ≤ 200000000000000 }
-    ensures { result ≡ spec.count step place }
-{
-    (place + place + step).div_euclid(step + step)
-}
-
 // Returns a motor's count for a place on its axis in steps of the grid.
-fn count(grid: Nm, step: Nm, place: i32) -> i32
+fn count(grid: Nm, step: &MotorStep, place: i32) -> i32
     requires grid { IsStep grid }
-    requires motor { IsTrue (spec.is_motor grid step) }
-    ensures { result ≡ spec.count step (place *ℤ grid) }
+    requires motor { IsTrue (spec.is_motor grid step.now) }
+    ensures { result ≡ spec.count step.now (place *ℤ grid) }
 {
     let unit = grid.nanometres();
-    let motor = step.nanometres();
     // Most machines have such motors, and there are millions of steps.
-    if motor == unit {
+    if step.is_grid_step(unit) {
         return place;
     }
-    let place = i64::from(place) * unit;
-    count_at(motor, place) as i32
+    step.count(i64::from(place) * unit) as i32
 }

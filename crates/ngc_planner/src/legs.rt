@@ -93,8 +93,7 @@ impl<A: Allocator> Legs<A> {
         }
     }
 
-    /// Returns how much more work than that up to the end of the second motion may be needed, in 64
-    /// bits.
+    /// Returns how much work beyond the end of the second motion braking may use, in 64 bits.
     pub fn beyond(&self) -> u64
         requires { All IsLeg self.now.legs }
         ensures { result ≡ legs_beyond self.now.legs }

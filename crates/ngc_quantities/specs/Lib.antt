@@ -3,6 +3,7 @@ pub mod Numbers
 pub mod Units
 pub mod Near
 pub mod Written
+pub mod Sums
 pub mod Quantities
 pub mod Ranges
 pub mod Motors

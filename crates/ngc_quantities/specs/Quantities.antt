@@ -12,6 +12,7 @@ use Rattle.ngc_quantities.specs.declared.unit.Unit.{Unit}
 use Rattle.ngc_quantities.specs.declared.written.Wanted.{Wanted}
 use Rattle.ngc_quantities.specs.declared.written.Whole.{Whole}
 use Rattle.ngc_quantities.specs.Numbers.{and_then}
+use Rattle.ngc_quantities.specs.Sums.{sum_in}
 use Rattle.ngc_quantities.specs.Written.{fault, whole_in}
 
 -- a text has at most 256 bytes
@@ -26,17 +27,16 @@ wanted_of kind otherwise ending = record { kind = kind; otherwise = otherwise; e
 abbrev pub not_negative : Whole → Result Whole Fault
 not_negative w = if int_lt w.amount (pos 0) then fault w.column causes.Negative else Ok w
 
--- a length may be below zero, and no other kind
-abbrev pub signed_as : Kind → Whole → Result Whole Fault
-signed_as kinds.Length w = Ok w
-signed_as _ w = not_negative w
+-- the amount of a kind of which there is none below zero
+abbrev pub unsigned_in : Kind → Option Unit → ℕ → List ℕ → Result Whole Fault
+unsigned_in kind otherwise at text =
+    and_then (whole_in (wanted_of kind otherwise endings.Nothing) at text) not_negative
 
 -- the amount of a kind that a text says, whose first byte is in column at + 1. If it names no unit,
--- the other unit counts
+-- the other unit counts. A length may be a sum, and below zero
 abbrev pub amount_in : Kind → Option Unit → ℕ → List ℕ → Result Whole Fault
-amount_in kind otherwise at text =
-    and_then (whole_in (wanted_of kind otherwise endings.Nothing) at text) (λ w.
-    signed_as kind w)
+amount_in kinds.Length otherwise at text = sum_in otherwise at text
+amount_in kind otherwise at text = unsigned_in kind otherwise at text
 
 -- the amount of a kind that a whole text says
 abbrev pub amount_of : Kind → List ℕ → Result ℤ Fault

@@ -1,6 +1,6 @@
 -- Two quantities with "to" between them, and three with commas. If an earlier one has no unit, the
--- unit of the last one counts. Our own.
-use Rattle.std.specs.Prelude.{ℕ, nat_eq, pos, int_lt, ◌+◌, List, take, drop, codes, Some, None, Result, Ok}
+-- unit of the last one counts, unless that is a sum of terms with different units. Our own.
+use Rattle.std.specs.Prelude.{ℕ, nat_eq, pos, int_lt, ◌+◌, List, take, drop, codes, None, Result, Ok}
 use Rattle.std.specs.Prelude.{Bool, if◌then◌else◌}
 use Rattle.std.specs.List.{starts_with}
 use Rattle.ngc_quantities.specs.declared.fault.Cause.TheVariants as causes
@@ -34,7 +34,7 @@ range_of kind text =
     and_then (short_length text) (λ _.
     and_then (to_index text) (λ index.
     and_then (amount_in kind None (index + 2) (drop (index + 2) text)) (λ high.
-    and_then (amount_in kind (Some high.unit) 0 (take index text)) (λ low.
+    and_then (amount_in kind high.unit 0 (take index text)) (λ low.
     range_between low high))))
 
 abbrev pub length_range_of : List ℕ → Result Range Fault
@@ -71,8 +71,8 @@ turning_limits_of text = limits_of kinds.Turning text
 abbrev pub place_by : ℕ → List ℕ → List ℕ → ℕ → List ℕ → Result Place Fault
 place_by at_y x y at_z z =
     and_then (amount_in kinds.Length None at_z z) (λ z.
-    and_then (amount_in kinds.Length (Some z.unit) 0 x) (λ x.
-    and_then (amount_in kinds.Length (Some z.unit) at_y y) (λ y.
+    and_then (amount_in kinds.Length z.unit 0 x) (λ x.
+    and_then (amount_in kinds.Length z.unit at_y y) (λ y.
     Ok (record { x = x.amount; y = y.amount; z = z.amount }))))
 
 abbrev pub place_of : List ℕ → Result Place Fault

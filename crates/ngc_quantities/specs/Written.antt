@@ -128,4 +128,4 @@ unfoldable pub whole_in : Wanted → ℕ → List ℕ → Result Whole Fault
 whole_in wanted at text =
     and_then (written_in wanted at text) (λ w.
     and_then (placed w.column (whole_of wanted.kind w)) (λ amount.
-    Ok (record { amount = amount; unit = w.unit; column = w.column })))
+    Ok (record { amount = amount; unit = Some w.unit; column = w.column })))

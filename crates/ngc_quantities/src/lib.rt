@@ -8,6 +8,7 @@ mod near;
 mod number;
 mod quantity;
 mod range;
+mod sum;
 mod text;
 mod unit;
 mod written;

@@ -3,6 +3,7 @@ ghost use Rattle.std.specs.Prelude.{◌≡◌, ◌≤◌, OnOk, length};
 ghost use Rattle.ngc_quantities.specs.Quantities as spec;
 
 use crate::fault::{Cause, Fault};
+use crate::sum::sum_in;
 use crate::unit::{Ending, Kind, Unit};
 use crate::written::{Wanted, Whole, whole_in};
 
@@ -36,14 +37,19 @@ pub(crate) fn not_negative(whole: Whole) -> Result<Whole, Fault>
     Ok(whole)
 }
 
-// Refuses an amount below zero unless it is a length.
-fn signed_as(kind: Kind, whole: Whole) -> Result<Whole, Fault>
-    ensures { result ≡ spec.signed_as kind whole }
+// Returns an amount of a kind of which there is none below zero.
+fn unsigned_in(kind: Kind, otherwise: Option<Unit>, at: usize, text: &[u8]) -> Result<Whole, Fault>
+    requires at { at ≤ 5000 }
+    requires text { length text.now ≤ 256 }
+    ensures { result ≡ spec.unsigned_in kind otherwise at text.now }
 {
-    match kind {
-        Kind::Length => Ok(whole),
-        _ => not_negative(whole),
-    }
+    let wanted = Wanted {
+        kind,
+        otherwise,
+        ending: Ending::Nothing,
+    };
+    let whole = whole_in(&wanted, at, text)?;
+    not_negative(whole)
 }
 
 /// Returns the amount of a kind that a part of a text says.
@@ -53,17 +59,14 @@ pub(crate) fn amount_in(
     at: usize,
     text: &[u8],
 ) -> Result<Whole, Fault>
-    requires at { at ≤ 5000 }
+    requires at { at ≤ 4000 }
     requires text { length text.now ≤ 256 }
     ensures { result ≡ spec.amount_in kind otherwise at text.now }
 {
-    let wanted = Wanted {
-        kind,
-        otherwise,
-        ending: Ending::Nothing,
-    };
-    let whole = whole_in(&wanted, at, text)?;
-    signed_as(kind, whole)
+    match kind {
+        Kind::Length => sum_in(otherwise, at, text),
+        _ => unsigned_in(kind, otherwise, at, text),
+    }
 }
 
 fn amount_of(kind: Kind, text: &[u8]) -> Result<i64, Fault>
@@ -81,7 +84,8 @@ fn one_size(kind: Kind, text: &[u8]) -> Result<u64, Fault>
     Ok(amount.unsigned_abs())
 }
 
-/// Returns a length in nanometres, at most 10^12 in size, as of `12.5 mm`, `-1 1/8 in`, `0.1 um`.
+/// Returns a length in nanometres, at most 10^12 in size, as of `12.5 mm`, `-1 1/8 in`,
+/// `-140 mm + 12.7 mm`.
 pub fn length_of(text: &[u8]) -> Result<i64, Fault>
     ensures { result ≡ spec.length_of text.now }
 {

@@ -59,7 +59,7 @@ fn range_of(kind: Kind, text: &[u8]) -> Result<Range, Fault>
     short_length(text)?;
     let index = to_index(text)?;
     let high = amount_in(kind, None, index + 2, &text[index + 2..])?;
-    let low = amount_in(kind, Some(high.unit), 0, &text[..index])?;
+    let low = amount_in(kind, high.unit, 0, &text[..index])?;
     range_between(&low, &high)
 }
 
@@ -140,8 +140,8 @@ pub fn place_of(text: &[u8]) -> Result<Place, Fault>
     let at_y = after_index(text);
     let at_z = at_y + after_index(rest);
     let z = amount_in(Kind::Length, None, at_z, z)?;
-    let x = amount_in(Kind::Length, Some(z.unit), 0, x)?;
-    let y = amount_in(Kind::Length, Some(z.unit), at_y, y)?;
+    let x = amount_in(Kind::Length, z.unit, 0, x)?;
+    let y = amount_in(Kind::Length, z.unit, at_y, y)?;
     Ok(Place {
         x: x.amount,
         y: y.amount,

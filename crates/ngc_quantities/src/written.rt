@@ -32,8 +32,8 @@ pub struct Written {
 #[derive(Clone, Copy)]
 pub struct Whole {
     pub amount: i64,
-    /// The unit in which it is written.
-    pub unit: Unit,
+    /// The unit in which it is written, or `None` if it is a sum of terms with different ones.
+    pub unit: Option<Unit>,
     /// The column where the number begins.
     pub column: usize,
 }
@@ -238,7 +238,7 @@ pub(crate) fn whole_in(wanted: &Wanted, at: usize, text: &[u8]) -> Result<Whole,
     let amount = placed(written.column, whole_of(wanted.kind, &written))?;
     Ok(Whole {
         amount,
-        unit: written.unit,
+        unit: Some(written.unit),
         column: written.column,
     })
 }

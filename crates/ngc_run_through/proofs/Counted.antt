@@ -1,19 +1,20 @@
 -- Outcomes by the counts of motors.
 use Rattle.std.proofs.Common.{◌≡◌, ℕ, suc, ℤ, List, [], ◌∷◌, ◌++◌, length, Option, Some, None, Ok, Err, Bool, true, false, refl, ap, sym, ◌∙◌}
-use Rattle.std.specs.Prelude.{◌&&◌, if◌then◌else◌}
+use Rattle.std.specs.Prelude.{◌&&◌, if◌then◌else◌, unsigned_abs}
 use Rattle.std.specs.Ordering.{int_eq}
 use Rattle.std.proofs.lemmas.Bool.{and_parts}
 use Rattle.std.proofs.lemmas.Bool.Decides.{Decides-int_eq}
 use Rattle.std.proofs.lemmas.List.{map-append}
 use Rattle.ngc_fixed_length.specs.declared.points.StepPos.{StepPos}
-use Rattle.ngc_motors.specs.Counts.{MotorData, counts}
+use Rattle.ngc_motors.specs.Counts.{MotorData, counts, whole_step}
+use Rattle.ngc_motors.specs.declared.step.MotorStep.{MotorStep}
 use Rattle.ngc_events.specs.declared.reply.Reply.TheVariants.{Loaded, Ticked, Held, Resumed, Overridden, Switched, Started}
 use Rattle.ngc_machine_model.specs.Step.{Outcome}
 use Rattle.ngc_machine_model.specs.Run.{position_in, positions}
 use Rattle.ngc_pulses.specs.declared.samples.Switch.{Switch}
 use Rattle.ngc_pulses.specs.Sampling.{SampleTick, switches_of}
 use Rattle.ngc_fixed_length.specs.Length.{IsStep}
-use Rattle.ngc_motors.proofs.Sizes.{count_same}
+use Rattle.ngc_motors.proofs.Sizes.{count_same, whole_is_grid}
 use Rattle.ngc_run_through.specs.Counting.{EqualMotorsKeep, counted, counted_outcome, equal_motors, is_same, last_position}
 use Rattle.ngc_run_through.specs.Tracing.{sample_in, samples_in, switches_in, tick_in}
 
@@ -89,9 +90,11 @@ still_counted m p (Err e) h = (refl, refl)
 
 same_counts : (step : ℤ) (p : StepPos) → IsStep step → counts (equal_motors step) p ≡ p
 same_counts step p is =
-    let x = count_same p.x step is in
-    let y = count_same p.y step is in
-    let z = count_same p.z step is in
+    let m : MotorStep = whole_step (unsigned_abs step) in
+    let same = whole_is_grid step is in
+    let x = count_same p.x step m is same in
+    let y = count_same p.y step m is same in
+    let z = count_same p.z step m is same in
     point_is (counts (equal_motors step) p) p x y z
 
 kept_outcome : (step : ℤ) (p : StepPos) (o : Outcome) → IsStep step → ((q : StepPos) → position_in o ≡ q ∷ [] → is_same p q ≡ false) →

@@ -1,11 +1,11 @@
 -- A run by the counts of its motors. A motor whose step is longer than the grid's has a pulse only
 -- where its count changes. Our own.
 use Rattle.std.specs.Prelude.{◌≡◌, ℤ, List, [], ◌∷◌, map, Option, Some, None, Ok, Err, Bool, false}
-use Rattle.std.specs.Prelude.{◌&&◌, if◌then◌else◌}
+use Rattle.std.specs.Prelude.{◌&&◌, if◌then◌else◌, unsigned_abs}
 use Rattle.std.specs.Ordering.{int_eq}
 use Rattle.ngc_fixed_length.specs.Length.{IsStep}
 use Rattle.ngc_fixed_length.specs.declared.points.StepPos.{StepPos}
-use Rattle.ngc_motors.specs.Counts.{MotorData, counts}
+use Rattle.ngc_motors.specs.Counts.{MotorData, counts, equal_steps}
 use Rattle.ngc_machine_files.specs.Machine.{motors_of}
 use Rattle.ngc_events.specs.declared.event.Event.{Event}
 use Rattle.ngc_events.specs.declared.reply.Reply.TheVariants.{Loaded, Ticked, Held, Resumed}
@@ -61,7 +61,7 @@ motor_pulses job events states =
 -- ---- motors that all have the grid's step
 
 abbrev pub equal_motors : ℤ → MotorData
-equal_motors step = record { grid = step; steps = record { x = step; y = step; z = step } }
+equal_motors step = record { grid = step; steps = equal_steps (unsigned_abs step) }
 
 -- each position that is reported differs from the one before it, the first from p
 abbrev pub Moves : StepPos → List Outcome → Type 0

@@ -1,5 +1,5 @@
 -- What a setup sheet says about a machine and its tools. Our own.
-use Rattle.std.specs.Prelude.{ℕ, ◌+◌, ◌/◌, ◌%◌, min, nat_lt, ℤ, pos, ◌+ℤ◌, ◌*ℤ◌, List, [], ◌∷◌, ◌++◌, map}
+use Rattle.std.specs.Prelude.{ℕ, ◌+◌, ◌/◌, ◌%◌, min, nat_lt, nat_le, ℤ, pos, ◌+ℤ◌, ◌*ℤ◌, List, [], ◌∷◌, ◌++◌, map}
 use Rattle.std.specs.Prelude.{Option, Some, None, filter, flat_map, ◌==◌, Bool, true, false, not, ◌&&◌, if◌then◌else◌}
 use Rattle.std.specs.Ordering.{int_eq}
 use Rattle.ngc_dialect_names.specs.declared.dialect.Dialect.{Dialect}
@@ -22,8 +22,11 @@ use Rattle.ngc_machine_files.specs.declared.machine.Rapids.TheVariants as ways
 use Rattle.ngc_machine_files.specs.declared.machine.StockBox.{StockBox}
 use Rattle.ngc_machine_files.specs.declared.parts.Part.{Part}
 use Rattle.ngc_machine_files.specs.declared.tools.Tool.{Tool}
-use Rattle.ngc_machine_speeds.specs.Speeds.{steps_a_millimetre, millimetres_a_minute, acceleration}
+use Rattle.ngc_machine_speeds.specs.Speeds.{motor_steps_a_millimetre, steps_a_millimetre}
+use Rattle.ngc_machine_speeds.specs.Speeds.{millimetres_a_minute, acceleration}
 use Rattle.ngc_machine_speeds.specs.Speeds.{arc_acceleration}
+use Rattle.ngc_motors.specs.Counts.{is_grid_step}
+use Rattle.ngc_motors.specs.declared.step.MotorStep.{MotorStep}
 use Rattle.ngc_setup_sheet.specs.Reaches.{reach_of, is_out_of_reach, is_outside_travel}
 use Rattle.ngc_setup_sheet.specs.Spelling.{lines_text}
 use Rattle.ngc_setup_sheet.specs.Warnings.{is_odd_speed, is_odd_acceleration, is_short_travel}
@@ -84,10 +87,15 @@ step_facts m f =
 
 abbrev pub have_one_step : MachineFile → Bool
 have_one_step m =
-    int_eq m.motor_steps.x m.step && (int_eq m.motor_steps.y m.step && int_eq m.motor_steps.z m.step)
+    is_grid_step m.step m.motor_steps.x && (is_grid_step m.step m.motor_steps.y
+    && is_grid_step m.step m.motor_steps.z)
 
-abbrev pub motor_fact : Axis → ℤ → Line
-motor_fact axis step = lines.Fact (facts.Motor axis) (figures.Length step)
+-- a step of whole nanometres is a length, and any other is said by the steps per millimetre
+abbrev pub motor_fact : Axis → MotorStep → Line
+motor_fact axis m =
+    if (m.steps == 1) && nat_le m.nanometres 1000000
+    then lines.Fact (facts.Motor axis) (figures.Length (pos m.nanometres))
+    else lines.Fact (facts.MotorSteps axis) (figures.PerMillimetre (motor_steps_a_millimetre m))
 
 -- the step of each motor, unless it is that of the grid on all axes
 abbrev pub motor_facts : MachineFile → List Line

@@ -27,6 +27,8 @@ pub enum Fact {
     Steps,
     /// The step of the axis' motor.
     Motor(Axis),
+    /// The steps per millimetre of the axis' motor.
+    MotorSteps(Axis),
     Ticks,
     GreatestSpeed,
     CornerSpeed,

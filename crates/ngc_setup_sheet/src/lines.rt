@@ -1,6 +1,5 @@
 //! The lines of a machine, of a fixture and of a tool.
 ghost use Rattle.std.specs.Prelude.{◌≡◌, ◌≤◌, ◌<◌, ◌+◌, ◌++◌, min, length, unsigned_abs};
-ghost use Rattle.std.specs.Ordering.{int_eq};
 ghost use Rattle.arrayvec.specs.ArrayVec.{array_vec_len};
 ghost use Rattle.ngc_machine_files.specs.Machine.{file_of};
 ghost use Rattle.ngc_machine_files.specs.Ranges.{IsRate};
@@ -34,8 +33,10 @@ use ngc_file_figures::{
 use ngc_fixed_length::{Nm, Point3, System};
 use ngc_machine_files::{ArcFeed, Fixture, Machine, Part, Parts, Rapids, Tool};
 use ngc_machine_speeds::{
-    acceleration, arc_acceleration, millimetres_a_minute, steps_a_millimetre,
+    acceleration, arc_acceleration, millimetres_a_minute, motor_steps_a_millimetre,
+    steps_a_millimetre,
 };
+use ngc_motors::MotorStep;
 use std::alloc::Allocator;
 
 /// Space for the lines of a machine, of a fixture or of a tool.
@@ -136,25 +137,24 @@ fn step_facts<A: Allocator>(machine: &Machine<A>, written: &Option<MachineFigure
     ]
 }
 
-fn is_same(a: Nm, b: Nm) -> bool
-    ensures { result ≡ int_eq a b }
-{
-    a.nanometres() == b.nanometres()
-}
-
 fn have_one_step<A: Allocator>(machine: &Machine<A>) -> bool
     ensures { result ≡ have_one_step (file_of machine.now) }
 {
     let steps = &machine.motor_steps;
-    is_same(steps.x, machine.step)
-        && is_same(steps.y, machine.step)
-        && is_same(steps.z, machine.step)
+    let grid = machine.step.nanometres();
+    steps.x.is_grid_step(grid) && steps.y.is_grid_step(grid) && steps.z.is_grid_step(grid)
 }
 
-fn motor_fact(axis: Axis, step: Nm) -> Line
-    ensures { result ≡ motor_fact axis step }
+// Returns the line of a motor. A step of whole nanometres is said as a length, and any other by the
+// steps per millimetre.
+fn motor_fact(axis: Axis, step: &MotorStep) -> Line
+    ensures { result ≡ motor_fact axis step.now }
 {
-    Line::Fact(Fact::Motor(axis), Figure::Length(step.nanometres()))
+    if step.steps == 1 && step.nanometres <= 1_000_000 {
+        return Line::Fact(Fact::Motor(axis), Figure::Length(step.nanometres as i64));
+    }
+    let steps = Figure::PerMillimetre(motor_steps_a_millimetre(step));
+    Line::Fact(Fact::MotorSteps(axis), steps)
 }
 
 // Adds the step of each motor, unless it is that of the grid on all axes.
@@ -168,9 +168,9 @@ fn add_motors<A: Allocator>(lines: &mut Lines, machine: &Machine<A>)
         add_all(
             lines,
             &[
-                motor_fact(Axis::X, steps.x),
-                motor_fact(Axis::Y, steps.y),
-                motor_fact(Axis::Z, steps.z),
+                motor_fact(Axis::X, &steps.x),
+                motor_fact(Axis::Y, &steps.y),
+                motor_fact(Axis::Z, &steps.z),
             ],
         );
     }

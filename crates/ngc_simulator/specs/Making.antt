@@ -18,7 +18,6 @@ use Rattle.ngc_machine_maker.specs.Grbl.{figures_in}
 use Rattle.ngc_machine_maker.specs.Numbers.{numbers_of}
 use Rattle.ngc_machine_maker.specs.Options.{figures_of}
 use Rattle.ngc_machine_maker.specs.Sentences.{refusal_line}
-use Rattle.ngc_machine_maker.specs.ShopUnits.{is_rounded}
 use Rattle.ngc_machine_writer.specs.File.{written_text}
 use Rattle.ngc_setup_sheet.specs.Sheets.{warning_remarks}
 use Rattle.ngc_written_machines.specs.Reading.{any_machine}
@@ -117,18 +116,17 @@ IsUnmade keys answers.Memory = Unit {0}
 IsUnmade keys (answers.Machine e) = IsUnread keys e
 IsUnmade keys _ = ⊥
 
--- The keys of a machine file: figures with their units, or the rates of version 2, if those are asked
--- for or the motors have one step, which is no whole number of nanometres.
+-- the keys of a machine file: figures with their units, or the rates of version 2, if those are asked
+-- for
 abbrev pub keys_text : Bool → MachineNumbers → Figures → List ℕ
 keys_text rates numbers figures =
-    if rates || is_rounded numbers figures then file_text numbers figures
-    else written_text figures
+    if rates then file_text numbers figures else written_text figures
 
 abbrev pub WritesNumbers : Bool → Figures → Result MachineNumbers FigureRefusal → Option (List ℕ) →
     Option (List ℕ) → Notes → Type 0
 WritesNumbers rates figures (Ok numbers) old new notes =
     ((text : List ℕ) × IsMadeText (keys_text rates numbers figures) text × Appends old new text)
-    × (notes.is_written ≡ true) × (notes.text.items ≡ notes_text numbers figures)
+    × (notes.is_written ≡ true) × (notes.text.items ≡ notes_text rates numbers figures)
 WritesNumbers rates figures (Err refusal) old new notes = ReportsRefusal refusal old new notes
 
 abbrev pub MakesFile : Bool → Result Figures FigureRefusal → Option (List ℕ) → Option (List ℕ) →

@@ -21,7 +21,7 @@ use ngc_command_line::MachineOptions;
 use ngc_file_figures::FileFigures;
 use ngc_inputs::{AnswerFault, Files, bytes_of};
 use ngc_machine_maker::{
-    Choices, FigureRefusal, Figures, MachineNumbers, Options, is_rounded, numbers_of, read_grbl,
+    Choices, FigureRefusal, Figures, MachineNumbers, Options, numbers_of, read_grbl,
     write_machine_file, write_notes, write_refusal,
 };
 use ngc_machine_writer::write_written_file;
@@ -130,8 +130,7 @@ fn refused(alloc: Global, refusal: FigureRefusal) -> Result<Notes, AnswerFault>
 }
 
 // Returns the keys of a machine file: figures with their units, or the rates of version 2, each with
-// its remark, if those are asked for or the motors have one step, which is no whole number of
-// nanometres.
+// its remark, if those are asked for.
 fn keys_text(
     alloc: Global,
     rates: bool,
@@ -144,7 +143,7 @@ fn keys_text(
     ensures fault { IfErr result (λ fault. fault ≡ AnswerFault.Memory) }
 {
     let mut keys = Device::new(Vec::new(alloc));
-    let written = if rates || is_rounded(numbers, figures) {
+    let written = if rates {
         write_machine_file(numbers, figures, &mut keys)
     } else {
         write_written_file(figures, &mut keys)
@@ -232,7 +231,7 @@ fn make<W: Sink>(
         Err(refusal) => return refused(alloc, refusal),
     };
     let mut told = Device::new(Vec::new(alloc));
-    if write_notes(&numbers, &figures, &mut told).is_err() {
+    if write_notes(options.rates, &numbers, &figures, &mut told).is_err() {
         return Err(AnswerFault::Memory);
     }
     let text = made_text(alloc, options.rates, &numbers, &figures)?;

@@ -2,7 +2,7 @@
 use Rattle.std.specs.Prelude.{ℕ, ℤ, pos, Bool, true, List, map, Option, Some, None}
 use Rattle.ngc_quantities.specs.declared.range.Place.{Place}
 use Rattle.ngc_quantities.specs.declared.range.Range.{Range}
-use Rattle.ngc_motor_scale.specs.declared.scale.MotorScale.{MotorScale}
+use Rattle.ngc_motors.specs.declared.step.MotorSteps.{MotorSteps}
 use Rattle.ngc_machine_figures.specs.declared.sheet.HeadSheet.{HeadSheet}
 use Rattle.ngc_machine_figures.specs.declared.sheet.Length.{Length}
 use Rattle.ngc_machine_figures.specs.declared.sheet.PlaceSheet.{PlaceSheet}
@@ -18,7 +18,7 @@ use Rattle.ngc_machine_files.specs.MachineText.{MachineValues}
 use Rattle.ngc_machine_maker.specs.declared.figures.PerAxis.{PerAxis}
 use Rattle.ngc_machine_maker.specs.declared.numbers.MachineNumbers as maker
 use Rattle.ngc_written_machines.specs.Corners.{coordinates, place_on_grid, fixture, stock}
-use Rattle.ngc_written_machines.specs.Motors.{steps_of, travel_ends}
+use Rattle.ngc_written_machines.specs.Motors.{travel_ends}
 
 abbrev pub or_zero : Option Length → ℤ
 or_zero None = pos 0
@@ -100,11 +100,11 @@ origin (Some place) = coordinates place
 
 -- what a machine file of version 2 has for a sheet, with the step and the rates of its figures, and
 -- with the step of each axis' motor
-abbrev pub values_by : SheetValues → PerAxis MotorScale → maker.MachineNumbers → MachineValues
+abbrev pub values_by : SheetValues → MotorSteps → maker.MachineNumbers → MachineValues
 values_by s own rates = record {
   numbers = numbers s.head rates;
   options = options s;
-  motor_steps = steps_of own;
+  motor_steps = own;
   axis_rates = axis_rates rates.axis_rate;
   points = points rates.step (travel_ends rates.step own s.head.axes) s.head.places;
   origins = map origin s.head.origins;

@@ -2,7 +2,6 @@
 use Rattle.std.specs.Prelude.{ℕ, ◌*◌, ◌/◌, ◌==◌, min, max, ◌-ℤ◌, int_lt, unsigned_abs}
 use Rattle.std.specs.Prelude.{Bool, true, false, Option, Some, None, if◌then◌else◌}
 use Rattle.ngc_quantities.specs.declared.range.Range.{Range}
-use Rattle.ngc_motor_scale.specs.declared.scale.MotorScale.{MotorScale}
 use Rattle.ngc_machine_figures.specs.declared.sheet.Acceleration as written_acceleration
 use Rattle.ngc_machine_figures.specs.declared.sheet.AxesSheet.{AxesSheet}
 use Rattle.ngc_machine_figures.specs.declared.sheet.ControlSheet.{ControlSheet}
@@ -97,11 +96,11 @@ no_length = record { nanometres = 0 }
 abbrev pub no_steps : StepsPerMillimetre
 no_steps = record { millionths = 0 }
 
--- only the rates of these figures count, which are on the grid of the finest motor: the motors have no
+-- only the rates of these figures count, which are in steps of the path's grid: the motors have no
 -- steps, and the machine starts at the low end of each travel
-abbrev pub figures_of : HeadSheet → MotorScale → Figures
-figures_of h scale = record {
-  scale = record { steps = scale.steps; per = scale.per };
+abbrev pub figures_of : HeadSheet → ℕ → Figures
+figures_of h grid = record {
+  scale = record { steps = 1; per = grid };
   motors = record { x = no_steps; y = no_steps; z = no_steps };
   travel = travels h.axes;
   feed = feeds h.axes;

@@ -15,6 +15,5 @@ figure_fault _ = faults.Rates
 abbrev pub fault_of : WrittenRefusal → FileFault
 fault_of (refusals.Sheet refusal) = faults.Document
 fault_of (refusals.Motor axis refusal) = faults.Step
-fault_of (refusals.TravelError axis nanometres) = faults.Step
 fault_of (refusals.Figure refusal) = figure_fault refusal
 fault_of (refusals.Range fault) = fault

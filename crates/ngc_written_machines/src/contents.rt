@@ -8,14 +8,14 @@ ghost use Rattle.ngc_written_machines.specs.Corners.{fixture as fixture_of};
 ghost use Rattle.ngc_written_machines.specs.Motors.{AreScales};
 
 use crate::corners::{coordinates, fixture, place_on_grid, stock};
-use crate::motors::{steps_of, travel_ends};
+use crate::motors::travel_ends;
 use ngc_machine_figures::{FixtureSheet, HeadSheet, Length, PlaceSheet, Sheet};
 use ngc_machine_files::{
     Coordinates, Corners, MachineContents, MachineNumbers, MachineOptions, MachinePoints,
     OptionalNumbers, Rapids,
 };
 use ngc_machine_maker::{MachineNumbers as Rates, PerAxis};
-use ngc_motor_scale::MotorScale;
+use ngc_motors::MotorSteps;
 use ngc_quantities::{Place, Range};
 use std::alloc::{AllocError, Global};
 
@@ -188,7 +188,7 @@ fn fixtures(alloc: Global, sheets: &[FixtureSheet]) -> Result<Vec<Corners>, Allo
 pub(crate) fn contents_of(
     alloc: Global,
     sheet: &Sheet,
-    motors: &PerAxis<MotorScale>,
+    motors: &MotorSteps,
     rates: &Rates,
 ) -> Result<MachineContents, AllocError>
     requires motors { AreScales motors.now }
@@ -201,7 +201,7 @@ pub(crate) fn contents_of(
     Ok(MachineContents {
         numbers: numbers(&sheet.head, rates),
         options: options(sheet),
-        motor_steps: steps_of(motors),
+        motor_steps: *motors,
         axis_rates: axis_rates(&rates.axis_rate),
         points: points(rates.step, &travel, &sheet.head.places),
         origins: origins(&sheet.head.origins),

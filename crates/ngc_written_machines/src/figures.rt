@@ -8,12 +8,11 @@ use ngc_machine_figures::{
 use ngc_machine_maker::{
     Acceleration, Dump, End, Figures, Length, PerAxis, Ratio, Speed, StepsPerMillimetre,
 };
-use ngc_motor_scale::MotorScale;
 use ngc_quantities::Range;
 
-/// Returns the length of a range in nanometres: 0 if it ends below its beginning, and 2^32 - 1 if it
-/// is longer.
-pub(crate) fn travel_length(range: Range) -> u32
+// Returns the length of a range in nanometres: 0 if it ends below its beginning, and 2^32 - 1 if it
+// is longer.
+fn travel_length(range: Range) -> u32
     ensures { result ≡ spec.travel_length range }
 {
     if range.high < range.low {
@@ -140,17 +139,17 @@ fn turns_by_place(control: &ControlSheet) -> bool
     }
 }
 
-/// Returns the figures of a machine whose finest motor has this scale. Only their rates count: the
-/// motors have no steps, and the machine starts at the low end of each travel.
-pub(crate) fn figures_of(head: &HeadSheet, scale: &MotorScale) -> Figures
-    ensures { result ≡ spec.figures_of head.now scale.now }
+/// Returns the figures of a machine whose path has a grid of this step in nanometres. Only their rates
+/// count: the motors have no steps, and the machine starts at the low end of each travel.
+pub(crate) fn figures_of(head: &HeadSheet, grid: u32) -> Figures
+    ensures { result ≡ spec.figures_of head.now grid }
 {
     let start = Length { nanometres: 0 };
     let motor = StepsPerMillimetre { millionths: 0 };
     Figures {
         scale: Ratio {
-            steps: scale.steps,
-            per: scale.per,
+            steps: 1,
+            per: u64::from(grid),
         },
         motors: PerAxis {
             x: motor,

@@ -4,13 +4,13 @@ ghost use Rattle.toml.specs.View.{view};
 ghost use Rattle.ngc_machine_files.specs.Machine.{file_of};
 ghost use Rattle.ngc_machine_figures.specs.Files.{values_of as sheet_values};
 ghost use Rattle.ngc_machine_maker.specs.InFile.{AreInFile};
-ghost use Rattle.ngc_motor_scale.specs.Scales.{IsMotorScale};
+ghost use Rattle.ngc_motor_scale.specs.Scales.{IsScale};
 ghost use Rattle.ngc_written_machines.specs.Machines as spec;
 ghost use Rattle.ngc_written_machines.specs.Motors.{AreScales};
 ghost use Rattle.ngc_written_machines.specs.Written.{tree_figures, written_figures as figures_of_head};
 
 use crate::contents::contents_of;
-use crate::figures::{figures_of, travel_length};
+use crate::figures::figures_of;
 use crate::motors::grid_of;
 use crate::refusal::{WrittenFault, WrittenRefusal};
 use crate::written::written_figures;
@@ -19,8 +19,9 @@ use ngc_machine_figures::{
     AxesSheet, AxisName, AxisSheet, HeadSheet, Sheet, SheetFault, read_sheet,
 };
 use ngc_machine_files::{FileFault, Machine};
-use ngc_machine_maker::{MachineNumbers, PerAxis, numbers_of};
-use ngc_motor_scale::{MotorScale, scale_of};
+use ngc_machine_maker::{MachineNumbers, numbers_of};
+use ngc_motor_scale::scale_of;
+use ngc_motors::{MotorStep, MotorSteps};
 use std::alloc::Global;
 use toml::Value;
 
@@ -32,9 +33,9 @@ pub struct WrittenMachine {
     pub figures: Option<MachineFigures>,
 }
 
-fn motor_of(name: AxisName, axis: &AxisSheet) -> Result<MotorScale, WrittenRefusal>
+fn motor_of(name: AxisName, axis: &AxisSheet) -> Result<MotorStep, WrittenRefusal>
     ensures value { result ≡ spec.motor_of name axis.now }
-    ensures range { IfOk result IsMotorScale }
+    ensures range { IfOk result IsScale }
 {
     match scale_of(&axis.motor) {
         Ok(scale) => Ok(scale),
@@ -42,45 +43,26 @@ fn motor_of(name: AxisName, axis: &AxisSheet) -> Result<MotorScale, WrittenRefus
     }
 }
 
-// Returns an axis' motor. Refuses one whose step differs over the travel from whole nanometres by more
-// than a step.
-fn checked_axis(name: AxisName, axis: &AxisSheet) -> Result<MotorScale, WrittenRefusal>
-    ensures value { result ≡ spec.checked_axis name axis.now }
-    ensures range { IfOk result IsMotorScale }
-{
-    let scale = motor_of(name, axis)?;
-    let nanometres = scale.travel_error(u64::from(travel_length(axis.travel)));
-    if nanometres > u64::from(scale.step) {
-        return Err(WrittenRefusal::TravelError {
-            axis: name,
-            nanometres,
-        });
-    }
-    Ok(scale)
-}
-
 #[tactic(auto, unfolding(crate::specs::Machines::motors_of))]
-fn motors_of(axes: &AxesSheet) -> Result<PerAxis<MotorScale>, WrittenRefusal>
+fn motors_of(axes: &AxesSheet) -> Result<MotorSteps, WrittenRefusal>
     ensures value { result ≡ spec.motors_of axes.now }
     ensures range { IfOk result AreScales }
 {
-    Ok(PerAxis {
-        x: checked_axis(AxisName::X, &axes.x)?,
-        y: checked_axis(AxisName::Y, &axes.y)?,
-        z: checked_axis(AxisName::Z, &axes.z)?,
+    Ok(MotorSteps {
+        x: motor_of(AxisName::X, &axes.x)?,
+        y: motor_of(AxisName::Y, &axes.y)?,
+        z: motor_of(AxisName::Z, &axes.z)?,
     })
 }
 
 // Returns the step and the rates of what is written.
 #[tactic(auto, unfolding(crate::specs::Machines::rates_with))]
-fn rates_with(
-    head: &HeadSheet,
-    motors: &PerAxis<MotorScale>,
-) -> Result<MachineNumbers, WrittenRefusal>
+fn rates_with(head: &HeadSheet, motors: &MotorSteps) -> Result<MachineNumbers, WrittenRefusal>
+    requires { AreScales motors.now }
     ensures value { result ≡ spec.rates_with head.now motors.now }
     ensures range { IfOk result AreInFile }
 {
-    match numbers_of(&figures_of(head, &grid_of(motors))) {
+    match numbers_of(&figures_of(head, grid_of(motors))) {
         Ok(rates) => Ok(rates),
         Err(refusal) => Err(WrittenRefusal::Figure(refusal)),
     }

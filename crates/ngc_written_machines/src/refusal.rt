@@ -14,9 +14,6 @@ pub enum WrittenRefusal {
     Sheet(FileRefusal),
     /// An axis' motor has no step that a machine can have.
     Motor(AxisName, ScaleRefusal),
-    /// An axis' travel in steps of whole nanometres differs by this many nanometres, which are more
-    /// than a step.
-    TravelError { axis: AxisName, nanometres: u64 },
     /// A figure gives no rate.
     Figure(FigureRefusal),
     /// A number is out of its range.
@@ -49,7 +46,7 @@ impl WrittenRefusal {
     {
         match self {
             WrittenRefusal::Sheet(_) => FileFault::Document,
-            WrittenRefusal::Motor(..) | WrittenRefusal::TravelError { .. } => FileFault::Step,
+            WrittenRefusal::Motor(..) => FileFault::Step,
             WrittenRefusal::Figure(refusal) => figure_fault(refusal),
             WrittenRefusal::Range(fault) => fault,
         }

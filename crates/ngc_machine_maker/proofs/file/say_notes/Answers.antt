@@ -3,4 +3,4 @@ use Rattle.ngc_machine_maker.proofs.file.say_notes.Goals as goal
 
 pub returns : goal.returns
 returns g c =
-    then c.say_scale_after.ensures c.say_offset_after.ensures
+    then c.say_scale_note.ensures c.say_offset_after.ensures

@@ -7,7 +7,7 @@ use Rattle.ngc_machine_files.proofs.machine_contents.MachineContents.machine.Goa
 pub invariant_of-result : goal.invariant_of-result
 invariant_of-result c = record {
   step_in_range = rw c.step_length.ensures c.requires.step;
-  motors_in_range = rw (c.step_length.ensures, c.motor_steps.ensures) c.requires.motors;
+  motors_in_range = rw c.step_length.ensures c.requires.motors;
   ticks_in_range = c.rate.ensures.range;
   max_rate_in_range = c.rate-2.ensures.range;
   axis_rates_in_range = c.axis_rates.ensures.range;
@@ -39,7 +39,6 @@ returns c =
     let fixtures = c.in_ok-fixtures.ensures ∙ ap (map fixture_of) c.as_slice.ensures.value in
     rw (
       c.step_length.ensures,
-      c.motor_steps.ensures,
       ticks,
       max_rate,
       c.axis_rates.ensures.value,

@@ -9,7 +9,7 @@ returns-in-Some-2-clause-contents c =
     let rates = c.in-Some-machine_axis_rates in
     let points = c.in-Some-machine_points in
     let origins = c.in-Some-machine_origins in
-    rw c.equal_steps.ensures (
+    rw c.grid_steps.ensures (
     values_read (view c.args.tree.now) c.in-Some.numbers options.options rates.axis_rates points.points origins.origins c.in-Some-2.fixtures.items c.in-Some.ensures
     (search rules) options.ensures rates.ensures points.ensures origins.ensures (search rules))
 

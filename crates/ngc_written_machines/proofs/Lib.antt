@@ -1,0 +1,2 @@
+-- Steps in whole nanometres, rounded down.
+pub mod Steps
