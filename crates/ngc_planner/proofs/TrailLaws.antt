@@ -10,6 +10,7 @@ use Rattle.std.proofs.lemmas.Option.{slice_get_within, unwrap_or-slice_get}
 use Rattle.std.proofs.lemmas.Grind.{take_at_read}
 use Rattle.std.specs.List.{AllByRecursion}
 use Rattle.std.proofs.lemmas.Nat.{mul-le}
+use Rattle.std.proofs.Math.Numerals.{suc-eq-add-one}
 use Rattle.ngc_fixed_length.specs.Limits.{MILLION}
 use Rattle.ngc_fixed_length.specs.Grid.{distance}
 use Rattle.ngc_fixed_length.specs.declared.points.Point3.{Point3}
@@ -19,7 +20,7 @@ use Rattle.ngc_planner.specs.declared.trail.Block.{Block}
 use Rattle.ngc_planner.specs.declared.trail.Look.{Look}
 use Rattle.ngc_planner.specs.declared.trail.Mark.{Mark}
 use Rattle.ngc_planner.specs.Headings.{IsHeading, difference_of}
-use Rattle.ngc_planner.specs.Joints.{MayHead, heading_rate, rate_from, rate_from_all}
+use Rattle.ngc_planner.specs.Joints.{MayHead, heading_rate, rate_from, rate_from_all, joint_at, joint_before}
 use Rattle.ngc_planner.specs.Trail.{Passage, TrailData, JointsData, passage_with, passages, measured, trail_on, trail_before, joints_before, LiesBetween, length_along, IsBlock, Describes, passage_of, IsMark, IsTrail, IsSameRate, LONGEST}
 use Rattle.ngc_planner.specs.Window.{window_length, passing_heading, way_on, passed_with, passed_on, earlier}
 use Rattle.ngc_planner.proofs.WindowLaws.{rate_law, difference_small}
@@ -379,3 +380,11 @@ least_of_all r m e way ps none small = rw none (omega (arith, small))
 pub looked_past : (m : MachineFile) (e : Point3) (v way : ℕ) (ps : List Passage) (look : Look) → IsLookedBack m e v way ps look → length ps ≤ look.passed →
     look.rate ≡ min v (rate_from_all m e (measured way ps))
 looked_past m e v way ps look is all = sym (is.same ∙ least_of_all look.rate m e look.way (drop look.passed ps) (drop_all look.passed ps all) is.small)
+
+-- the joints after one more command: the bound of its joint, and the trail that it is on
+pub joints_more : (m : MachineFile) (commands : List Command) (k : ℕ) {entry : ℕ} {trail : TrailData} →
+    entry ≡ joint_at m commands k → trail ≡ trail_before m commands (k + 1) →
+    record { entry = entry; trail = trail } ≡ joints_before m commands (k + 1)
+joints_more m commands k {entry} {trail} bound followed =
+    let next : joint_at m commands k ≡ joint_before m commands (k + 1) = ap (λ n. joint_before m commands n) (suc-eq-add-one k) in
+    ap (λ e. record { entry = e; trail = trail }) (bound ∙ next) ∙ ap (λ t. record { entry = joint_before m commands (k + 1); trail = t }) followed
