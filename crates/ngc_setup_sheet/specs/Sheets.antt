@@ -77,18 +77,26 @@ from fact low high = lines.Fact fact (figures.Span (record { low = low; high = h
 abbrev pub axis_speed : MachineFile → ℕ → ℕ
 axis_speed m rate = millimetres_a_minute m (min m.max_rate rate)
 
-abbrev pub step_facts : MachineFile → Option MachineFigures → List Line
-step_facts m f =
-    lines.Machine ∷ lines.Fact facts.Step (figures.Length m.step)
-    ∷ lines.Fact facts.Steps (figures.PerMillimetre (steps_a_millimetre m)) ∷
-    lines.Fact facts.Ticks (figures.PerSecond m.ticks_per_second) ∷
-    lines.Fact facts.GreatestSpeed (figures.Speed (millimetres_a_minute m m.max_rate)) ∷
-    lines.Fact facts.CornerSpeed (speed_figure (corner_of f) (millimetres_a_minute m m.corner)) ∷ []
-
 abbrev pub have_one_step : MachineFile → Bool
 have_one_step m =
     is_grid_step m.step m.motor_steps.x && (is_grid_step m.step m.motor_steps.y
     && is_grid_step m.step m.motor_steps.z)
+
+-- what the grid's step and its number in a millimetre are called: those of the path, where a motor has
+-- another step
+abbrev pub step_fact : Bool → Fact
+step_fact one = if one then facts.Step else facts.PathStep
+
+abbrev pub steps_fact : Bool → Fact
+steps_fact one = if one then facts.Steps else facts.PathSteps
+
+abbrev pub step_facts : MachineFile → Option MachineFigures → List Line
+step_facts m f =
+    lines.Machine ∷ lines.Fact (step_fact (have_one_step m)) (figures.Length m.step)
+    ∷ lines.Fact (steps_fact (have_one_step m)) (figures.PerMillimetre (steps_a_millimetre m)) ∷
+    lines.Fact facts.Ticks (figures.PerSecond m.ticks_per_second) ∷
+    lines.Fact facts.GreatestSpeed (figures.Speed (millimetres_a_minute m m.max_rate)) ∷
+    lines.Fact facts.CornerSpeed (speed_figure (corner_of f) (millimetres_a_minute m m.corner)) ∷ []
 
 -- a step of whole nanometres is a length, and any other is said by the steps per millimetre
 abbrev pub motor_fact : Axis → MotorStep → Line

@@ -55,6 +55,8 @@ origin_text systems.Ninth = codes "  origin of G59.3       "
 unfoldable pub fact_text : Fact → List ℕ
 fact_text facts.Step = codes "  step                  "
 fact_text facts.Steps = codes "  steps                 "
+fact_text facts.PathStep = codes "  step of the path      "
+fact_text facts.PathSteps = codes "  steps of the path     "
 fact_text (facts.Motor axes.X) = codes "  step of X's motor     "
 fact_text (facts.Motor axes.Y) = codes "  step of Y's motor     "
 fact_text (facts.Motor axes.Z) = codes "  step of Z's motor     "

@@ -25,6 +25,9 @@ pub enum Fact {
     Step,
     /// The steps per millimetre.
     Steps,
+    /// The step of the path's grid, on a machine whose motors have others.
+    PathStep,
+    PathSteps,
     /// The step of the axis' motor.
     Motor(Axis),
     /// The steps per millimetre of the axis' motor.

@@ -7,7 +7,7 @@ ghost use Rattle.ngc_setup_sheet.specs.Reaches.{IsReach};
 ghost use Rattle.ngc_fixed_length.specs.declared.modes.System.TheVariants as systems;
 ghost use Rattle.ngc_setup_sheet.specs.declared.line.Figure.TheVariants as figures;
 ghost use Rattle.ngc_setup_sheet.specs.Sheets.{line_where, warned, from, axis_speed, step_facts};
-ghost use Rattle.ngc_setup_sheet.specs.Sheets.{have_one_step, motor_fact, motor_facts};
+ghost use Rattle.ngc_setup_sheet.specs.Sheets.{have_one_step, motor_fact, motor_facts, step_fact, steps_fact};
 ghost use Rattle.ngc_setup_sheet.specs.Sheets.{jump_facts, ring_facts, arc_feed_facts, changer_facts, is_free, margin_line, margin_facts, rate_facts, machine_places, corner_notes};
 ghost use Rattle.ngc_setup_sheet.specs.Sheets.{is_zero, origin_lines, next_system, origins_from};
 ghost use Rattle.ngc_setup_sheet.specs.Sheets.{machine_warnings, machine_lines, fixture_facts};
@@ -118,10 +118,23 @@ fn axis_speed<A: Allocator>(machine: &Machine<A>, rate: u32) -> u128
     millimetres_a_minute(machine, machine.max_rate.min(rate))
 }
 
+// Returns what the grid's step and its number in a millimetre are called: those of the path, where a
+// motor has another step.
+fn step_names(one: bool) -> (Fact, Fact)
+    ensures { result ≡ (step_fact one, steps_fact one) }
+{
+    if one {
+        (Fact::Step, Fact::Steps)
+    } else {
+        (Fact::PathStep, Fact::PathSteps)
+    }
+}
+
 fn step_facts<A: Allocator>(machine: &Machine<A>, written: &Option<MachineFigures>) -> [Line; 6]
     ensures { result ≡ step_facts (file_of machine.now) written.now }
 {
-    let steps = Figure::PerMillimetre(steps_a_millimetre(machine));
+    let (step, steps) = step_names(have_one_step(machine));
+    let a_millimetre = Figure::PerMillimetre(steps_a_millimetre(machine));
     let greatest = Figure::Speed(millimetres_a_minute(machine, machine.max_rate));
     let corner = speed_figure(
         corner_of(written),
@@ -129,8 +142,8 @@ fn step_facts<A: Allocator>(machine: &Machine<A>, written: &Option<MachineFigure
     );
     [
         Line::Machine,
-        Line::Fact(Fact::Step, Figure::Length(machine.step.nanometres())),
-        Line::Fact(Fact::Steps, steps),
+        Line::Fact(step, Figure::Length(machine.step.nanometres())),
+        Line::Fact(steps, a_millimetre),
         Line::Fact(Fact::Ticks, Figure::PerSecond(machine.ticks_per_second)),
         Line::Fact(Fact::GreatestSpeed, greatest),
         Line::Fact(Fact::CornerSpeed, corner),

@@ -84,6 +84,8 @@ fn fact(fact: &Fact) -> &'static [u8]
     match fact {
         Fact::Step => b"  step                  ",
         Fact::Steps => b"  steps                 ",
+        Fact::PathStep => b"  step of the path      ",
+        Fact::PathSteps => b"  steps of the path     ",
         Fact::Motor(Axis::X) => b"  step of X's motor     ",
         Fact::Motor(Axis::Y) => b"  step of Y's motor     ",
         Fact::Motor(Axis::Z) => b"  step of Z's motor     ",
