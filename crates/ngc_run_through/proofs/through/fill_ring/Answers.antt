@@ -1,5 +1,6 @@
-use Rattle.std.proofs.Common.{◌^◌, ap, length, arith, rules, refl, ◌∙◌}
+use Rattle.std.proofs.Common.{◌≡◌, ℕ, ◌^◌, ap, length, arith, rules, refl, subst, ◌∙◌}
 use Rattle.ngc_machine_model.specs.State.{Job}
+use Rattle.ngc_run_through.specs.Stretches.{GoesBy}
 use Rattle.ngc_run_through.proofs.UntouchedEvents.{none_yet, goes_both, breaks_later, few_behind}
 use Rattle.ngc_run_through.proofs.through.fill_ring.Goals as goal
 
@@ -34,3 +35,9 @@ loop-command-preserved g c = record {
 
 pub returns-in-Err-clause-fault : goal.returns-in-Err-clause-fault
 returns-in-Err-clause-fault g c = breaks_later _ _ _ _ _ _ _ _ _ _ c.loop-command.invariant.goes c.in-Err.ensures.fault
+
+pub returns-clause-goes : goal.returns-clause-goes
+returns-clause-goes g c =
+    let all : c.loop-command._command ≡ c.args.count = omega (arith, c.loop-command-test.false, c.loop-command.auto._command-end) in
+    subst (λ (n : ℕ). GoesBy n n 0 c.args.controller.now c.loop-command.controller c.args.recorder.now c.loop-command.recorder
+    (g.W.Sink.written c.args.sink.now) (g.W.Sink.written c.loop-command.sink)) all c.loop-command.invariant.goes

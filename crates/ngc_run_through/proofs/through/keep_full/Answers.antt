@@ -1,5 +1,6 @@
-use Rattle.std.proofs.Common.{◌+◌, ◌*◌, ◌^◌, ap, length, arith, rules, refl}
+use Rattle.std.proofs.Common.{◌≡◌, ℕ, ◌+◌, ◌*◌, ◌^◌, ap, length, arith, rules, refl, subst}
 use Rattle.ngc_machine_model.specs.State.{Job}
+use Rattle.ngc_run_through.specs.Stretches.{GoesBy}
 use Rattle.ngc_run_through.proofs.Policy.{full_ticks}
 use Rattle.ngc_run_through.proofs.UntouchedEvents.{none_yet, goes_both, breaks_later, few_behind}
 use Rattle.ngc_run_through.proofs.through.keep_full.Goals as goal
@@ -75,3 +76,9 @@ returns-in-Err-clause-fault g c = breaks_later _ _ _ _ _ _ _ _ _ _ c.loop-comman
 pub returns-in-Err-load_next-clause-fault : goal.returns-in-Err-load_next-clause-fault
 returns-in-Err-load_next-clause-fault g c =
     breaks_later _ _ _ _ _ _ _ _ _ _ c.loop-command.invariant.goes (breaks_later _ _ _ _ _ _ _ _ _ _ c.in-Ok.ensures.goes.goes c.in-Err-load_next.ensures.fault)
+
+pub returns-clause-goes : goal.returns-clause-goes
+returns-clause-goes g c =
+    let all : c.loop-command._command ≡ c.args.count = omega (arith, c.loop-command-test.false, c.loop-command.auto._command-end) in
+    subst (λ (n : ℕ). GoesBy (n * 2 ^ 103) n n c.args.controller.now c.loop-command.controller c.args.recorder.now c.loop-command.recorder
+    (g.W.Sink.written c.args.sink.now) (g.W.Sink.written c.loop-command.sink)) all c.loop-command.invariant.goes

@@ -1,10 +1,15 @@
-use Rattle.std.proofs.Common.{ap, ◌∙◌}
+use Rattle.std.proofs.Common.{ℕ, List, Option, Some, None, ap, refl, ◌∙◌}
+use Rattle.std.specs.Io.KnownBytes.{Keeps}
 use Rattle.ngc_machine_files.specs.Machine.{MachineFile, motors_of}
 use Rattle.ngc_machine_model.specs.State.{Job}
 use Rattle.ngc_run_through.proofs.RunResults.{safe_of, in_time_of, opens_of}
 use Rattle.ngc_run_through.proofs.WholeRun.{machine_of, end_of}
 use Rattle.ngc_run_through.proofs.ResultForms.{are_switches, trace_is, none_ticked, through_written, through_off}
 use Rattle.ngc_run_through.proofs.through.run_to_end_as.Goals as goal
+
+stays : (x : Option (List ℕ)) → Keeps x x
+stays None = tt
+stays (Some xs) = refl
 
 pub run_to_end-requires-clause-safe : goal.run_to_end-requires-clause-safe
 run_to_end-requires-clause-safe g c = safe_of c.args.accepted c.args.block_delete _ c.machine.ensures.accepted c.in-Ok-new.ensures.made.0
@@ -41,3 +46,6 @@ returns-clause-runs_to_end g c =
     (ap (λ (m : MachineFile). m.ticks_per_second) c.machine.ensures.value) c.counts-first.ensures
     (c.motors.ensures ∙ ap (λ (j : Job). motors_of j.machine) c.in-Ok-new.ensures.made.0) c.position.ensures c.in-Ok-new.ensures.made.1)
     c.in-Ok-new.ensures.made.0 c.in-Err-run_to_end.ensures.broken
+
+pub returns-in-Err-new-clause-runs_to_end : goal.returns-in-Err-new-clause-runs_to_end
+returns-in-Err-new-clause-runs_to_end g c = stays _
