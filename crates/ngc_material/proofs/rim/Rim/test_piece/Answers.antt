@@ -1,0 +1,14 @@
+use Rattle.std.proofs.Common.{subst}
+use Rattle.ngc_fixed_length.specs.declared.points.Point2.{Point2}
+use Rattle.ngc_material.specs.Rims.{AreChordsClear}
+use Rattle.ngc_material.proofs.Rims.{no_chords, one_chord}
+use Rattle.ngc_material.proofs.rim.Rim.test_piece.Goals as goal
+
+pub loop-index-init : goal.loop-index-init
+loop-index-init c = no_chords c.args.self.now.stock c.args.tool.now c.args.self.now.arc c.args.heights.now c.args.first
+
+pub loop-index-preserved : goal.loop-index-preserved
+loop-index-preserved c =
+    let w = c.args.self.now in
+    one_chord w.stock c.args.tool.now w.arc c.args.heights.now c.args.first c.loop-index.start c.at-end-in-loop-index.result c.loop-index.invariant
+    c.in_ok-test_chord.ensures.chord c.in_ok-test_chord.ensures.turns c.in_ok-test_chord.ensures.clear
