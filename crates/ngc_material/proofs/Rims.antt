@@ -1,5 +1,7 @@
 -- The parts of a tool along the chords of an arc, one chord after another.
-use Rattle.std.proofs.Common.{◌≡◌, ℕ, ◌+◌, ◌<◌, ◌≤◌, inl, inr, pos, ◌<ℤ◌, refl, sym, ◌∙◌, subst, arith, List, [], ◌∷◌, ◌++◌, length, Bool, true, false}
+use Rattle.std.specs.Prelude.{Result, Ok, Err, IfOk}
+use Rattle.std.specs.Int.{int_min}
+use Rattle.std.proofs.Common.{◌≡◌, ℕ, ◌+◌, ◌<◌, ◌≤◌, inl, inr, ℤ, pos, ◌+ℤ◌, ◌<ℤ◌, refl, sym, ◌∙◌, subst, arith, List, [], ◌∷◌, ◌++◌, length, false}
 use Rattle.std.proofs.lemmas.Bool.{cases_lt}
 use Rattle.ngc_fixed_length.specs.Places.{cross}
 use Rattle.ngc_fixed_length.specs.declared.points.Point2.{Point2}
@@ -7,14 +9,19 @@ use Rattle.ngc_fixed_length.specs.declared.points.Point3.{Point3}
 use Rattle.ngc_machine_files.specs.declared.tools.Tool.{Tool}
 use Rattle.ngc_arc_geometry.specs.Shape.{ArcShape}
 use Rattle.ngc_arc_geometry.specs.Sector.{is_full}
+use Rattle.ngc_stock.specs.declared.cylinder.Cylinder.{Cylinder}
 use Rattle.ngc_stock.specs.declared.stock.Stock.{Stock}
 use Rattle.ngc_stock.specs.Arcs.{IsChord, AreChords, AreAlong, first_end, last_end, low_at, opposite}
 use Rattle.ngc_stock.specs.Feeds.{IsAbove, AreAbove}
-use Rattle.ngc_stock.specs.Stocks.{sigma, lowest_part, from_part}
+use Rattle.ngc_stock.specs.Stocks.{sigma, tolerance, lowest_part, from_part, level_of}
 use Rattle.ngc_stock.specs.Walk.{AreClear}
 use Rattle.ngc_material.specs.Rims.{AreChordsClear}
 
 -- ---- chords
+
+pub same_low : (a : ArcShape) (d : Point2) (x y z : ℤ) → x ≡ a.centre.u +ℤ d.u → y ≡ a.centre.v +ℤ d.v → z ≡ int_min a.start.z a.end.z →
+    (let p : Point3 = record { x = x; y = y; z = z } in p) ≡ low_at a d
+same_low a d x y z h i j = rw (h, i, j) refl
 
 chords_more : (a : ArcShape) (room : ℕ) (P : Point3 → Point3 → Type 0) (d : Point2) (ms : List Point2) (e m : Point2) → AreChords a room P d ms e →
     IsChord a room e m → pos 0 <ℤ cross e m → P (low_at a e) (low_at a m) → AreChords a room P d (ms ++ m ∷ []) m
@@ -61,7 +68,18 @@ two_pieces s t a heights first half last e o f h i =
       last = y.1;
     }
 
+-- what holds of a test that went well, if something else does
+pub ok_then : (V E : Type 0) (r : Result V E) (P Q : Type 0) → (P → Q) → IfOk r (λ v. P) → IfOk r (λ v. Q)
+ok_then V E (Ok v) P Q f h = f h
+ok_then V E (Err e) P Q f h = tt
+
 -- ---- parts above the stock
+
+pub foot_above : (s : Stock) (x y : Cylinder) (a : ArcShape) (z : ℤ) (limit : ℕ) → x ≡ y → z ≡ int_min a.start.z a.end.z →
+    limit ≡ level_of s ((z +ℤ x.bottom) +ℤ pos (tolerance s.grid)) → s.height ≤ limit → IsAbove s y a
+foot_above s x y a z limit e f l h =
+    subst (λ (w : Cylinder). s.height ≤ level_of s ((int_min a.start.z a.end.z +ℤ w.bottom) +ℤ pos (tolerance s.grid))) e
+    (subst (λ (v : ℤ). s.height ≤ level_of s ((v +ℤ x.bottom) +ℤ pos (tolerance s.grid))) f (subst (λ (n : ℕ). s.height ≤ n) l h))
 
 -- one part more
 pub one_above : (s : Stock) (t u : Tool) (a : ArcShape) (part : ℕ) → part < length t.parts → (part < length t.parts → u ≡ from_part t part) → IsAbove s (lowest_part u) a →

@@ -258,10 +258,8 @@ fn low_part(stock: &Stock, tool: &Tool, arc: &Arc) -> Option<PartTouch>
         y: end.y,
         z: lower_end(arc),
     };
-    let line = Line {
-        start: low,
-        end: low,
-    };
+    let start = low;
+    let line = Line { start, end: low };
     let mut upper = above(tool);
     for part in 1..tool.parts.as_slice().len() {
         let probe = end_probe(stock, &lowest_part(&upper), &line, 0);

@@ -1,6 +1,3 @@
-use Rattle.std.proofs.Common.{subst}
-use Rattle.ngc_fixed_length.specs.declared.points.Point2.{Point2}
-use Rattle.ngc_material.specs.Rims.{AreChordsClear}
 use Rattle.ngc_material.proofs.Rims.{no_chords, one_chord}
 use Rattle.ngc_material.proofs.rim.Rim.test_piece.Goals as goal
 
@@ -10,5 +7,5 @@ loop-index-init c = no_chords c.args.self.now.stock c.args.tool.now c.args.self.
 pub loop-index-preserved : goal.loop-index-preserved
 loop-index-preserved c =
     let w = c.args.self.now in
-    one_chord w.stock c.args.tool.now w.arc c.args.heights.now c.args.first c.loop-index.start c.at-end-in-loop-index.result c.loop-index.invariant
-    c.in_ok-test_chord.ensures.chord c.in_ok-test_chord.ensures.turns c.in_ok-test_chord.ensures.clear
+    one_chord w.stock c.args.tool.now w.arc c.args.heights.now c.args.first c.loop-index.start c.at-end.result c.loop-index.invariant
+    c.in-Ok.ensures.chord c.in-Ok.ensures.turns c.in-Ok.ensures.clear
