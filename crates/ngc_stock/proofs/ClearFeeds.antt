@@ -18,7 +18,7 @@ use Rattle.ngc_arc_geometry.specs.Shape.{ArcShape}
 use Rattle.ngc_cells.specs.Grids.{IsGrid}
 use Rattle.ngc_stock.specs.declared.stock.Stock.{Stock}
 use Rattle.ngc_stock.specs.Arcs.{low_at, AreChords, AreAlong}
-use Rattle.ngc_stock.specs.Stocks.{IsInStock, sigma, lowest_part, from_part, natural_of, level_of}
+use Rattle.ngc_stock.specs.Stocks.{IsInStock, sigma, lowest_part, from_part, natural_of}
 use Rattle.ngc_stock.specs.Discs.{discs_in}
 use Rattle.ngc_stock.specs.Walk.{AreClear, IsCutIn, IsCutInAny, IsLeft, MeetNone, uncut}
 use Rattle.ngc_stock.specs.Feeds.{raised_foot, AreAbove, AreUnder, IsFeedClearOn, IsFeedClear, AreAfter, IsSafeFeedOn, IsSafeFeed, ClearFeed}
