@@ -8,6 +8,8 @@ pub mod Tips
 pub mod Deepest
 -- The parts of a tool, tested one after another from the lowest up.
 pub mod Uppers
+-- The parts of a tool along the chords of an arc, one chord after another.
+pub mod Rims
 -- No cell gets higher than the stock was.
 pub mod Within
 -- What a walk reports, command by command, and what that means.

@@ -1,6 +1,7 @@
 pub mod Heights
 pub mod Chords
 pub mod Touches
+pub mod Rims
 pub mod Walks
 pub mod Silences
 pub mod Cuts

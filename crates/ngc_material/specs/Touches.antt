@@ -1,15 +1,21 @@
--- Where a straight traverse may touch material, and how deep at most. A tip is the foot of a disc, or of a part
--- of a tool. Our own.
+-- Where a motion may touch material, and how deep at most. A tip is the foot of a disc, or of a part of a tool. Our
+-- own.
 use Rattle.std.specs.Prelude.{◌≡◌, ℕ, ◌+◌, ◌*◌, ◌-◌, ◌<◌, ◌≤◌, ◌⊎◌, pos, ◌+ℤ◌, List, [], ◌∷◌, length, slice_index, Option, Some, None, if◌then◌else◌, nat_lt}
+use Rattle.std.specs.Int.{int_min}
+use Rattle.ngc_fixed_length.specs.declared.modes.Plane.TheVariants.{XY}
+use Rattle.ngc_fixed_length.specs.declared.points.Point2.{Point2}
 use Rattle.ngc_fixed_length.specs.declared.points.Point3.{Point3}
 use Rattle.ngc_machine_files.specs.declared.tools.Tool.{Tool}
+use Rattle.ngc_arc_geometry.specs.Shape.{ArcShape}
 use Rattle.ngc_cells.specs.declared.grid.Grid.{Grid}
 use Rattle.ngc_cells.specs.declared.stretch.Stretch.{Stretch}
 use Rattle.ngc_cells.specs.Stretches.{IsNear}
 use Rattle.ngc_cells.specs.Grids.{centre}
 use Rattle.ngc_stock.specs.declared.cylinder.Cylinder.{Cylinder}
 use Rattle.ngc_stock.specs.declared.stock.Stock.{Stock}
-use Rattle.ngc_stock.specs.Stocks.{reduction, tolerance, radius, lowest_part, rise, pieces, piece, point_at, lowest_tip, level_of, from_part}
+use Rattle.ngc_stock.specs.Arcs.{IsChord, low_at}
+use Rattle.ngc_stock.specs.Feeds.{IsAbove}
+use Rattle.ngc_stock.specs.Stocks.{flat, reduction, sigma, tolerance, radius, lowest_part, rise, pieces, piece, point_at, lowest_tip, level_of, from_part}
 use Rattle.ngc_stock.specs.Walk.{IsClear, AreDiscsClear}
 use Rattle.ngc_material.specs.declared.touch.Touch.{Touch}
 
@@ -68,6 +74,26 @@ abbrev pub IsFirstTouch : Stock → List Cylinder → Tool → Point3 → Point3
 IsFirstTouch s ds t a b heights part touch =
     ((part ≡ 0) × IsDeepest s.grid (IsInWayOfAny s ds a b heights) touch)
     ⊎ (AreDiscsClear s ds a b heights × IsUpperTouch s t a b heights part touch)
+
+-- a part above the cutter may touch material along a chord of an arc, as low as the arc's lower end
+pub record IsChordTouch (s : Stock) (t : Tool) (a : ArcShape) (heights : List ℕ) (part : ℕ) (touch : Touch) : Type 0 where
+  pub start : Point2
+  pub end : Point2
+  pub is_chord : IsChord a (sigma s.grid) start end
+  pub upper : IsUpperTouch s t (low_at a start) (low_at a end) heights part touch
+
+-- the lowest part whose foot is below the stock's top at the arc's lower end. No chords that follow the arc are
+-- known, so the touch has the arc's end, and the depth below the top
+pub record IsLowPart (s : Stock) (t : Tool) (a : ArcShape) (part : ℕ) (touch : Touch) : Type 0 where
+  pub upper : 0 < part
+  pub within : part < length t.parts
+  pub lower : (p : ℕ) → 0 < p → p < part → IsAbove s (lowest_part (from_part t p)) a
+  pub low : ¬ (IsAbove s (lowest_part (from_part t part)) a)
+  pub place : touch.place ≡ flat a.end
+  pub depth : touch.depth ≡ s.height - level_of s (int_min a.start.z a.end.z +ℤ (lowest_part (from_part t part)).bottom)
+
+abbrev pub IsArcTouch : Stock → Tool → ArcShape → List ℕ → ℕ → Touch → Type 0
+IsArcTouch s t a heights part touch = (a.plane ≡ XY) × (IsChordTouch s t a heights part touch ⊎ IsLowPart s t a part touch)
 
 -- the deeper of two touches; of equal ones the first
 abbrev pub deeper : Option Touch → Option Touch → Option Touch

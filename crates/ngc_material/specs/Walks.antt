@@ -19,7 +19,7 @@ use Rattle.ngc_stock.specs.Changes.{tool_number}
 use Rattle.ngc_stock.specs.Discs.{discs_in}
 use Rattle.ngc_stock.specs.Feeds.{IsFeedClear}
 use Rattle.ngc_stock.specs.Walk.{IsStep, AreDiscsCut}
-use Rattle.ngc_material.specs.Touches.{IsFirstTouch, IsUpperTouch}
+use Rattle.ngc_material.specs.Touches.{IsArcTouch, IsFirstTouch, IsUpperTouch}
 use Rattle.ngc_material.specs.declared.touch.Touch.{Touch}
 use Rattle.ngc_material.specs.declared.walk.Found.{Found}
 
@@ -34,12 +34,13 @@ IsTouched s ds None action old new part touch = ⊥
 IsTouched s ds (Some t) (Move m) old new part touch = IsTouchedOn s ds t m.way m.pace old new part touch
 IsTouched s ds (Some t) _ old new part touch = ⊥
 
--- a straight feed with which this part, above the cutter, may touch material of these heights, which the
--- feed leaves
+-- a feed, straight or along an arc, with which this part, above the cutter, may touch material of these heights,
+-- which the feed leaves
 abbrev pub IsRubbedOn : Stock → Tool → Way → Pace → List ℕ → ℕ → Touch → Type 0
 IsRubbedOn s t (Line a b) (Feed f) heights part touch = IsUpperTouch s t a b heights part touch
 IsRubbedOn s t (Line a b) Rapid heights part touch = ⊥
-IsRubbedOn s t (Arc arc) pace heights part touch = ⊥
+IsRubbedOn s t (Arc arc) (Feed f) heights part touch = IsArcTouch s t arc heights part touch
+IsRubbedOn s t (Arc arc) Rapid heights part touch = ⊥
 
 abbrev pub IsRubbed : Stock → Option Tool → Action → List ℕ → ℕ → Touch → Type 0
 IsRubbed s None action heights part touch = ⊥

@@ -21,7 +21,7 @@ pub fn unreported()
 {}
 
 /// States that if a walk reports no feed, no part above the cutter, smaller by a margin and raised by a
-/// tolerance, meets along a straight feed material that the feeds up to this one, and the reported
+/// tolerance, meets along a straight feed, or along chords of an arc, material that the feeds up to this one, and the reported
 /// traverses before it, have left.
 pub fn clear_feeds()
     ensures { ClearFeeds }

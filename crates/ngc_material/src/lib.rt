@@ -16,6 +16,7 @@ mod line;
 mod material;
 mod mounted;
 mod reach;
+mod rim;
 mod spoke;
 mod sweep;
 mod touch;

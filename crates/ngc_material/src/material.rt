@@ -4,6 +4,7 @@ ghost use Rattle.ngc_material.specs.Heights.{AreHeights, AreWithin};
 use crate::cutting::cut_discs;
 use crate::depth::greatest_depth;
 use crate::line::Line;
+use crate::rim::arc_touch;
 use crate::sweep::cut_arcs;
 use crate::touch::{PartTouch, first_touch, upper_touch};
 use ngc_arc_geometry::Arc;
@@ -154,7 +155,7 @@ impl<A: Allocator> Material<A> {
     }
 
     /// Returns where a part of the mounted tool above the cutter may touch the material, if an action is
-    /// a straight feed. The material is that which the feed leaves.
+    /// a feed, straight or along an arc in the plane of X and Y. The material is that which the feed leaves.
     pub(crate) fn test(&self, tool: &Option<Tool>, action: &Action) -> Option<PartTouch>
         requires { IsTrue (is_action_reached action.now) }
         ensures none { IfNone result (IsFeedClear self.now.stock tool.now action.now self.now.heights.items) }
@@ -193,7 +194,7 @@ impl<A: Allocator> Material<A> {
                 let line = Line { start, end };
                 upper_touch(&self.stock, self.heights.as_slice(), tool, &line)
             }
-            Way::Arc(_) => None,
+            Way::Arc(arc) => arc_touch(&self.stock, self.heights.as_slice(), tool, arc),
         }
     }
 

@@ -5,7 +5,8 @@ ghost use Rattle.ngc_material.specs.Heights.{is_reached, is_way_reached, is_acti
 use ngc_commands::{Action, Command, Way};
 use ngc_fixed_length::Point3;
 
-fn is_reached(point: &Point3) -> bool
+/// Returns whether a point is within two metres of the machine's zero, in the plane.
+pub(crate) fn is_reached(point: &Point3) -> bool
     ensures { result ≡ is_reached point.now }
 {
     point.x.nanometres().unsigned_abs() <= 2_000_000_000

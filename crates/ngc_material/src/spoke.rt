@@ -69,8 +69,9 @@ fn scaled(coordinate: i64, length: u64, radius: u32) -> i64
 }
 
 impl Spoke {
-    ghost use Rattle.std.specs.Prelude.{◌≡◌, ◌≤◌, unsigned_abs, IfSome};
+    ghost use Rattle.std.specs.Prelude.{◌≡◌, ◌≤◌, unsigned_abs, IfSome, IsTrue};
     ghost use Rattle.ngc_fixed_length.specs.Places.{cross, dot, from};
+    ghost use Rattle.ngc_stock.specs.Arcs.{opposite};
     ghost use Rattle.ngc_material.specs.Chords.{leads, length_squared};
 
     /// Returns the vector from an arc's centre to a point, or `None` if the point is too far.
@@ -103,11 +104,20 @@ impl Spoke {
     }
 
     /// Returns the vector in the opposite direction.
-    pub(crate) fn opposite(&self) -> Spoke {
+    pub(crate) fn opposite(&self) -> Spoke
+        ensures { result ≡ opposite self.now }
+    {
         Spoke {
             u: -self.u,
             v: -self.v,
         }
+    }
+
+    /// Returns whether two spokes are the same.
+    pub(crate) fn is_at(&self, other: &Spoke) -> bool
+        ensures { IsTrue result → self.now ≡ other.now }
+    {
+        self.u == other.u && self.v == other.v
     }
 
     pub(crate) fn cross(&self, other: &Spoke) -> i128

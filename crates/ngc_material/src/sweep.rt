@@ -27,15 +27,47 @@ const COUNTS: [u32; 15] = [
 
 /// A piece of an arc, at most half a turn counterclockwise, and the radius of the points between.
 #[derive(Clone, Copy)]
-struct Piece {
+pub(crate) struct Piece {
     first: Spoke,
     last: Spoke,
     radius: u32,
 }
 
+/// Returns a band that is a little narrower, since the chords of an arc differ by roundings.
+pub(crate) fn narrower(band: &Band, room: u64) -> Band
+    requires least { band.now.least ≤ 2000020000 }
+    requires most { band.now.most ≤ 2400000000 }
+    requires room { room ≤ 300000000 }
+    ensures least { result.least ≤ 2400000000 }
+    ensures most { result.most ≤ 2400000000 }
+{
+    let spare = room / 8;
+    Band {
+        least: if band.least == 0 {
+            0
+        } else {
+            band.least + spare
+        },
+        most: band.most.saturating_sub(spare),
+    }
+}
+
 impl Piece {
+    /// Returns a piece in the middle of a band.
+    pub(crate) fn between(band: &Band, first: Spoke, last: Spoke) -> Piece
+        requires least { band.now.least ≤ 2000020000 }
+        requires most { band.now.most ≤ 2400000000 }
+    {
+        let radius = ((band.least + band.most) / 2) as u32;
+        Piece {
+            first,
+            last,
+            radius,
+        }
+    }
+
     /// Returns about the point where the parts before it are `index` of `count`, a power of two.
-    fn at(&self, count: u32, index: u32) -> Spoke {
+    pub(crate) fn at(&self, count: u32, index: u32) -> Spoke {
         if count <= index {
             return self.last;
         }
@@ -59,7 +91,7 @@ impl Piece {
     }
 
     /// Returns the least number of chords of which the first follows the arc, or 0 if there is none.
-    fn chords(&self, band: &Band, sector: &Sector) -> u32
+    pub(crate) fn chords(&self, band: &Band, sector: &Sector) -> u32
         requires least { band.now.least ≤ 2400000000 }
         requires most { band.now.most ≤ 2400000000 }
     {
@@ -114,7 +146,7 @@ fn is_over(grid: &Grid, centre: &Point2, radius: u64) -> bool {
 
 /// Returns how far the chords of an arc of these radii may be from its circles. With half of the room, a
 /// traverse along the arc, or from one of its points, isn't found. An uneven arc takes all.
-fn room(grid: &Grid, inner: u64, outer: u64) -> u64
+pub(crate) fn room(grid: &Grid, inner: u64, outer: u64) -> u64
     requires outer { outer ≤ 2000020000 }
     ensures bound { result ≤ sigma grid.now }
     ensures small { result ≤ 300000000 }
@@ -215,22 +247,8 @@ impl Sweep {
         requires { AreHeights self.now.stock heights.old }
         ensures { AreSomeCut self.now.stock self.now.cylinder self.now.arc heights.old heights.new }
     {
-        // A little less, since the other chords differ by roundings.
-        let spare = self.room / 8;
-        let band = Band {
-            least: if self.band.least == 0 {
-                0
-            } else {
-                self.band.least + spare
-            },
-            most: self.band.most.saturating_sub(spare),
-        };
-        let piece = Piece {
-            first,
-            last,
-            radius: ((self.band.least + self.band.most) / 2) as u32,
-        };
-        let count = piece.chords(&band, &self.sector);
+        let piece = Piece::between(&self.band, first, last);
+        let count = piece.chords(&narrower(&self.band, self.room), &self.sector);
         let mut start = first;
         for index in 0..count {
             let end = piece.at(count, index + 1);

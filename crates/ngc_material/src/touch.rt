@@ -121,7 +121,7 @@ pub(crate) fn tested_radius(grid: &Grid, cylinder: &Cylinder) -> Option<u32>
 }
 
 // Returns what is tested at the end of a traverse.
-fn end_probe(stock: &Stock, cylinder: &Cylinder, line: &Line, tested: u32) -> Probe
+pub(crate) fn end_probe(stock: &Stock, cylinder: &Cylinder, line: &Line, tested: u32) -> Probe
     ensures { result ≡ record {
       stretch = point_at line.now.end;
       radius = tested;

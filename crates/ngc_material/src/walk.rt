@@ -109,8 +109,8 @@ fn test<A: Allocator>(
 /// commands at a setting of block delete, from a state with the material uncut. A cutter is the discs of
 /// the shape that `table` says of its tool, or a flat one. A traverse is tested with each disc and each part
 /// above the cutter; if it is found, it then counts as a feed. A feed is tested with the parts above the
-/// cutter in the material that it leaves. An arc isn't tested, but cuts. Motions without a tool are left out.
-/// Of each tool the deepest straight feed is returned too, in the material before it.
+/// cutter in the material that it leaves, also along an arc in the plane of X and Y; another arc isn't tested.
+/// Motions without a tool are left out. Of each tool the deepest straight feed is returned too, in the material before it.
 ///
 /// It fails if memory is refused, or if the end of a motion is far from the machine's zero.
 pub fn find_touches<A: Allocator + Copy>(

@@ -2,6 +2,7 @@
 -- written, in words and as facts of a JSON document. Our own.
 use Rattle.std.specs.Prelude.{ℕ, ◌+◌, ◌-◌, ◌*◌, ◌/◌, ◌==◌, nat_lt, ◌-ℤ◌, unsigned_abs, List, [], ◌∷◌, ◌++◌, codes, decimal, length, take, slice_get, flat_map, Option, Some, None, if◌then◌else◌}
 use Rattle.ngc_text.specs.Millimetres.{sign_text, size_text}
+use Rattle.ngc_machine_files.specs.declared.parts.Part.{Part}
 use Rattle.ngc_machine_files.specs.declared.tools.Tool.{Tool}
 use Rattle.ngc_machine_files.specs.Tools.{tool_at}
 use Rattle.ngc_commands.specs.declared.command.Command.{Command}
@@ -47,18 +48,41 @@ motion_line kind f =
 unfoldable pub cutter_words : Found → List ℕ
 cutter_words f = codes "tool " ++ decimal f.tool
 
-unfoldable pub upper_words : Found → List ℕ
-upper_words f = codes "part " ++ decimal f.part ++ codes " of tool " ++ decimal f.tool ++ codes ", counted from 0,"
+-- the radius of a part of a tool, if there is this part
+abbrev pub part_radius : Option Part → Option ℕ
+part_radius None = None
+part_radius (Some p) = Some (unsigned_abs p.radius)
+
+abbrev pub radius_in : Option Tool → ℕ → Option ℕ
+radius_in None part = None
+radius_in (Some t) part = part_radius (slice_get t.parts part)
+
+abbrev pub found_radius : List Tool → Found → Option ℕ
+found_radius tools f = radius_in (tool_at tools f.tool) f.part
+
+unfoldable pub above_words : Found → List ℕ
+above_words f = codes "the shank or holder of tool " ++ decimal f.tool
+
+unfoldable pub wide_words : ℕ → List ℕ
+wide_words r = codes " (" ++ size_text (2 * r) ++ codes " mm wide)"
+
+abbrev pub width_words : Option ℕ → List ℕ
+width_words None = []
+width_words (Some r) = wide_words r
+
+-- which of the parts above the cutter is meant, its diameter says
+abbrev pub upper_words : List Tool → Found → List ℕ
+upper_words tools f = above_words f ++ width_words (found_radius tools f)
 
 -- the lowest part is the tool itself
-abbrev pub part_words : Found → List ℕ
-part_words f = if f.part == 0 then cutter_words f else upper_words f
+abbrev pub part_words : List Tool → Found → List ℕ
+part_words tools f = if f.part == 0 then cutter_words f else upper_words tools f
 
 unfoldable pub depth_words : Found → List ℕ
 depth_words f = codes " is at most " ++ size_text f.touch.depth ++ codes " mm deep at X "
 
-abbrev pub deep_words : Kind → Found → List ℕ
-deep_words kind f = motion_line kind f ++ (part_words f ++ depth_words f)
+abbrev pub deep_words : List Tool → Kind → Found → List ℕ
+deep_words tools kind f = motion_line kind f ++ (part_words tools f ++ depth_words f)
 
 -- from an origin to a place, in millimetres
 unfoldable pub place_words : Spot → Spot → List ℕ
@@ -66,8 +90,8 @@ place_words origin p =
     sign_text (p.x -ℤ origin.x) ++ size_text (unsigned_abs (p.x -ℤ origin.x)) ++ codes " mm, Y "
     ++ sign_text (p.y -ℤ origin.y) ++ size_text (unsigned_abs (p.y -ℤ origin.y)) ++ codes " mm.\n"
 
-unfoldable pub touch_words : Spot → Kind → Found → List ℕ
-touch_words origin kind f = deep_words kind f ++ place_words origin f.touch.place
+unfoldable pub touch_words : Spot → List Tool → Kind → Found → List ℕ
+touch_words origin tools kind f = deep_words tools kind f ++ place_words origin f.touch.place
 
 unfoldable pub kind_fact : Kind → List ℕ
 kind_fact kind = codes ",\n{\"fact\":\"material\",\"kind\":\"" ++ kind_words kind ++ codes "\",\"certain\":false,"
@@ -106,15 +130,15 @@ abbrev pub count_words : ℕ → Kind → List Found → List ℕ
 count_words most kind found = if nat_lt most (length found) then number_words kind found else []
 
 -- in words the first ones and their number, as facts all of them
-abbrev pub motions_text : Form → ℕ → Spot → Kind → List Found → List ℕ
-motions_text Words most origin kind found =
-    flat_map (touch_words origin kind) (take most found) ++ count_words most kind found
-motions_text Json most origin kind found = flat_map (touch_fact origin kind) found
+abbrev pub motions_text : Form → ℕ → Spot → List Tool → Kind → List Found → List ℕ
+motions_text Words most origin tools kind found =
+    flat_map (touch_words origin tools kind) (take most found) ++ count_words most kind found
+motions_text Json most origin tools kind found = flat_map (touch_fact origin kind) found
 
 -- the traverses and then the feeds
-abbrev pub touches_text : Form → ℕ → Spot → List Found → List Found → List ℕ
-touches_text form most origin found feeds =
-    motions_text form most origin Traverse found ++ motions_text form most origin Feed feeds
+abbrev pub touches_text : Form → ℕ → Spot → List Tool → List Found → List Found → List ℕ
+touches_text form most origin tools found feeds =
+    motions_text form most origin tools Traverse found ++ motions_text form most origin tools Feed feeds
 
 -- ---- a tool change below the stock's top
 

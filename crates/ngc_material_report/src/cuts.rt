@@ -14,8 +14,8 @@ use ngc_sentences::{Page, say};
 use ngc_stock::Cut;
 use ngc_text::{Sink, WriteFault};
 
-// Returns the tool of a number, or `None` if there is none.
-fn tool_at(tools: &[Tool], number: u32) -> Option<Tool>
+/// Returns the tool of a number, or `None` if there is none.
+pub(crate) fn tool_at(tools: &[Tool], number: u32) -> Option<Tool>
     ensures { result ≡ tool_at tools.now number }
 {
     tools.iter().find(|tool| tool.number == number).copied()

@@ -1,16 +1,19 @@
 //! How traverses and feeds that may touch material are said.
-ghost use Rattle.std.specs.Prelude.{◌≡◌, ◌-ℤ◌, unsigned_abs, decimal, length, OnOk, OnErr, take, flat_map};
+ghost use Rattle.std.specs.Prelude.{◌≡◌, ◌*◌, ◌-ℤ◌, unsigned_abs, decimal, length, OnOk, OnErr, slice_get, take, flat_map};
 ghost use Rattle.std.specs.Io.KnownBytes.{Appends};
 ghost use Rattle.ngc_text.specs.Failures.{CountsFailure};
 ghost use Rattle.ngc_text.specs.Millimetres.{sign_text, size_text};
 ghost use Rattle.ngc_text.specs.Written.{AppendsPrefix};
 ghost use Rattle.ngc_sentences.specs.Parts.{part_text};
 ghost use Rattle.ngc_sentences.specs.Saying.{Says};
-ghost use Rattle.ngc_material_report.specs.Sentences.{motion_words, kind_words, motion_line, cutter_words, upper_words, part_words, depth_words, deep_words, place_words, touch_words};
+ghost use Rattle.ngc_material_report.specs.Sentences.{motion_words, kind_words, motion_line, cutter_words, above_words, wide_words, width_words, upper_words, part_words};
+ghost use Rattle.ngc_material_report.specs.Sentences.{part_radius, found_radius, depth_words, deep_words, place_words, touch_words};
 ghost use Rattle.ngc_material_report.specs.Sentences.{kind_fact, depth_fact, place_fact, touch_fact, last_line, number_words, count_words, motions_text, touches_text};
 
+use crate::cuts::tool_at;
 use crate::parts::{index, number, say_command_fact};
 use ngc_cells::Spot;
+use ngc_machine_files::Tool;
 use ngc_material::Found;
 use ngc_report::Form;
 use ngc_sentences::{Page, Part, say};
@@ -99,21 +102,71 @@ fn say_cutter_words<W: Sink>(found: &Found, page: &mut Page, output: &mut W)
     say!(page, output; b"tool ", number(found.tool));
 }
 
-fn say_upper_words<W: Sink>(found: &Found, page: &mut Page, output: &mut W)
-    ensures { Says (W.written output.old) (W.written output.new)
-        (W.failures output.old) (W.failures output.new) page.old page.new (upper_words found.now) }
+// Returns the radius of a part of a tool, or `None` if the tool has no such part.
+fn part_radius(tool: &Tool, part: usize) -> Option<u64>
+    ensures { result ≡ part_radius (slice_get tool.now.parts part) }
 {
-    say!(page, output; b"part ", index(found.part), b" of tool ", number(found.tool), b", counted from 0,");
+    match tool.parts.as_slice().get(part) {
+        Some(part) => Some(part.radius.nanometres().unsigned_abs()),
+        None => None,
+    }
 }
 
-fn say_part_words<W: Sink>(found: &Found, page: &mut Page, output: &mut W)
+// Returns the radius of the part that is found, or `None` if no tool has its number.
+fn found_radius(tools: &[Tool], found: &Found) -> Option<u64>
+    ensures { result ≡ found_radius tools.now found.now }
+{
+    match tool_at(tools, found.tool) {
+        Some(tool) => part_radius(&tool, found.part),
+        None => None,
+    }
+}
+
+fn diameter(radius: u64) -> Part<'static>
+    ensures { part_text result ≡ size_text (2 * radius) }
+{
+    Part::Size(2 * u128::from(radius))
+}
+
+fn say_above_words<W: Sink>(found: &Found, page: &mut Page, output: &mut W)
     ensures { Says (W.written output.old) (W.written output.new)
-        (W.failures output.old) (W.failures output.new) page.old page.new (part_words found.now) }
+        (W.failures output.old) (W.failures output.new) page.old page.new (above_words found.now) }
+{
+    say!(page, output; b"the shank or holder of tool ", number(found.tool));
+}
+
+fn say_wide_words<W: Sink>(radius: u64, page: &mut Page, output: &mut W)
+    ensures { Says (W.written output.old) (W.written output.new)
+        (W.failures output.old) (W.failures output.new) page.old page.new (wide_words radius) }
+{
+    say!(page, output; b" (", diameter(radius), b" mm wide)");
+}
+
+fn say_width_words<W: Sink>(radius: Option<u64>, page: &mut Page, output: &mut W)
+    ensures { Says (W.written output.old) (W.written output.new)
+        (W.failures output.old) (W.failures output.new) page.old page.new (width_words radius) }
+{
+    if let Some(radius) = radius {
+        say_wide_words(radius, page, output);
+    }
+}
+
+fn say_upper_words<W: Sink>(tools: &[Tool], found: &Found, page: &mut Page, output: &mut W)
+    ensures { Says (W.written output.old) (W.written output.new)
+        (W.failures output.old) (W.failures output.new) page.old page.new (upper_words tools.now found.now) }
+{
+    say_above_words(found, page, output);
+    say_width_words(found_radius(tools, found), page, output);
+}
+
+fn say_part_words<W: Sink>(tools: &[Tool], found: &Found, page: &mut Page, output: &mut W)
+    ensures { Says (W.written output.old) (W.written output.new)
+        (W.failures output.old) (W.failures output.new) page.old page.new (part_words tools.now found.now) }
 {
     if found.part == 0 {
         say_cutter_words(found, page, output);
     } else {
-        say_upper_words(found, page, output);
+        say_upper_words(tools, found, page, output);
     }
 }
 
@@ -124,12 +177,18 @@ fn say_depth_words<W: Sink>(found: &Found, page: &mut Page, output: &mut W)
     say!(page, output; b" is at most ", size(found.touch.depth), b" mm deep at X ");
 }
 
-fn say_deep_words<W: Sink>(kind: Kind, found: &Found, page: &mut Page, output: &mut W)
+fn say_deep_words<W: Sink>(
+    tools: &[Tool],
+    kind: Kind,
+    found: &Found,
+    page: &mut Page,
+    output: &mut W,
+)
     ensures { Says (W.written output.old) (W.written output.new)
-        (W.failures output.old) (W.failures output.new) page.old page.new (deep_words kind found.now) }
+        (W.failures output.old) (W.failures output.new) page.old page.new (deep_words tools.now kind found.now) }
 {
     say_motion_line(kind, found, page, output);
-    say_part_words(found, page, output);
+    say_part_words(tools, found, page, output);
     say_depth_words(found, page, output);
 }
 
@@ -140,11 +199,18 @@ pub(crate) fn say_place_words<W: Sink>(origin: &Spot, place: &Spot, page: &mut P
     say!(page, output; signed(&origin.x, &place.x), millimetres(&origin.x, &place.x), b" mm, Y ", signed(&origin.y, &place.y), millimetres(&origin.y, &place.y), b" mm.\n");
 }
 
-fn say_words<W: Sink>(origin: &Spot, kind: Kind, found: &Found, page: &mut Page, output: &mut W)
+fn say_words<W: Sink>(
+    origin: &Spot,
+    tools: &[Tool],
+    kind: Kind,
+    found: &Found,
+    page: &mut Page,
+    output: &mut W,
+)
     ensures { Says (W.written output.old) (W.written output.new)
-        (W.failures output.old) (W.failures output.new) page.old page.new (touch_words origin.now kind found.now) }
+        (W.failures output.old) (W.failures output.new) page.old page.new (touch_words origin.now tools.now kind found.now) }
 {
-    say_deep_words(kind, found, page, output);
+    say_deep_words(tools, kind, found, page, output);
     say_place_words(origin, &found.touch.place, page, output);
 }
 
@@ -179,12 +245,19 @@ fn say_fact<W: Sink>(origin: &Spot, kind: Kind, found: &Found, page: &mut Page, 
     say_place_fact(origin, &found.touch.place, page, output);
 }
 
-fn say_all_words<W: Sink>(origin: &Spot, kind: Kind, all: &[Found], page: &mut Page, output: &mut W)
+fn say_all_words<W: Sink>(
+    origin: &Spot,
+    tools: &[Tool],
+    kind: Kind,
+    all: &[Found],
+    page: &mut Page,
+    output: &mut W,
+)
     ensures { Says (W.written output.old) (W.written output.new)
-        (W.failures output.old) (W.failures output.new) page.old page.new (flat_map (touch_words origin.now kind) all.now) }
+        (W.failures output.old) (W.failures output.new) page.old page.new (flat_map (touch_words origin.now tools.now kind) all.now) }
 {
     for found in all {
-        say_words(origin, kind, found, page, output);
+        say_words(origin, tools, kind, found, page, output);
     }
 }
 
@@ -238,17 +311,18 @@ fn say_motions<W: Sink>(
     form: Form,
     most: usize,
     origin: &Spot,
+    tools: &[Tool],
     kind: Kind,
     all: &[Found],
     page: &mut Page,
     output: &mut W,
 )
     ensures { Says (W.written output.old) (W.written output.new)
-        (W.failures output.old) (W.failures output.new) page.old page.new (motions_text form most origin.now kind all.now) }
+        (W.failures output.old) (W.failures output.new) page.old page.new (motions_text form most origin.now tools.now kind all.now) }
 {
     match form {
         Form::Words => {
-            say_all_words(origin, kind, first(most, all), page, output);
+            say_all_words(origin, tools, kind, first(most, all), page, output);
             say_count(most, kind, all, page, output);
         }
         Form::Json => say_all_facts(origin, kind, all, page, output),
@@ -257,7 +331,7 @@ fn say_motions<W: Sink>(
 
 /// Writes the traverses and the feeds that a walk has found: in words the first `most` of each, and their
 /// number if there are more; as facts all of them. Places count from `origin`, which is in nanometres of
-/// the machine.
+/// the machine. In words a part above the cutter is named by its diameter, as `tools` has it.
 ///
 /// The function allocates no memory. After a fault (902, only if the sink failed) a prefix of the
 /// text is written.
@@ -265,14 +339,15 @@ pub fn write_touches<W: Sink>(
     form: Form,
     most: usize,
     origin: &Spot,
+    tools: &[Tool],
     traverses: &[Found],
     feeds: &[Found],
     output: &mut W,
 ) -> Result<(), WriteFault>
     ensures ok { OnOk result (Appends (W.written output.old) (W.written output.new)
-        (touches_text form most origin.now traverses.now feeds.now)) }
+        (touches_text form most origin.now tools.now traverses.now feeds.now)) }
     ensures fault { OnErr result (AppendsPrefix (W.written output.old) (W.written output.new)
-        (touches_text form most origin.now traverses.now feeds.now)) }
+        (touches_text form most origin.now tools.now traverses.now feeds.now)) }
     ensures counts { CountsFailure (W.failures output.old) (W.failures output.new) result }
 {
     let mut page = Page::new();
@@ -280,11 +355,21 @@ pub fn write_touches<W: Sink>(
         form,
         most,
         origin,
+        tools,
         Kind::Traverse,
         traverses,
         &mut page,
         output,
     );
-    say_motions(form, most, origin, Kind::Feed, feeds, &mut page, output);
+    say_motions(
+        form,
+        most,
+        origin,
+        tools,
+        Kind::Feed,
+        feeds,
+        &mut page,
+        output,
+    );
     page.finish(output)
 }

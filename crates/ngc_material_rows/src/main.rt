@@ -192,7 +192,7 @@ impl Program {
         let table: &[ToolLimits] = if self.has_shapes { &shapes } else { &[] };
         match find_touches(alloc, &stock, table, &start, self.commands.as_slice()) {
             Ok(touches) => {
-                match write_found(&origin_of(self.stock), &touches, output) {
+                match write_found(alloc, &origin_of(self.stock), &touches, output) {
                     Ok(()) => self.write_depths(alloc, &touches, output),
                     Err(fault) => Err(fault),
                 }
@@ -232,6 +232,7 @@ fn end_line<W: Sink>(outcome: Result<(), WriteFault>, output: &mut W) -> Result<
 }
 
 fn write_found<W: Sink>(
+    alloc: Global,
     origin: &Spot,
     touches: &Touches<Global>,
     output: &mut W,
@@ -240,9 +241,13 @@ fn write_found<W: Sink>(
     if found.is_empty() && feeds.is_empty() {
         return Ok(());
     }
-    match write_touches(Form::Words, 2, origin, found, feeds, output) {
+    let Some(table) = tools(alloc) else {
+        return write_all(output, b"  no memory\n");
+    };
+    let tools = table.tools();
+    match write_touches(Form::Words, 2, origin, tools, found, feeds, output) {
         Ok(()) => end_line(
-            write_touches(Form::Json, 2, origin, found, feeds, output),
+            write_touches(Form::Json, 2, origin, tools, found, feeds, output),
             output,
         ),
         Err(fault) => Err(fault),

@@ -90,7 +90,7 @@ rest_text form m tools commands w =
 
 abbrev pub walk_text : Form → MachineFile → List Tool → List Command → WalkData → List ℕ
 walk_text form m tools commands w =
-    touches_text form MOST_LINES (block_origin m m.stock) w.found w.feeds
+    touches_text form MOST_LINES (block_origin m m.stock) tools w.found w.feeds
     ++ (arcs_line form commands (found_or w.found w.feeds) ++ rest_text form m tools commands w)
 
 -- the motions that may touch material, the tool changes in it, the feeds below it, how deep feeds cut, and

@@ -8,7 +8,7 @@ pub fn silent_report()
     ensures { SilentReport }
 {}
 
-/// States that if it finds no feed, no part above the cutter meets along a straight feed material that
+/// States that if it finds no feed, no part above the cutter meets along a straight feed or chords of an arc what
 /// the feeds up to this one, and the reported traverses before it, have left.
 pub fn silent_feeds()
     ensures { SilentFeeds }

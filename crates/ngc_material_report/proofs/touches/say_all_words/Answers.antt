@@ -8,8 +8,8 @@ loop-found-init g c = no_text _ _ _
 
 pub loop-found-preserved : goal.loop-found-preserved
 loop-found-preserved g c =
-    one_more (touch_words c.args.origin.now c.args.kind) c.args.all.now c.loop-found.found-index _ c.loop-found-test.true
+    one_more (touch_words c.args.origin.now c.args.tools.now c.args.kind) c.args.all.now c.loop-found.found-index _ c.loop-found-test.true
     (get_or_default c.args.all.now c.loop-found.found-index _ _ c.loop-found-test.true) c.loop-found.invariant c.say_words.ensures
 
 pub returns : goal.returns
-returns g c = all_said (touch_words c.args.origin.now c.args.kind) c.args.all.now c.loop-found.found-index c.loop-found-test.false c.loop-found.invariant
+returns g c = all_said (touch_words c.args.origin.now c.args.tools.now c.args.kind) c.args.all.now c.loop-found.found-index c.loop-found-test.false c.loop-found.invariant
