@@ -9,7 +9,7 @@ ghost use Rattle.ngc_machine_mistakes.specs.Mistakes as spec;
 ghost use Rattle.ngc_written_machines.specs.Machines.{written_machine as machine_of};
 
 use crate::sentence::say_figures;
-use ngc_machine_figures::is_written;
+use ngc_machine_figures::{FileRefusal, Key, Wrong, is_written};
 use ngc_machine_files::{FileFault, read_tree};
 use ngc_refused_files::write_refusal;
 use ngc_sentences::{Page, Part, say};
@@ -90,6 +90,36 @@ fn write_third<W: Sink>(
     }
 }
 
+// Returns whether a file has the tables of the axes, which only version 3 has, and no version.
+#[tactic(auto, unfolding(crate::specs::Mistakes::forgets_version))]
+fn forgets_version(tree: &Value) -> bool
+    ensures { result ≡ spec.forgets_version (view tree.now) }
+{
+    tree.get("version").is_none() && tree.get("axis").is_some()
+}
+
+// Returns that the version is missing.
+#[tactic(auto, unfolding(crate::specs::Mistakes::forgotten))]
+fn forgotten() -> FileRefusal
+    ensures { result ≡ spec.forgotten }
+{
+    FileRefusal {
+        key: Key::Version,
+        wrong: Wrong::Missing,
+    }
+}
+
+fn write_forgotten<W: Sink>(name: &[u8], bytes: &[u8], sink: &mut W) -> Result<(), WriteFault>
+    ensures ok { OnOk result (Appends (W.written sink.old) (W.written sink.new)
+        (spec.forgotten_text name.now bytes.now)) }
+    ensures fault { OnErr result (AppendsPrefix (W.written sink.old) (W.written sink.new)
+        (spec.forgotten_text name.now bytes.now)) }
+    ensures counts { CountsFailure (W.failures sink.old) (W.failures sink.new) result }
+{
+    let refusal = forgotten();
+    write_refusal(name, bytes, &refusal, sink)
+}
+
 // Writes the mistake of a file that is a document.
 fn write_in_tree<W: Sink>(
     alloc: Global,
@@ -108,6 +138,8 @@ fn write_in_tree<W: Sink>(
 {
     if is_written(tree) {
         write_third(alloc, name, bytes, tree, sink)
+    } else if forgets_version(tree) {
+        write_forgotten(name, bytes, sink)
     } else {
         write_machine_mistake(alloc, bytes, fault, sink)
     }
@@ -135,7 +167,8 @@ fn write_by_tree<W: Sink>(
 }
 
 /// Writes the first mistake of a machine file that is refused with this fault. In a file of version 3
-/// it begins with the file's name and the line.
+/// it begins with the file's name and the line. A file with the tables of version 3 and without a
+/// version lacks `version = 3`.
 ///
 /// If memory is refused, nothing is written. After a fault (902) a prefix of the text is written,
 /// and the sink has counted the failure.

@@ -1,2 +1,4 @@
 -- Lines that are too long to be shown.
 pub mod Unshown
+-- How long the name of an unknown table is.
+pub mod Names

@@ -1,4 +1,5 @@
 pub mod Places
 pub mod Examples
 pub mod Sentences
+pub mod Headers
 pub mod Refusals

@@ -12,8 +12,11 @@ use Rattle.ngc_machine_figures.specs.declared.key_word.KeyWord.{KeyWord}
 use Rattle.ngc_machine_figures.specs.declared.refusal.FileRefusal.{FileRefusal}
 use Rattle.ngc_machine_figures.specs.declared.refusal.Wrong.{Wrong}
 use Rattle.ngc_machine_figures.specs.declared.refusal.Wrong.TheVariants as wrongs
+use Rattle.ngc_refused_files.specs.Headers.{header_of}
 use Rattle.ngc_refused_files.specs.Places.{table_with, table_of, header_text, headers, place_text, line_word}
 use Rattle.ngc_refused_files.specs.Sentences.{wrong_text}
+use Rattle.ngc_refused_files.specs.declared.header.Brackets.{Brackets}
+use Rattle.ngc_refused_files.specs.declared.header.Brackets.TheVariants.{Double, Single, Inner, Axis}
 use Rattle.ngc_refused_files.specs.declared.place.Section.{Section}
 use Rattle.ngc_refused_files.specs.declared.place.Section.TheVariants as sections
 
@@ -22,9 +25,34 @@ use Rattle.ngc_refused_files.specs.declared.place.Section.TheVariants as section
 abbrev pub line_in : List ℕ → Section → List ℕ → Option (ℕ × List ℕ)
 line_in bytes section key = key_line (header_text section) (headers section) key bytes
 
--- the line of an unknown key of a table
+-- the first line with a header around a name
+abbrev pub header_line : List ℕ → Brackets → KeyWord → Option (ℕ × List ℕ)
+header_line bytes brackets name = key_line (header_of brackets (bytes_of name)) 1 [] bytes
+
+abbrev pub or_line : Option (ℕ × List ℕ) → Option (ℕ × List ℕ) → Option (ℕ × List ℕ)
+or_line (Some line) next = Some line
+or_line None next = next
+
+abbrev pub single_line : List ℕ → KeyWord → Option (ℕ × List ℕ)
+single_line bytes name = or_line (header_line bytes Single name) (header_line bytes Inner name)
+
+-- the header of an unknown table
+abbrev pub table_line : List ℕ → KeyWord → Option (ℕ × List ℕ)
+table_line bytes name = or_line (header_line bytes Double name) (single_line bytes name)
+
+-- an unknown key before all tables, or an unknown table
+abbrev pub top_line : List ℕ → KeyWord → Option (ℕ × List ℕ)
+top_line bytes word = or_line (line_in bytes sections.Top (bytes_of word)) (table_line bytes word)
+
+-- an axis that isn't known
+abbrev pub axis_line : List ℕ → KeyWord → Option (ℕ × List ℕ)
+axis_line bytes word = or_line (line_in bytes sections.Axes (bytes_of word)) (header_line bytes Axis word)
+
+-- the line of an unknown key of a table, or the header of the table that it is itself
 abbrev pub unknown_in : List ℕ → Key → KeyWord → Section → Option (ℕ × List ℕ)
 unknown_in bytes table word (sections.Part n part) = line_in bytes (sections.Part n part) (line_word table)
+unknown_in bytes table word sections.Top = top_line bytes word
+unknown_in bytes table word sections.Axes = axis_line bytes word
 unknown_in bytes table word section = line_in bytes section (bytes_of word)
 
 abbrev pub unknown_line : List ℕ → Key → KeyWord → Option (ℕ × List ℕ)

@@ -8,6 +8,7 @@
 #![tactic(auto)]
 
 mod example;
+mod header;
 mod lines;
 mod place;
 mod refusal;

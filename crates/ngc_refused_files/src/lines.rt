@@ -5,6 +5,7 @@ ghost use Rattle.ngc_file_lines.specs.Search.{numbered};
 ghost use Rattle.ngc_file_lines.specs.Values.{placed};
 ghost use Rattle.ngc_refused_files.specs.Refusals as spec;
 
+use crate::header::{Brackets, Header};
 use crate::place::{Section, line_word, table_of, table_with};
 use ngc_file_lines::{FileLine, Value, key_line, token, value_in};
 use ngc_machine_figures::{Key, KeyWord, Wrong};
@@ -15,7 +16,54 @@ fn line_in<'a>(bytes: &'a [u8], section: Section, key: &[u8]) -> Option<FileLine
     key_line(bytes, section.header(), section.headers(), key)
 }
 
-// Returns the line of an unknown key of a table.
+// Returns the first line with a header around a name.
+fn header_line<'a>(bytes: &'a [u8], brackets: Brackets, name: &KeyWord) -> Option<FileLine<'a>>
+    ensures { option_map numbered result ≡ spec.header_line bytes.now brackets name.now }
+{
+    let header = Header::of(brackets, name);
+    key_line(bytes, header.as_slice(), 1, b"")
+}
+
+fn single_line<'a>(bytes: &'a [u8], name: &KeyWord) -> Option<FileLine<'a>>
+    ensures { option_map numbered result ≡ spec.single_line bytes.now name.now }
+{
+    match header_line(bytes, Brackets::Single, name) {
+        Some(line) => Some(line),
+        None => header_line(bytes, Brackets::Inner, name),
+    }
+}
+
+// Returns the header of an unknown table.
+fn table_line<'a>(bytes: &'a [u8], name: &KeyWord) -> Option<FileLine<'a>>
+    ensures { option_map numbered result ≡ spec.table_line bytes.now name.now }
+{
+    match header_line(bytes, Brackets::Double, name) {
+        Some(line) => Some(line),
+        None => single_line(bytes, name),
+    }
+}
+
+// Returns the line of an unknown key before all tables, or the header of an unknown table.
+fn top_line<'a>(bytes: &'a [u8], word: &KeyWord) -> Option<FileLine<'a>>
+    ensures { option_map numbered result ≡ spec.top_line bytes.now word.now }
+{
+    match line_in(bytes, Section::Top, word.as_bytes()) {
+        Some(line) => Some(line),
+        None => table_line(bytes, word),
+    }
+}
+
+// Returns the line of an axis that isn't known, or the header of its table.
+fn axis_line<'a>(bytes: &'a [u8], word: &KeyWord) -> Option<FileLine<'a>>
+    ensures { option_map numbered result ≡ spec.axis_line bytes.now word.now }
+{
+    match line_in(bytes, Section::Axes, word.as_bytes()) {
+        Some(line) => Some(line),
+        None => header_line(bytes, Brackets::Axis, word),
+    }
+}
+
+// Returns the line of an unknown key of a table, or the header of the table that it is itself.
 fn unknown_line<'a>(bytes: &'a [u8], table: Key, word: &KeyWord) -> Option<FileLine<'a>>
     ensures { option_map numbered result ≡ spec.unknown_line bytes.now table word.now }
 {
@@ -23,6 +71,8 @@ fn unknown_line<'a>(bytes: &'a [u8], table: Key, word: &KeyWord) -> Option<FileL
         Section::Part { tool, part } => {
             line_in(bytes, Section::Part { tool, part }, line_word(table))
         }
+        Section::Top => top_line(bytes, word),
+        Section::Axes => axis_line(bytes, word),
         section => line_in(bytes, section, word.as_bytes()),
     }
 }
