@@ -122,7 +122,8 @@ fn is_in_force<A: Allocator + Copy>(frame: &Frame, interpreter: &DialectInterpre
 }
 
 /// Adds the change of the frame that a line made, if it made one. `command` is the number of commands
-/// that were executed before the line. `recorded` is the frame then, and becomes the frame in force.
+/// that were executed before the line. `recorded` has the parts of the frame then, and afterwards those
+/// of the frame in force.
 pub(crate) fn add_change<A: Allocator + Copy>(
     changes: &mut Vec<FrameChange, A>,
     interpreter: &DialectInterpreter<A>,

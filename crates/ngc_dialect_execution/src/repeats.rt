@@ -106,8 +106,7 @@ fn turning_in<A: Allocator + Copy>(
 }
 
 // Returns whether a line may have turns: cutter compensation is off, and its P names a number of
-// turns. Where it hasn't, no turns are looked for: an `Option<Turning>` alone costs a hundred
-// instructions.
+// turns. Other lines make no `Option<Turning>`, which takes longer than the rest of this test.
 fn may_turn<A: Allocator + Copy>(interpreter: &WordInterpreter<A>, words: &[Word]) -> bool
     ensures { result ≡ false → spec.turning_in words.now (between_of interpreter.now) ≡ None }
 {
