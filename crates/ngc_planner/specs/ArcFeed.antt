@@ -125,7 +125,7 @@ turn_at m _ p = MILLION
 -- caps, so that no place has less than `target_at`
 abbrev pub target_on : MachineFile → Action → ℕ → ℕ → StepPos → ℕ
 target_on machine action n percent p =
-    aimed_at machine action (max (cap_of action n machine) (cap_at machine action n p))
+    aimed_at machine action n (max (cap_of action n machine) (cap_at machine action n p))
     (turn_at machine action p) percent
 
 -- ---- whether it depends on the place

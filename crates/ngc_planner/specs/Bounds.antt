@@ -14,7 +14,7 @@ use Rattle.ngc_commands.specs.declared.command.Command.{Command}
 use Rattle.ngc_commands.specs.declared.movement.Motion.{Motion}
 use Rattle.ngc_commands.specs.declared.movement.Way.{Way}
 use Rattle.ngc_commands.specs.declared.movement.Way.TheVariants.{Line, Arc}
-use Rattle.ngc_planner.specs.Axes.{MayMoveAxes, axes_bound}
+use Rattle.ngc_planner.specs.Components.{MayMoveAxes, axes_bound, change_of}
 use Rattle.ngc_fixed_length.specs.Limits.{MILLION}
 use Rattle.ngc_planner.specs.Caps.{cap_of}
 use Rattle.ngc_planner.specs.Joints.{joint_at, joint_before}
@@ -32,7 +32,7 @@ MayTurn machine _ v = Unit {0}
 -- the rates of a tick that travels on a motion of n path steps
 pub record IsWithinBounds (machine : MachineFile) (action : Action) (n v : ℕ) : Type 0 where
   pub greatest : v ≤ machine.max_rate
-  pub axes : MayMoveAxes machine action v
+  pub axes : MayMoveAxes machine action n v
   pub feed : v ≤ 2 * cap_of action n machine
   pub turns : MayTurn machine action v
 
@@ -48,22 +48,23 @@ abbrev pub turn_bound : MachineFile → Action → ℕ
 turn_bound machine (Move m) = turn_rate machine m.way
 turn_bound machine _ = MILLION
 
--- the machine's greatest rate on the axes that a motion may move
-abbrev pub greatest_rate : MachineFile → Action → ℕ
-greatest_rate machine action = min machine.max_rate (axes_bound machine action)
+-- the machine's greatest rate on the axes that a motion of n path steps may move
+abbrev pub greatest_rate : MachineFile → Action → ℕ → ℕ
+greatest_rate machine action n = min machine.max_rate (axes_bound machine action n)
 
 abbrev pub bound_of : MachineFile → Action → ℕ → ℕ
-bound_of machine action n = min (min (greatest_rate machine action) (2 * cap_of action n machine))
+bound_of machine action n = min (min (greatest_rate machine action n) (2 * cap_of action n machine))
     (turn_bound machine action)
 
 -- a cap under an override in percent, at least 1 unless the override is 0
 abbrev pub overridden : ℕ → ℕ → ℕ
 overridden cap percent = if percent == 0 then 0 else max 1 (cap * percent / 100)
 
--- the target rate of a tick of a motion, from a cap and the greatest rate that its turn allows
-abbrev pub aimed_at : MachineFile → Action → ℕ → ℕ → ℕ → ℕ
-aimed_at machine action cap turn percent =
-    min (min (overridden cap percent) (greatest_rate machine action)) turn
+-- the target rate of a tick of a motion of n path steps, from a cap and the greatest rate that its
+-- turn allows
+abbrev pub aimed_at : MachineFile → Action → ℕ → ℕ → ℕ → ℕ → ℕ
+aimed_at machine action n cap turn percent =
+    min (min (overridden cap percent) (greatest_rate machine action n)) turn
 
 -- the machine's turn holds at each place of an arc, and not only where it runs along an axis
 abbrev pub is_turn_by_place : ArcFeed → Bool
@@ -90,12 +91,12 @@ steady_turn machine _ = MILLION
 -- from the cap of a motion of n path steps
 abbrev pub target_at : MachineFile → Action → ℕ → ℕ → ℕ
 target_at machine action n percent =
-    aimed_at machine action (cap_of action n machine) (steady_turn machine action) percent
+    aimed_at machine action n (cap_of action n machine) (steady_turn machine action) percent
 
 -- the least rate of each tick of a motion of n path steps, if its end allows it
 abbrev pub least_travel : MachineFile → Action → ℕ → ℕ
 least_travel machine action n =
-    min (min machine.change machine.corner) (target_at machine action n 1)
+    min (min (change_of machine action n) machine.corner) (target_at machine action n 1)
 
 -- ---- properties of every machine and action
 
@@ -113,7 +114,7 @@ IsGreatestBound =
 pub record IsLeastTravel (machine : MachineFile) (action : Action) (commands : List Command)
     (k n percent : ℕ) : Type 0 where
   pub some : 1 ≤ least_travel machine action n
-  pub change : least_travel machine action n ≤ machine.change
+  pub change : least_travel machine action n ≤ change_of machine action n
   pub target : 1 ≤ percent → least_travel machine action n ≤ target_at machine action n percent
   pub bound : least_travel machine action n ≤ bound_of machine action n
   pub entry : least_travel machine action n ≤ joint_before machine commands k

@@ -1,0 +1,199 @@
+-- The axes' limits on a motion: the greatest rate and the greatest change that keep them.
+use Rattle.std.proofs.Common.{◌≡◌, ℕ, zero, suc, ◌*◌, ◌/◌, ◌≤◌, ◌↔◌, min, max, ℤ, IsTrue, Bool, true, false, Option, Some, None}
+use Rattle.std.proofs.Common.{arith, refl, ap}
+use Rattle.std.specs.Prelude.{IfSome}
+use Rattle.std.proofs.lemmas.Nat.{mul-le}
+use Rattle.std.proofs.Math.Nat.{le-div_iff_mul-le}
+use Rattle.ngc_fixed_length.specs.Grid.{grid}
+use Rattle.ngc_fixed_length.specs.Limits.{MILLION}
+use Rattle.ngc_fixed_length.specs.declared.modes.Plane.{Plane}
+use Rattle.ngc_fixed_length.specs.declared.modes.Plane.TheVariants.{XY, ZX, YZ}
+use Rattle.ngc_arc_geometry.specs.Shape.{ArcShape}
+use Rattle.ngc_machine_files.specs.Machine.{MachineFile}
+use Rattle.ngc_machine_files.specs.MachineRanges.{IsMachine}
+use Rattle.ngc_machine_files.specs.Ranges.{IsRate, AreRates, AreLimits}
+use Rattle.ngc_machine_files.specs.declared.machine.AxisLimits.{AxisLimits}
+use Rattle.ngc_machine_files.specs.declared.machine.AxisRates.{AxisRates}
+use Rattle.ngc_commands.specs.declared.command.Action.{Action}
+use Rattle.ngc_commands.specs.declared.command.Action.TheVariants.{Move}
+use Rattle.ngc_commands.specs.declared.movement.Way.{Way}
+use Rattle.ngc_commands.specs.declared.movement.Way.TheVariants.{Line, Arc}
+use Rattle.ngc_planner.specs.declared.axes.Axes.{Axes}
+use Rattle.ngc_planner.specs.declared.components.AxisSteps.{AxisSteps}
+use Rattle.ngc_planner.specs.Axes.{IsWithinAxes, rate_where, least_rate, axes_of}
+use Rattle.ngc_planner.specs.Components.{steps_between, steps_along, plane_axes, third_rate, third_steps, AxisKeeps, AxesKeep, ArcKeeps, IsWithinComponents}
+use Rattle.ngc_planner.specs.Components.{by_component, least_component, component_rate, MayMoveAlong, MayMoveAxes, rate_along, axes_bound}
+use Rattle.ngc_planner.specs.Components.{IsChangeOfAxes, MayChangeAlong, MayChangeAxes, MayChange, axes_change, change_along, change_of, IsItsChange, IsGreatestChange, IsOneChange}
+
+-- ---- the least of two or three
+
+two_of : (x y v : ℕ) → v ≤ min x y → (v ≤ x) × (v ≤ y)
+two_of x y v h = (omega arith, omega arith)
+
+below_both : (x y v : ℕ) → v ≤ x → v ≤ y → v ≤ min x y
+below_both x y v a b = omega arith
+
+least_of : (x y z v : ℕ) → v ≤ min x (min y z) → (v ≤ x) × ((v ≤ y) × (v ≤ z))
+least_of x y z v h = (omega arith, (omega arith, omega arith))
+
+below_least : (x y z v : ℕ) → v ≤ x → v ≤ y → v ≤ z → v ≤ min x (min y z)
+below_least x y z v a b c = omega arith
+
+-- ---- the axes that may move
+
+one_axis : (moves : Bool) (rate v : ℕ) → v ≤ MILLION → (v ≤ rate_where moves rate) ↔ (IsTrue moves → v ≤ rate)
+one_axis true rate v small = (λ h t. h, λ h. h refl)
+one_axis false rate v small = (λ h t. cc, λ h. small)
+
+within_axes : (rates : AxisRates) (axes : Axes) (v : ℕ) → v ≤ MILLION → (v ≤ least_rate rates axes) ↔ IsWithinAxes rates axes v
+within_axes rates axes v small =
+    let x = one_axis axes.x rates.x v small in
+    let y = one_axis axes.y rates.y v small in
+    let z = one_axis axes.z rates.z v small in (
+      λ less. (
+          let each = least_of (rate_where axes.x rates.x) (rate_where axes.y rates.y) (rate_where axes.z rates.z) v less in
+          record { x = x.0 each.0; y = y.0 each.1.0; z = z.0 each.1.1 }),
+      λ within. below_least (rate_where axes.x rates.x) (rate_where axes.y rates.y) (rate_where axes.z rates.z) v (x.1 within.x) (y.1 within.y) (z.1 within.z),
+    )
+
+one_within : (rates : AxisRates) (axes : Axes) → AreRates rates → IsWithinAxes rates axes 1
+one_within rates axes ranges = record { x = λ t. ranges.x.least; y = λ t. ranges.y.least; z = λ t. ranges.z.least }
+
+-- ---- by component
+
+-- a division rounds down, so the quotient is the greatest
+component : (limit n d v : ℕ) → v ≤ MILLION → (v ≤ by_component limit n d) ↔ AxisKeeps limit n d v
+component limit n zero v small = (
+  λ less. (let none : v * 0 ≡ 0 = omega arith in omega (arith, none)),
+  λ keeps. small,
+)
+component limit n (suc d) v small =
+    let quotient = le-div_iff_mul-le {k = suc d} {x = v} {y = limit * max n (suc d)} (omega arith) in (
+      λ less. quotient.0 (two_of MILLION (limit * max n (suc d) / suc d) v less).1,
+      λ keeps. below_both MILLION (limit * max n (suc d) / suc d) v small (quotient.1 keeps),
+    )
+
+components : (limits : AxisRates) (n : ℕ) (d : AxisSteps) (v : ℕ) → v ≤ MILLION → (v ≤ least_component limits n d) ↔ AxesKeep limits n d v
+components limits n d v small =
+    let x = component limits.x n d.x v small in
+    let y = component limits.y n d.y v small in
+    let z = component limits.z n d.z v small in (
+      λ less. (
+          let each = least_of (by_component limits.x n d.x) (by_component limits.y n d.y) (by_component limits.z n d.z) v less in
+          record { x = x.0 each.0; y = y.0 each.1.0; z = z.0 each.1.1 }),
+      λ keep. below_least (by_component limits.x n d.x) (by_component limits.y n d.y) (by_component limits.z n d.z) v (x.1 keep.x) (y.1 keep.y) (z.1 keep.z),
+    )
+
+arc_keeps : (limits : AxisRates) (step : ℤ) (a : ArcShape) (n v : ℕ) → v ≤ MILLION → (v ≤ component_rate limits step (Arc a) n) ↔ ArcKeeps limits step a n v
+arc_keeps limits step a n v small =
+    let rise = third_steps a.plane (steps_along step a) in
+    let plane = within_axes limits (plane_axes a.plane) v small in
+    let third = component (third_rate a.plane limits) n rise v small in (
+      λ less. (
+          let each = two_of (least_rate limits (plane_axes a.plane)) (by_component (third_rate a.plane limits) n rise) v less in
+          record { plane = plane.0 each.0; third = third.0 each.1 }),
+      λ keeps. below_both (least_rate limits (plane_axes a.plane)) (by_component (third_rate a.plane limits) n rise) v (plane.1 keeps.plane) (third.1 keeps.third),
+    )
+
+within_components : (limits : AxisRates) (step : ℤ) (w : Way) (n v : ℕ) → v ≤ MILLION → (v ≤ component_rate limits step w n) ↔ IsWithinComponents limits step w n v
+within_components limits step (Line b e) n v small = components limits n (steps_between (grid step b) (grid step e)) v small
+within_components limits step (Arc a) n v small = arc_keeps limits step a n v small
+
+one_keeps : (limit n d : ℕ) → 1 ≤ limit → AxisKeeps limit n d 1
+one_keeps limit n d some = let p = mul-le 1 d limit (max n d) some (omega arith) in omega (arith, p)
+
+ones_keep : (limits : AxisRates) (n : ℕ) (d : AxisSteps) → AreRates limits → AxesKeep limits n d 1
+ones_keep limits n d ranges =
+    record { x = one_keeps limits.x n d.x ranges.x.least; y = one_keeps limits.y n d.y ranges.y.least; z = one_keeps limits.z n d.z ranges.z.least }
+
+third_some : (plane : Plane) (rates : AxisRates) → AreRates rates → 1 ≤ third_rate plane rates
+third_some XY rates ranges = ranges.z.least
+third_some ZX rates ranges = ranges.y.least
+third_some YZ rates ranges = ranges.x.least
+
+one_component : (limits : AxisRates) (step : ℤ) (w : Way) (n : ℕ) → AreRates limits → IsWithinComponents limits step w n 1
+one_component limits step (Line b e) n ranges = ones_keep limits n (steps_between (grid step b) (grid step e)) ranges
+one_component limits step (Arc a) n ranges = record {
+  plane = one_within limits (plane_axes a.plane) ranges;
+  third = one_keeps (third_rate a.plane limits) n (third_steps a.plane (steps_along step a)) (third_some a.plane limits ranges);
+}
+
+-- ---- the rates of a motion
+
+moves_along : (own : Option AxisLimits) (rates : AxisRates) (step : ℤ) (w : Way) (n v : ℕ) → v ≤ MILLION →
+    (v ≤ rate_along own rates step w n) ↔ MayMoveAlong own rates step w n v
+moves_along None rates step w n v small = within_axes rates (axes_of step w) v small
+moves_along (Some limits) rates step w n v small = within_components rates step w n v small
+
+pub moves_axes : (m : MachineFile) (a : Action) (n v : ℕ) → v ≤ MILLION → (v ≤ axes_bound m a n) ↔ MayMoveAxes m a n v
+moves_axes m (Move motion) n v small = moves_along m.own m.axis_rates m.step motion.way n v small
+moves_axes m _ n v small = (λ h. tt, λ h. small)
+
+one_along : (own : Option AxisLimits) (rates : AxisRates) (step : ℤ) (w : Way) (n : ℕ) → AreRates rates → MayMoveAlong own rates step w n 1
+one_along None rates step w n ranges = one_within rates (axes_of step w) ranges
+one_along (Some limits) rates step w n ranges = one_component rates step w n ranges
+
+may_move_axes : (m : MachineFile) (a : Action) (n : ℕ) → IsMachine m → MayMoveAxes m a n 1
+may_move_axes m (Move motion) n ranges = one_along m.own m.axis_rates m.step motion.way n ranges.axis_rates
+may_move_axes m _ n ranges = tt
+
+pub axes_some : (m : MachineFile) (a : Action) (n : ℕ) → IsMachine m → 1 ≤ axes_bound m a n
+axes_some m a n ranges = (moves_axes m a n 1 (omega arith)).1 (may_move_axes m a n ranges)
+
+-- ---- the change of a motion
+
+changes_axes : (changes : AxisRates) (step : ℤ) (w : Way) (n c : ℕ) → c ≤ MILLION → (c ≤ axes_change changes step w n) ↔ IsChangeOfAxes changes step w n c
+changes_axes changes step (Line b e) n c small = components changes n (steps_between (grid step b) (grid step e)) c small
+changes_axes changes step (Arc a) n c small = within_axes changes (axes_of step (Arc a)) c small
+
+one_change_of_axes : (changes : AxisRates) (step : ℤ) (w : Way) (n : ℕ) → AreRates changes → IsChangeOfAxes changes step w n 1
+one_change_of_axes changes step (Line b e) n ranges = ones_keep changes n (steps_between (grid step b) (grid step e)) ranges
+one_change_of_axes changes step (Arc a) n ranges = one_within changes (axes_of step (Arc a)) ranges
+
+changes_along : (own : Option AxisLimits) (change : ℕ) (step : ℤ) (w : Way) (n c : ℕ) → change ≤ MILLION →
+    (c ≤ change_along own change step w n) ↔ ((c ≤ change) × MayChangeAlong own step w n c)
+changes_along None change step w n c small = (λ h. (h, tt), λ h. h.0)
+changes_along (Some limits) change step w n c small = (
+  λ less. (
+      let each = two_of change (axes_change limits.changes step w n) c less in
+      (each.0, (changes_axes limits.changes step w n c (omega (arith, each.0, small))).0 each.1)),
+  λ may. below_both change (axes_change limits.changes step w n) c may.0
+      ((changes_axes limits.changes step w n c (omega (arith, may.0, small))).1 may.1),
+)
+
+one_changes : (own : Option AxisLimits) (step : ℤ) (w : Way) (n : ℕ) → IfSome own AreLimits → MayChangeAlong own step w n 1
+one_changes None step w n ranges = tt
+one_changes (Some limits) step w n ranges = one_change_of_axes limits.changes step w n ranges.changes
+
+may_change : (m : MachineFile) (a : Action) (n c : ℕ) → IsMachine m → (c ≤ change_of m a n) ↔ MayChange m a n c
+may_change m (Move motion) n c ranges =
+    let both = changes_along m.own m.change m.step motion.way n c ranges.change.greatest in (
+      λ less. (let may = both.0 less in record { greatest = may.0; axes = may.1 }),
+      λ may. both.1 (may.greatest, may.axes),
+    )
+may_change m _ n c ranges = (λ h. record { greatest = h; axes = tt }, λ may. may.greatest)
+
+one_may_change : (m : MachineFile) (a : Action) (n : ℕ) → IsMachine m → MayChange m a n 1
+one_may_change m (Move motion) n ranges = record { greatest = ranges.change.least; axes = one_changes m.own m.step motion.way n ranges.own }
+one_may_change m _ n ranges = record { greatest = ranges.change.least; axes = tt }
+
+pub change_some : (m : MachineFile) (a : Action) (n : ℕ) → IsMachine m → 1 ≤ change_of m a n
+change_some m a n ranges = (may_change m a n 1 ranges).1 (one_may_change m a n ranges)
+
+-- at most the machine's change
+pub change_most : (m : MachineFile) (a : Action) (n : ℕ) → IsMachine m → change_of m a n ≤ m.change
+change_most m a n ranges = ((may_change m a n (change_of m a n) ranges).0 (omega arith)).greatest
+
+pub change_small : (m : MachineFile) (a : Action) (n : ℕ) → IsMachine m → change_of m a n ≤ MILLION
+change_small m a n ranges = let most = change_most m a n ranges in omega (arith, most, ranges.change.greatest)
+
+pub greatest_change : IsGreatestChange
+greatest_change m a n ranges = record { some = change_some m a n ranges; greatest = λ c. may_change m a n c ranges }
+
+one_along_none : (own : Option AxisLimits) (change : ℕ) (step : ℤ) (w : Way) (n : ℕ) → own ≡ None → change_along own change step w n ≡ change
+one_along_none None change step w n none = refl
+one_along_none (Some limits) change step w n none = cc
+
+pub one_change : IsOneChange
+one_change m (Move motion) n none = one_along_none m.own m.change m.step motion.way n none
+one_change m _ n none = refl
