@@ -212,11 +212,11 @@ same_spot : (a : Action) (s : State) → spot (after a s) ≡ spot s
 same_spot (actions.Move m) s = refl
 same_spot _ s = refl
 
-resting : (job : Job) (old : State) (o : Outcome) (new : State) → Rests job old o new → Effect job (spot old) (spot new) o
+resting : (job : Job) (old : State) (o : Outcome) (new : State) → Rests old o new → Effect job (spot old) (spot new) o
 resting job old o new r = stands (record { same = ap spot r.stands; silent = ap position_in r.quiet; no_end = ap tells_end r.quiet })
 
 finished : (job : Job) (l : Queued) (ls : List Queued) (old : State) (o : Outcome) (new : State) → old.ring ≡ l ∷ ls → path_steps l ≡ 0 →
-    Finishes job l.command.action old o new → Effect job (spot old) (spot new) o
+    Finishes l.command.action old o new → Effect job (spot old) (spot new) o
 finished job l ls old o new e z f = passes (record {
   head = l;
   others = ls;
@@ -231,12 +231,12 @@ on_head : (job : Job) (l : Queued) (ls : List Queued) (old : State) (o : Outcome
     old.travelled ≤ millionths l - 1 → HeadTick job l ls old o new → Effect job (spot old) (spot new) o
 on_head job l ls old o new m e f t =
     elim (match_with (nat_lt 0 (path_steps l)) (Travels job l ls old o new)
-    (MatchBool old.held (Rests job old o new) (Serves job l.command.action old o new)) t) [
+    (MatchBool old.held (Rests old o new) (Serves job l.command.action old o new)) t) [
       | inl u ↦ on_way job l ls old o new m e (let b = u.0 in grind (arith, nat_tests)) f u.1
-      | inr u ↦ elim (match_with old.held (Rests job old o new) (Serves job l.command.action old o new) u.1) [
+      | inr u ↦ elim (match_with old.held (Rests old o new) (Serves job l.command.action old o new) u.1) [
         | inl r ↦ resting job old o new r.1
-        | inr r ↦ elim (match_with (nat_lt (suc old.dwelt) (ticks_of job l.command.action)) (Dwells job old o new)
-            (Finishes job l.command.action old o new) r.1) [
+        | inr r ↦ elim (match_with (nat_lt (suc old.dwelt) (ticks_of job l.command.action)) (Dwells old o new)
+            (Finishes l.command.action old o new) r.1) [
               | inl d ↦ stands (record { same = ap spot d.1.counts; silent = ap position_in d.1.quiet; no_end = ap tells_end d.1.quiet })
               | inr d ↦ finished job l ls old o new e (let b = u.0 in grind (arith, nat_tests)) d.1
             ]

@@ -24,6 +24,7 @@ use Rattle.ngc_planner.specs.Axes.{IsWithinAxes, rate_where, least_rate, axes_of
 use Rattle.ngc_planner.specs.Components.{steps_between, steps_along, plane_axes, third_rate, third_steps, AxisKeeps, AxesKeep, ArcKeeps, IsWithinComponents}
 use Rattle.ngc_planner.specs.Components.{by_component, least_component, component_rate, MayMoveAlong, MayMoveAxes, rate_along, axes_bound}
 use Rattle.ngc_planner.specs.Components.{IsChangeOfAxes, MayChangeAlong, MayChangeAxes, MayChange, axes_change, change_along, change_of, IsItsChange, IsGreatestChange, IsOneChange}
+use Rattle.ngc_planner.specs.Components.{least_of_changes, least_change, IsLeastChange}
 
 -- ---- the least of two or three
 
@@ -55,9 +56,6 @@ within_axes rates axes v small =
           record { x = x.0 each.0; y = y.0 each.1.0; z = z.0 each.1.1 }),
       λ within. below_least (rate_where axes.x rates.x) (rate_where axes.y rates.y) (rate_where axes.z rates.z) v (x.1 within.x) (y.1 within.y) (z.1 within.z),
     )
-
-one_within : (rates : AxisRates) (axes : Axes) → AreRates rates → IsWithinAxes rates axes 1
-one_within rates axes ranges = record { x = λ t. ranges.x.least; y = λ t. ranges.y.least; z = λ t. ranges.z.least }
 
 -- ---- by component
 
@@ -99,12 +97,24 @@ within_components : (limits : AxisRates) (step : ℤ) (w : Way) (n v : ℕ) → 
 within_components limits step (Line b e) n v small = components limits n (steps_between (grid step b) (grid step e)) v small
 within_components limits step (Arc a) n v small = arc_keeps limits step a n v small
 
-one_keeps : (limit n d : ℕ) → 1 ≤ limit → AxisKeeps limit n d 1
-one_keeps limit n d some = let p = mul-le 1 d limit (max n d) some (omega arith) in omega (arith, p)
+-- a rate that each axis allows as a whole
+low_keeps : (limit n d v : ℕ) → v ≤ limit → AxisKeeps limit n d v
+low_keeps limit n d v low = mul-le v d limit (max n d) low (omega arith)
 
-ones_keep : (limits : AxisRates) (n : ℕ) (d : AxisSteps) → AreRates limits → AxesKeep limits n d 1
-ones_keep limits n d ranges =
-    record { x = one_keeps limits.x n d.x ranges.x.least; y = one_keeps limits.y n d.y ranges.y.least; z = one_keeps limits.z n d.z ranges.z.least }
+record AreLow (limits : AxisRates) (v : ℕ) : Type 0 where
+  x : v ≤ limits.x
+  y : v ≤ limits.y
+  z : v ≤ limits.z
+
+one_low : (limits : AxisRates) → AreRates limits → AreLow limits 1
+one_low limits ranges = record { x = ranges.x.least; y = ranges.y.least; z = ranges.z.least }
+
+lows_keep : (limits : AxisRates) (n : ℕ) (d : AxisSteps) (v : ℕ) → AreLow limits v → AxesKeep limits n d v
+lows_keep limits n d v low =
+    record { x = low_keeps limits.x n d.x v low.x; y = low_keeps limits.y n d.y v low.y; z = low_keeps limits.z n d.z v low.z }
+
+lows_within : (limits : AxisRates) (axes : Axes) (v : ℕ) → AreLow limits v → IsWithinAxes limits axes v
+lows_within limits axes v low = record { x = λ t. low.x; y = λ t. low.y; z = λ t. low.z }
 
 third_some : (plane : Plane) (rates : AxisRates) → AreRates rates → 1 ≤ third_rate plane rates
 third_some XY rates ranges = ranges.z.least
@@ -112,10 +122,10 @@ third_some ZX rates ranges = ranges.y.least
 third_some YZ rates ranges = ranges.x.least
 
 one_component : (limits : AxisRates) (step : ℤ) (w : Way) (n : ℕ) → AreRates limits → IsWithinComponents limits step w n 1
-one_component limits step (Line b e) n ranges = ones_keep limits n (steps_between (grid step b) (grid step e)) ranges
+one_component limits step (Line b e) n ranges = lows_keep limits n (steps_between (grid step b) (grid step e)) 1 (one_low limits ranges)
 one_component limits step (Arc a) n ranges = record {
-  plane = one_within limits (plane_axes a.plane) ranges;
-  third = one_keeps (third_rate a.plane limits) n (third_steps a.plane (steps_along step a)) (third_some a.plane limits ranges);
+  plane = lows_within limits (plane_axes a.plane) 1 (one_low limits ranges);
+  third = low_keeps (third_rate a.plane limits) n (third_steps a.plane (steps_along step a)) 1 (third_some a.plane limits ranges);
 }
 
 -- ---- the rates of a motion
@@ -130,7 +140,7 @@ moves_axes m (Move motion) n v small = moves_along m.own m.axis_rates m.step mot
 moves_axes m _ n v small = (λ h. tt, λ h. small)
 
 one_along : (own : Option AxisLimits) (rates : AxisRates) (step : ℤ) (w : Way) (n : ℕ) → AreRates rates → MayMoveAlong own rates step w n 1
-one_along None rates step w n ranges = one_within rates (axes_of step w) ranges
+one_along None rates step w n ranges = lows_within rates (axes_of step w) 1 (one_low rates ranges)
 one_along (Some limits) rates step w n ranges = one_component rates step w n ranges
 
 may_move_axes : (m : MachineFile) (a : Action) (n : ℕ) → IsMachine m → MayMoveAxes m a n 1
@@ -146,9 +156,9 @@ changes_axes : (changes : AxisRates) (step : ℤ) (w : Way) (n c : ℕ) → c �
 changes_axes changes step (Line b e) n c small = components changes n (steps_between (grid step b) (grid step e)) c small
 changes_axes changes step (Arc a) n c small = within_axes changes (axes_of step (Arc a)) c small
 
-one_change_of_axes : (changes : AxisRates) (step : ℤ) (w : Way) (n : ℕ) → AreRates changes → IsChangeOfAxes changes step w n 1
-one_change_of_axes changes step (Line b e) n ranges = ones_keep changes n (steps_between (grid step b) (grid step e)) ranges
-one_change_of_axes changes step (Arc a) n ranges = one_within changes (axes_of step (Arc a)) ranges
+low_change : (changes : AxisRates) (step : ℤ) (w : Way) (n c : ℕ) → AreLow changes c → IsChangeOfAxes changes step w n c
+low_change changes step (Line b e) n c low = lows_keep changes n (steps_between (grid step b) (grid step e)) c low
+low_change changes step (Arc a) n c low = lows_within changes (axes_of step (Arc a)) c low
 
 changes_along : (own : Option AxisLimits) (change : ℕ) (step : ℤ) (w : Way) (n c : ℕ) → change ≤ MILLION →
     (c ≤ change_along own change step w n) ↔ ((c ≤ change) × MayChangeAlong own step w n c)
@@ -161,10 +171,6 @@ changes_along (Some limits) change step w n c small = (
       ((changes_axes limits.changes step w n c (omega (arith, may.0, small))).1 may.1),
 )
 
-one_changes : (own : Option AxisLimits) (step : ℤ) (w : Way) (n : ℕ) → IfSome own AreLimits → MayChangeAlong own step w n 1
-one_changes None step w n ranges = tt
-one_changes (Some limits) step w n ranges = one_change_of_axes limits.changes step w n ranges.changes
-
 may_change : (m : MachineFile) (a : Action) (n c : ℕ) → IsMachine m → (c ≤ change_of m a n) ↔ MayChange m a n c
 may_change m (Move motion) n c ranges =
     let both = changes_along m.own m.change m.step motion.way n c ranges.change.greatest in (
@@ -173,12 +179,32 @@ may_change m (Move motion) n c ranges =
     )
 may_change m _ n c ranges = (λ h. record { greatest = h; axes = tt }, λ may. may.greatest)
 
-one_may_change : (m : MachineFile) (a : Action) (n : ℕ) → IsMachine m → MayChange m a n 1
-one_may_change m (Move motion) n ranges = record { greatest = ranges.change.least; axes = one_changes m.own m.step motion.way n ranges.own }
-one_may_change m _ n ranges = record { greatest = ranges.change.least; axes = tt }
+-- ---- the least change
+
+least_along : (own : Option AxisLimits) (change : ℕ) (step : ℤ) (w : Way) (n : ℕ) → MayChangeAlong own step w n (least_of_changes own change)
+least_along None change step w n = tt
+least_along (Some limits) change step w n = low_change limits.changes step w n _ (record { x = omega arith; y = omega arith; z = omega arith })
+
+least_most : (own : Option AxisLimits) (change : ℕ) → least_of_changes own change ≤ change
+least_most None change = omega arith
+least_most (Some limits) change = omega arith
+
+least_some : (own : Option AxisLimits) (change : ℕ) → IfSome own AreLimits → 1 ≤ change → 1 ≤ least_of_changes own change
+least_some None change ranges some = some
+least_some (Some limits) change ranges some = omega (arith, some, ranges.changes.x.least, ranges.changes.y.least, ranges.changes.z.least)
+
+least_may_change : (m : MachineFile) (a : Action) (n : ℕ) → MayChange m a n (least_change m)
+least_may_change m (Move motion) n = record { greatest = least_most m.own m.change; axes = least_along m.own m.change m.step motion.way n }
+least_may_change m _ n = record { greatest = least_most m.own m.change; axes = tt }
+
+pub least_changes : IsLeastChange
+least_changes m a n ranges = record {
+  some = least_some m.own m.change ranges.own ranges.change.least;
+  least = (may_change m a n (least_change m) ranges).1 (least_may_change m a n);
+}
 
 pub change_some : (m : MachineFile) (a : Action) (n : ℕ) → IsMachine m → 1 ≤ change_of m a n
-change_some m a n ranges = (may_change m a n 1 ranges).1 (one_may_change m a n ranges)
+change_some m a n ranges = let least = least_changes m a n ranges in omega (arith, least.some, least.least)
 
 -- at most the machine's change
 pub change_most : (m : MachineFile) (a : Action) (n : ℕ) → IsMachine m → change_of m a n ≤ m.change

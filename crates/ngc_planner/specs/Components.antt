@@ -143,6 +143,15 @@ abbrev pub change_of : MachineFile → Action → ℕ → ℕ
 change_of machine (Move m) n = change_along machine.own machine.change machine.step m.way n
 change_of machine _ n = machine.change
 
+-- the least of the changes that motions have
+abbrev pub least_of_changes : Option AxisLimits → ℕ → ℕ
+least_of_changes None change = change
+least_of_changes (Some limits) change =
+    min change (min limits.changes.x (min limits.changes.y limits.changes.z))
+
+abbrev pub least_change : MachineFile → ℕ
+least_change machine = least_of_changes machine.own machine.change
+
 -- ---- properties of every machine and action
 
 -- the change of a motion is the greatest that it may have, and at least 1
@@ -154,6 +163,16 @@ abbrev pub IsGreatestChange : Type 0
 IsGreatestChange =
     (machine : MachineFile) (action : Action) (n : ℕ) → IsMachine machine →
     IsItsChange machine action n
+
+-- and at least the least change, which is at least 1
+pub record IsLeastOfChanges (machine : MachineFile) (action : Action) (n : ℕ) : Type 0 where
+  pub some : 1 ≤ least_change machine
+  pub least : least_change machine ≤ change_of machine action n
+
+abbrev pub IsLeastChange : Type 0
+IsLeastChange =
+    (machine : MachineFile) (action : Action) (n : ℕ) → IsMachine machine →
+    IsLeastOfChanges machine action n
 
 -- without limits of each axis it is the machine's change
 abbrev pub IsOneChange : Type 0
