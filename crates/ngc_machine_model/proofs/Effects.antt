@@ -16,7 +16,7 @@ use Rattle.ngc_events.specs.declared.event.Event.TheVariants.{Load, Tick, Hold, 
 use Rattle.ngc_events.specs.declared.reply.Ending.{Ending}
 use Rattle.ngc_events.specs.declared.reply.Ending.TheVariants.{Done, Stopped, End}
 use Rattle.ngc_events.specs.declared.reply.Reply.TheVariants.{Loaded, Ticked, Held, Resumed, Overridden, Switched, Started}
-use Rattle.ngc_machine_model.specs.State.{Job, Queued, State, loaded, command_at, path_steps, millionths, place_before}
+use Rattle.ngc_machine_model.specs.State.{Job, Queued, State, loaded, command_at, path_steps, millionths, change_of, place_before}
 use Rattle.ngc_machine_model.specs.Step.{Outcome, Step, LoadCommand, MayTake, Rests, Finishes, Dwells, Serves, Travels, HeadTick, TickBy, without_head, after}
 use Rattle.ngc_machine_model.specs.Step.{ending, ends_at, pulse, place_after, ticks_of}
 use Rattle.ngc_machine_model.specs.Run.{position_in}
@@ -161,8 +161,8 @@ on_way job l ls old o new m e some f t =
     let slow : v ≤ MILLION = travel_small job l ls old o new m.max_rate.greatest t in
     let over = t0 + v - millionths l in
     let was : spot old ≡ spot_of old.done (l ∷ ls) t0 old.position = ap (λ r. spot_of old.done r t0 old.position) e in
-    let done = without_head over (record old { rate = v; position = point l.path (place_after l old v) }) in
-    let on : State = record old { rate = v; position = point l.path (place_after l old v); travelled = t0 + v } in
+    let done = without_head over (record old { rate = v; change = change_of job l; position = point l.path (place_after l old v) }) in
+    let on : State = record old { rate = v; change = change_of job l; position = point l.path (place_after l old v); travelled = t0 + v } in
     let says = ap position_in t.says ∙ said_position (nat_lt (place_before old) (place_after l old v)) (point l.path (place_after l old v)) (ends_at l old v) in
     two_cases (nat_le (millionths l) (t0 + v)) (Effect job (spot old) (spot new) o)
     (λ b.

@@ -12,7 +12,9 @@ use Rattle.ngc_commands.specs.declared.command.Action.{Action}
 use Rattle.ngc_commands.specs.declared.command.Action.TheVariants.{Move}
 use Rattle.ngc_machine_files.specs.declared.machine.AxisLimits.{AxisLimits}
 use Rattle.ngc_machine_files.specs.declared.machine.AxisRates.{AxisRates}
-use Rattle.ngc_planner.specs.Components.{AxisKeeps, MayMoveAlong, MayMoveAxes}
+use Rattle.ngc_fixed_length.specs.Grid.{grid}
+use Rattle.ngc_planner.specs.Components.{AxisKeeps, AxesKeep, MayMoveAlong, MayMoveAxes, steps_between, steps_along, third_rate, third_steps}
+use Rattle.ngc_planner.specs.declared.components.AxisSteps.{AxisSteps}
 use Rattle.ngc_planner.proofs.ComponentLaws.{change_most}
 use Rattle.ngc_fixed_length.specs.Limits.{MILLION}
 use Rattle.ngc_planner.specs.Bounds.{MayTurnOn, MayTurn}
@@ -50,12 +52,15 @@ still machine _ = tt
 still_axis : (limit n d : ℕ) → AxisKeeps limit n d 0
 still_axis limit n d = omega arith
 
+still_steps : (rates : AxisRates) (n : ℕ) (d : AxisSteps) → AxesKeep rates n d 0
+still_steps rates n d = record { x = still_axis rates.x n d.x; y = still_axis rates.y n d.y; z = still_axis rates.z n d.z }
+
 still_along : (own : Option AxisLimits) (rates : AxisRates) (step : ℤ) (w : Way) (n : ℕ) → MayMoveAlong own rates step w n 0
 still_along None rates step w n = record { x = λ h. omega arith; y = λ h. omega arith; z = λ h. omega arith }
-still_along (Some limits) rates step (Line b e) n = record { x = still_axis rates.x n _; y = still_axis rates.y n _; z = still_axis rates.z n _ }
+still_along (Some limits) rates step (Line b e) n = still_steps rates n (steps_between (grid step b) (grid step e))
 still_along (Some limits) rates step (Arc a) n = record {
   plane = record { x = λ h. omega arith; y = λ h. omega arith; z = λ h. omega arith };
-  third = still_axis _ n _;
+  third = still_axis (third_rate a.plane rates) n (third_steps a.plane (steps_along step a));
 }
 
 still_axes : (machine : MachineFile) (a : Action) (n : ℕ) → MayMoveAxes machine a n 0

@@ -29,7 +29,7 @@ use Rattle.ngc_commands.specs.declared.movement.Way.{Way}
 use Rattle.ngc_commands.specs.declared.movement.Way.TheVariants.{Line, Arc}
 use Rattle.ngc_planner.specs.Headings.{is_level}
 use Rattle.ngc_planner.specs.Caps.{STEPS_LIMIT, cap_of}
-use Rattle.ngc_planner.specs.Bounds.{IsMotion, turn_rate, is_turn_by_place, diagonal_rate, steady_turn_on, steady_turn, aimed_at}
+use Rattle.ngc_planner.specs.Bounds.{IsMotion, arc_turn, turn_rate, is_turn_by_place, diagonal_rate, steady_turn_on, steady_turn, aimed_at}
 use Rattle.ngc_planner.proofs.BoundLaws.{target_some, step_within, turn_kept}
 use Rattle.ngc_planner.specs.ArcFeed.{axis_distance, place_cap, rise, sloped_length, sloped_cap, feed_cap_at, arc_cap_at, way_cap_at, cap_at, target_on}
 use Rattle.ngc_planner.specs.ArcFeed.{is_feed_by_place, place_turn, turn_radius, arc_turn_at, way_turn_at, turn_at}
@@ -295,7 +295,7 @@ arcs_keep_turn machine motion a n percent p v ranges is way by_place two low =
     ∙ ap (λ f. cond (is_turn_by_place f) (arc_turn_at machine a p) (turn_rate machine (Arc a))) by_place in
     let most : v ≤ way_turn_at machine motion.way p = omega (arith, low) in
     let within = inner_within a is in
-    keeps_turn machine.turn step (max (inner_radius a) step) (turn_radius machine a) (axis_distance machine.step a p) (turn_rate machine (Arc a)) v
+    keeps_turn (arc_turn machine a) step (max (inner_radius a) step) (turn_radius machine a) (axis_distance machine.step a p) (turn_rate machine (Arc a)) v
     (omega (arith, some.0)) (omega (arith, within)) (turn_kept machine a ranges) two (omega (arith, most, here))
 
 -- ---- no less

@@ -2,15 +2,18 @@
 -- computed by hand and by an independent program.
 use Rattle.std.proofs.Common.{◌≡◌, ℕ, ◌×◌, ℤ, pos, negsuc, Some, false, refl}
 use Rattle.std.specs.Prelude.{◌*ℤ◌}
-use Rattle.ngc_fixed_length.specs.declared.modes.Plane.TheVariants.{XY}
+use Rattle.ngc_fixed_length.specs.declared.modes.Plane.{Plane}
+use Rattle.ngc_fixed_length.specs.declared.modes.Plane.TheVariants.{XY, ZX}
 use Rattle.ngc_fixed_length.specs.declared.modes.Turn.TheVariants.{Clockwise}
 use Rattle.ngc_fixed_length.specs.declared.points.Point3.{Point3}
 use Rattle.ngc_machine_files.specs.Machine.{MachineFile, built_in_machine}
 use Rattle.ngc_commands.specs.declared.command.Action.{Action}
 use Rattle.ngc_commands.specs.declared.command.Action.TheVariants.{Move}
 use Rattle.ngc_commands.specs.declared.movement.Pace.TheVariants as paces
+use Rattle.ngc_commands.specs.declared.movement.Way.{Way}
 use Rattle.ngc_commands.specs.declared.movement.Way.TheVariants as ways
-use Rattle.ngc_planner.specs.Bounds.{greatest_rate}
+use Rattle.ngc_fixed_length.specs.Roots.{whole_root}
+use Rattle.ngc_planner.specs.Bounds.{greatest_rate, turn_rate}
 use Rattle.ngc_planner.specs.Components.{by_component, change_of}
 use Rattle.ngc_planner.proofs.Examples.{at}
 
@@ -20,6 +23,7 @@ router = record built_in_machine {
   max_rate = 500000;
   axis_rates = record { x = 500000; y = 500000; z = 100000 };
   change = 50;
+  turn = 50000000;
   own = Some (record {
     changes = record { x = 50; y = 50; z = 20 };
     turns = record { x = 50000000; y = 50000000; z = 20000000 };
@@ -86,6 +90,24 @@ helix_steep = refl
 
 helix_level : rate_and_change (helix (pos 0)) 1000 ≡ (500000, 50)
 helix_level = refl
+
+-- whole circles of 1 mm in each plane: the least turn of its axes counts
+abbrev circle : Plane → Way
+circle plane = ways.Arc (record {
+  plane = plane;
+  turn = Clockwise;
+  start = at (pos 0) (pos 0) (pos 0);
+  end = at (pos 0) (pos 0) (pos 0);
+  centre = record { u = pos 1000000; v = pos 0 };
+})
+
+turn_level : turn_rate router (circle XY) ≡ 70710
+unfolding whole_root
+turn_level = refl
+
+turn_upright : turn_rate router (circle ZX) ≡ 44721
+unfolding whole_root
+turn_upright = refl
 
 -- a path never has fewer path steps than its axes go: with fewer the limit itself is kept
 few_steps : by_component 100000 1 3 ≡ 100000
