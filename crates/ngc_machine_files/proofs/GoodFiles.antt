@@ -15,7 +15,7 @@ use Rattle.ngc_motors.specs.declared.step.MotorSteps.{MotorSteps}
 use Rattle.ngc_machine_files.specs.Ranges.{PLACE_LIMIT, TRAVEL_LIMIT, BLOCK_LIMIT, place_limit, travel_limit, CORNER_LIMIT, IsFrom, IsSized, IsAtMost, IsBelow, IsOnGrid, IsTravel, IsFixture}
 use Rattle.ngc_machine_files.specs.Numbers.{from_to}
 use Rattle.ngc_machine_files.specs.Refusals.{◌>>◌, refuse_unless}
-use Rattle.ngc_machine_files.specs.MachineText.{MachineValues, is_sized, is_at_most, is_below, is_multiple, is_on_grid, is_rate, good_axis_rates, good_jump, good_ring, good_arc_feed, good_changer, good_turn, good_axis_turns, good_own, good_margin, good_limits, good_motors, good_axis_ends, good_rates, good_travel, good_version}
+use Rattle.ngc_machine_files.specs.MachineText.{MachineValues, is_sized, is_at_most, is_below, is_multiple, is_on_grid, is_rate, good_axis_rates, good_jump, good_ring, good_arc_feed, good_changer, good_turn, good_axis_turns, good_own, good_numbers, good_margin, good_limits, good_motors, good_axis_ends, good_rates, good_travel, good_version}
 use Rattle.ngc_machine_files.specs.MachineText.{good_fixture, good_fixtures, machine_ranges, place_of, fixture_of, good_block, good_stock, AreFrom, AreOwn, IsBlock, IsGood}
 use Rattle.ngc_machine_files.specs.ToolText.{ToolNumbers, TableValues, good_part, good_parts, good_tool, good_tools, table_ranges, IsPartEntry, ArePartEntries}
 use Rattle.ngc_machine_files.specs.ToolText.{IsEntry, AreEntries}
@@ -166,7 +166,7 @@ some_motors step motors is h =
     record { grid = is; x = x; y = y; z = z }
 
 pub IsGood-from_ranges : (m : MachineValues) → machine_ranges m ≡ Ok tt → IsGood m
-unfolding good_travel
+unfolding good_travel good_numbers
 IsGood-from_ranges m h =
     let (_, h7) = passes _ _ _ h in
     let (step, h8) = passes _ _ _ h7 in

@@ -288,11 +288,13 @@ good_bounds m =
     is_rate m.numbers.max_rate && is_rate m.numbers.change && is_rate m.numbers.corner &&
     good_turn m.numbers.turn && good_axis_rates m.axis_rates
 
-abbrev pub good_rates : MachineValues → Bool
-good_rates m =
+unfoldable pub good_numbers : MachineValues → Bool
+good_numbers m =
     good_bounds m && good_jump m.numbers.optional.jump && good_ring m.numbers.optional.ring
     && good_arc_feed m.numbers.optional.arc_feed && good_changer m.numbers.optional.changer
-    && good_own m.own
+
+abbrev pub good_rates : MachineValues → Bool
+good_rates m = good_numbers m && good_own m.own
 
 abbrev pub good_margin : ℤ → Bool
 good_margin z = from_to (pos 0) MARGIN_LIMIT z

@@ -12,7 +12,7 @@ ghost use Rattle.ngc_machine_files.specs.Ranges.{MARGIN_LIMIT, AreMargins, AreAr
 ghost use Rattle.ngc_machine_files.specs.MachineText.{values_of, is_sized, is_at_most, is_below};
 ghost use Rattle.ngc_machine_files.specs.MachineText.{is_multiple, is_on_grid, good_version, is_rate};
 ghost use Rattle.ngc_machine_files.specs.MachineText.{good_axis_rates, good_bounds, good_rates, good_travel};
-ghost use Rattle.ngc_machine_files.specs.MachineText.{good_turn, good_axis_turns, good_own, axis_turns_of, limits_of, AreOwn};
+ghost use Rattle.ngc_machine_files.specs.MachineText.{good_turn, good_axis_turns, good_own, good_numbers, axis_turns_of, limits_of, AreOwn};
 ghost use Rattle.ngc_machine_files.specs.MachineText.{good_axis_ends, good_ends, good_motors};
 ghost use Rattle.ngc_machine_files.specs.MachineText.{good_places, good_fixture, good_fixtures};
 ghost use Rattle.ngc_machine_files.specs.MachineText.{machine_ranges, machine_from, place_of};
@@ -172,15 +172,21 @@ fn are_bounds_good(contents: &MachineContents) -> bool
         && are_axis_rates_good(&contents.axis_rates)
 }
 
-fn are_rates_good(contents: &MachineContents) -> bool
-    ensures { result ≡ good_rates (values_of contents.now) }
+#[tactic(auto, unfolding(crate::specs::MachineText::good_numbers))]
+fn are_numbers_good(contents: &MachineContents) -> bool
+    ensures { result ≡ good_numbers (values_of contents.now) }
 {
     are_bounds_good(contents)
         && is_from_to(0, 1_000_000, contents.numbers.optional.jump)
         && is_from_to(16, 1_024, contents.numbers.optional.ring)
         && is_from_to(0, 2, contents.numbers.optional.arc_feed)
         && is_from_to(0, 1, contents.numbers.optional.changer)
-        && are_own_good(&contents.own)
+}
+
+fn are_rates_good(contents: &MachineContents) -> bool
+    ensures { result ≡ good_rates (values_of contents.now) }
+{
+    are_numbers_good(contents) && are_own_good(&contents.own)
 }
 
 fn is_margin_good(margin: i64) -> bool

@@ -1,7 +1,8 @@
 -- The axes' limits on a motion: the greatest rate and the greatest change that keep them.
-use Rattle.std.proofs.Common.{◌≡◌, ℕ, zero, suc, ◌*◌, ◌/◌, ◌≤◌, ◌↔◌, min, max, ℤ, IsTrue, Bool, true, false, Option, Some, None}
+use Rattle.std.proofs.Common.{◌≡◌, ℕ, ◌==◌, cond, ◌*◌, ◌/◌, ◌≤◌, ◌↔◌, min, max, ℤ, IsTrue, Bool, true, false, Option, Some, None}
 use Rattle.std.proofs.Common.{arith, refl, ap}
 use Rattle.std.specs.Prelude.{IfSome}
+use Rattle.std.proofs.lemmas.Bool.Decides.{nat_tests}
 use Rattle.std.proofs.lemmas.Nat.{mul-le}
 use Rattle.std.proofs.Math.Nat.{le-div_iff_mul-le}
 use Rattle.ngc_fixed_length.specs.Grid.{grid}
@@ -60,16 +61,23 @@ within_axes rates axes v small =
 -- ---- by component
 
 -- a division rounds down, so the quotient is the greatest
-component : (limit n d v : ℕ) → v ≤ MILLION → (v ≤ by_component limit n d) ↔ AxisKeeps limit n d v
-component limit n zero v small = (
-  λ less. (let none : v * 0 ≡ 0 = omega arith in omega (arith, none)),
-  λ keeps. small,
-)
-component limit n (suc d) v small =
-    let quotient = le-div_iff_mul-le {k = suc d} {x = v} {y = limit * max n (suc d)} (omega arith) in (
-      λ less. quotient.0 (two_of MILLION (limit * max n (suc d) / suc d) v less).1,
-      λ keeps. below_both MILLION (limit * max n (suc d) / suc d) v small (quotient.1 keeps),
+component_by : (none : Bool) (limit n d v : ℕ) → none ≡ (d == 0) → v ≤ MILLION →
+    (v ≤ cond none MILLION (min (limit * max n d / d) MILLION)) ↔ AxisKeeps limit n d v
+component_by true limit n d v test small =
+    let zero : d ≡ 0 = grind (arith, nat_tests) in
+    let none : v * d ≡ v * 0 = ap (λ k. v * k) zero in (
+      λ less. omega (arith, none),
+      λ keeps. small,
     )
+component_by false limit n d v test small =
+    let some : 1 ≤ d = grind (arith, nat_tests) in
+    let quotient = le-div_iff_mul-le {k = d} {x = v} {y = limit * max n d} some in (
+      λ less. quotient.0 (two_of (limit * max n d / d) MILLION v less).0,
+      λ keeps. below_both (limit * max n d / d) MILLION v (quotient.1 keeps) small,
+    )
+
+component : (limit n d v : ℕ) → v ≤ MILLION → (v ≤ by_component limit n d) ↔ AxisKeeps limit n d v
+component limit n d v small = component_by (d == 0) limit n d v refl small
 
 components : (limits : AxisRates) (n : ℕ) (d : AxisSteps) (v : ℕ) → v ≤ MILLION → (v ≤ least_component limits n d) ↔ AxesKeep limits n d v
 components limits n d v small =

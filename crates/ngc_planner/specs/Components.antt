@@ -68,7 +68,7 @@ IsWithinComponents limits step (Arc a) n v = ArcKeeps limits step a n v
 
 -- the greatest of them, up to a million
 abbrev pub by_component : ℕ → ℕ → ℕ → ℕ
-by_component limit n d = if d == 0 then MILLION else min MILLION (limit * max n d / d)
+by_component limit n d = if d == 0 then MILLION else min (limit * max n d / d) MILLION
 
 abbrev pub least_component : AxisRates → ℕ → AxisSteps → ℕ
 least_component limits n steps =

@@ -145,7 +145,10 @@ fn change_along<A: Allocator>(way: &Way, n: u64, machine: &Machine<A>) -> u32
 {
     match &machine.own {
         None => machine.change,
-        Some(limits) => machine.change.min(axes_change(&limits.changes, machine.step, way, n)),
+        Some(limits) => {
+            let axes = axes_change(&limits.changes, machine.step, way, n);
+            machine.change.min(axes)
+        }
     }
 }
 
