@@ -1,6 +1,5 @@
 -- The pulses of a run keep their rules: those of each axis, and those of path steps.
 use Rattle.std.proofs.Common.{◌≡◌, ℕ, ◌+◌, ◌*◌, ◌≤◌, sym, arith, refl, List, true, ℤ, Option, Some, None}
-use Rattle.std.specs.Prelude.{min}
 use Rattle.std.proofs.lemmas.Bool.{true≢false}
 use Rattle.ngc_fixed_length.specs.declared.points.StepPos.{StepPos}
 use Rattle.ngc_fixed_length.specs.Grid.{grid}

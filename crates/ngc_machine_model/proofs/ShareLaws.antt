@@ -1,21 +1,17 @@
 -- The shares of the axes on the path of a line.
-use Rattle.std.proofs.Common.{◌≡◌, ℕ, ◌+◌, ◌-◌, ◌*◌, ◌≤◌, max, subst, arith, List, length, Some, ℤ}
-use Rattle.ngc_fixed_length.specs.Grid.{grid, greatest_distance}
+use Rattle.std.proofs.Common.{◌≡◌, ℕ, ◌-◌, ◌*◌, ◌≤◌, max, subst, arith, List, length, ℤ}
+use Rattle.ngc_fixed_length.specs.Grid.{grid}
 use Rattle.ngc_fixed_length.specs.declared.points.Point3.{Point3}
 use Rattle.ngc_fixed_length.specs.declared.points.StepPos.{StepPos}
-use Rattle.ngc_machine_files.specs.MachineRanges.{IsMachine}
-use Rattle.ngc_machine_files.specs.declared.machine.AxisLimits.{AxisLimits}
 use Rattle.ngc_machine_files.specs.declared.machine.AxisRates.{AxisRates}
 use Rattle.ngc_commands.specs.ProgramPath.{IsPathOf}
 use Rattle.ngc_commands.specs.declared.command.Action.TheVariants.{Move}
-use Rattle.ngc_commands.specs.declared.movement.Motion.{Motion}
 use Rattle.ngc_commands.specs.declared.movement.Way.{Way}
 use Rattle.ngc_commands.specs.declared.movement.Way.TheVariants.{Line}
 use Rattle.ngc_planner.specs.Components.{AxisKeeps, AxesKeep, IsWithinComponents, IsChangeOfAxes, MayMoveAlong, MayChangeAlong, steps_between, change_of}
 use Rattle.ngc_planner.specs.declared.components.AxisSteps.{AxisSteps}
 use Rattle.ngc_planner.proofs.ComponentLaws.{greatest_change}
-use Rattle.ngc_machine_model.specs.State.{Job}
-use Rattle.ngc_machine_model.specs.Shares.{KeepsShare, KeepShares, LinesKeepShares}
+use Rattle.ngc_machine_model.specs.Shares.{KeepsShare, LinesKeepShares}
 
 -- the path has at least as many path steps as the axis moves
 share : (limit n d v : ℕ) → d ≤ n → AxisKeeps limit n d v → v * d ≤ limit * n

@@ -1,5 +1,5 @@
 -- The rules of rates, in millionths of a path step per tick. Our own.
-use Rattle.std.specs.Prelude.{◌≡◌, ℕ, suc, ◌+◌, ◌-◌, ◌≤◌, ◌<◌, min, max, ◌==◌, List, [], ◌∷◌, true, None}
+use Rattle.std.specs.Prelude.{◌≡◌, ℕ, ◌+◌, ◌-◌, ◌≤◌, ◌<◌, min, max, ◌==◌, List, [], ◌∷◌, true, None}
 use Rattle.std.specs.Prelude.{if◌then◌else◌}
 use Rattle.ngc_braking.specs.Braking.{braking}
 use Rattle.ngc_braking.specs.Work.{work}

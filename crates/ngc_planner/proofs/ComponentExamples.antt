@@ -1,11 +1,10 @@
 -- Rates and changes by axis on worked motions, by evaluating the definitions. The values were
 -- computed by hand and by an independent program.
-use Rattle.std.proofs.Common.{◌≡◌, ℕ, ◌×◌, ℤ, pos, negsuc, Some, false, refl}
+use Rattle.std.proofs.Common.{◌≡◌, ℕ, ℤ, pos, negsuc, Some, false, refl}
 use Rattle.std.specs.Prelude.{◌*ℤ◌}
 use Rattle.ngc_fixed_length.specs.declared.modes.Plane.{Plane}
 use Rattle.ngc_fixed_length.specs.declared.modes.Plane.TheVariants.{XY, ZX}
 use Rattle.ngc_fixed_length.specs.declared.modes.Turn.TheVariants.{Clockwise}
-use Rattle.ngc_fixed_length.specs.declared.points.Point3.{Point3}
 use Rattle.ngc_machine_files.specs.Machine.{MachineFile, built_in_machine}
 use Rattle.ngc_commands.specs.declared.command.Action.{Action}
 use Rattle.ngc_commands.specs.declared.command.Action.TheVariants.{Move}

@@ -12,7 +12,7 @@ use Rattle.ngc_fixed_length.specs.declared.modes.Plane.TheVariants.{XY, ZX, YZ}
 use Rattle.ngc_arc_geometry.specs.Shape.{ArcShape}
 use Rattle.ngc_machine_files.specs.Machine.{MachineFile}
 use Rattle.ngc_machine_files.specs.MachineRanges.{IsMachine}
-use Rattle.ngc_machine_files.specs.Ranges.{IsRate, AreRates, AreLimits}
+use Rattle.ngc_machine_files.specs.Ranges.{AreRates, AreLimits}
 use Rattle.ngc_machine_files.specs.declared.machine.AxisLimits.{AxisLimits}
 use Rattle.ngc_machine_files.specs.declared.machine.AxisRates.{AxisRates}
 use Rattle.ngc_commands.specs.declared.command.Action.{Action}
@@ -24,7 +24,7 @@ use Rattle.ngc_planner.specs.declared.components.AxisSteps.{AxisSteps}
 use Rattle.ngc_planner.specs.Axes.{IsWithinAxes, rate_where, least_rate, axes_of}
 use Rattle.ngc_planner.specs.Components.{steps_between, steps_along, plane_axes, third_rate, third_steps, AxisKeeps, AxesKeep, ArcKeeps, IsWithinComponents}
 use Rattle.ngc_planner.specs.Components.{by_component, least_component, component_rate, MayMoveAlong, MayMoveAxes, rate_along, axes_bound}
-use Rattle.ngc_planner.specs.Components.{IsChangeOfAxes, MayChangeAlong, MayChangeAxes, MayChange, axes_change, change_along, change_of, IsItsChange, IsGreatestChange, IsOneChange}
+use Rattle.ngc_planner.specs.Components.{IsChangeOfAxes, MayChangeAlong, MayChange, axes_change, change_along, change_of, IsGreatestChange, IsOneChange}
 use Rattle.ngc_planner.specs.Components.{least_of_changes, least_change, IsLeastChange}
 
 -- ---- the least of two or three

@@ -5,7 +5,7 @@ ghost use Rattle.ngc_machine_files.specs.Machine.{file_of};
 ghost use Rattle.ngc_planner.specs.Axes.{least_rate};
 ghost use Rattle.ngc_planner.specs.Components.{steps_between, third_rate, third_steps, plane_axes};
 ghost use Rattle.ngc_planner.specs.Components.{by_component, least_component, component_rate};
-ghost use Rattle.ngc_planner.specs.Components.{rate_along, axes_rate, axes_change};
+ghost use Rattle.ngc_planner.specs.Components.{axes_rate, axes_change};
 ghost use Rattle.ngc_planner.specs.Components.{change_along, change_of};
 
 use crate::axes::{Axes, axes_of, least_rate};
