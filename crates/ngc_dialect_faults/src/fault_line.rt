@@ -161,13 +161,7 @@ pub fn write_dialect_fault<W: Sink>(
     page.finish(output)
 }
 
-fn say_between<W: Sink>(
-    before: &[u8],
-    cause: &Cause,
-    after: &[u8],
-    page: &mut Page,
-    output: &mut W,
-)
+fn say_between<W: Sink>(before: &[u8], cause: &Cause, after: &[u8], page: &mut Page, output: &mut W)
     ensures { Says (W.written output.old) (W.written output.new)
         (W.failures output.old) (W.failures output.new) page.old page.new
         (before.now ++ (cause_text cause.now ++ after.now)) }
