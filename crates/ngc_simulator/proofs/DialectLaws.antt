@@ -31,7 +31,7 @@ use Rattle.ngc_inputs.proofs.SetupLaws.{on_placed}
 use Rattle.ngc_inputs.proofs.UnreadLaws.{AllRead, all_read, placed_read}
 use Rattle.ngc_simulator.specs.Answers.{DialectComes, dialect_inputs, source_input}
 use Rattle.ngc_simulator.specs.DialectPlaces.{PlacesDialect}
-use Rattle.ngc_simulator.specs.Dialects.{IsRead, IsSent, ListsDialect, OnDialect, StopsDialect, JobRefusal}
+use Rattle.ngc_simulator.specs.Dialects.{IsRead, IsSent, ListsDialect, OnDialect, StopsDialect, NotesRefusal}
 use Rattle.ngc_simulator.specs.Dialects.{CertifiesDialect, CertifiesJob, ChecksDialect, OnDialectJob}
 use Rattle.ngc_simulator.specs.declared.dialects.DialectFiles.{DialectFiles}
 use Rattle.ngc_simulator.specs.declared.dialects.Sent.{Sent}
@@ -106,7 +106,7 @@ list_read d setup block_delete source old new (Err _) lists = refl
 -- notes on a program that is refused
 pub job_refused : (d : Dialect) (setup : Setup) (source : List ℕ) (setting : Setting) (fault : DialectFault) (line : ℕ) (cause : Cause) (notes : Notes)
     → fault ≡ At line cause → IsRefusedAt d source setup setting fault
-    → (notes.is_written ≡ false) × (notes.text.items ≡ fault_line (Some setting) line cause) → JobRefusal d setup source notes
+    → (notes.is_written ≡ false) × (notes.text.items ≡ fault_line (Some setting) line cause) → NotesRefusal d setup source notes
 job_refused d setup source Off fault line cause notes is refused told = record {
   setting = Off;
   first = tt;
@@ -175,7 +175,7 @@ pub job_done : (d : Dialect) (setup : Setup) (source : List ℕ) (old new : Opti
 job_done d setup source old new Does j job does = (j, job, does)
 
 pub refused_check : (names : DialectFiles) (bytes : FileBytes) (sent : Sent) (certificate old : Option (List ℕ)) (notes : Notes) → IsSent names bytes sent
-    → JobRefusal sent.dialect (setup_of sent.shop.machine sent.shop.tools) sent.text.items notes
+    → NotesRefusal sent.dialect (setup_of sent.shop.machine sent.shop.tools) sent.text.items notes
     → OnDialect names.control.now bytes (option_map (λ n. n.now) names.machine) (option_map (λ n. n.now) names.tools) names.changes
     (option_map (λ n. n.now) names.program) (λ d setup source. ChecksDialect d setup source certificate old old (Ok (WithNotes notes)))
 refused_check names bytes sent certificate old notes is refused =

@@ -33,7 +33,7 @@ use Rattle.ngc_run_log.specs.Living.{LiveData, LivesOn, LivesToRest}
 use Rattle.ngc_run_through.specs.declared.report.Report.{Report}
 use Rattle.ngc_run_through.specs.declared.report.RunFault.{RunFault}
 use Rattle.ngc_run_through.specs.declared.report.RunFault.TheVariants as runs
-use Rattle.ngc_simulator.specs.Dialects.{IsSent, JobRefusal, OnDialect}
+use Rattle.ngc_simulator.specs.Dialects.{IsSent, NotesRefusal, OnDialect}
 use Rattle.ngc_simulator.specs.declared.dialects.DialectFiles.{DialectFiles}
 use Rattle.ngc_simulator.specs.declared.dialects.Sent.{Sent}
 use Rattle.ngc_simulator.specs.DialectRuns.{IsJobVerdict, JudgesJob, LivesDialect, LivesJob, LivesJobAt, RunsDialect, RunsDialectThrough, RunsJob, RunsJobOver, RunsJobThrough, RunsJobWhole}
@@ -221,7 +221,7 @@ module _ (names : DialectFiles) (bytes : FileBytes) (sent : Sent) (certificate :
     memory_through old is = on_dialect names bytes sent
         (λ d s source. RunsDialectThrough writing d s source certificate block_delete old old (Err answers.Memory)) is (inl (refl, keeps_same old))
 
-    pub refused_through : (old : Option (List ℕ)) (notes : Notes) → IsSent names bytes sent → JobRefusal sent.dialect setup sent.text.items notes
+    pub refused_through : (old : Option (List ℕ)) (notes : Notes) → IsSent names bytes sent → NotesRefusal sent.dialect setup sent.text.items notes
         → Through old old (Ok (WithNotes notes))
     refused_through old notes is refused = on_dialect names bytes sent
         (λ d s source. RunsDialectThrough writing d s source certificate block_delete old old (Ok (WithNotes notes))) is (refused, keeps_same old)
@@ -248,7 +248,7 @@ module _ (names : DialectFiles) (bytes : FileBytes) (sent : Sent) (certificate :
       memory_over old is = on_dialect names bytes sent
           (λ d s source. RunsDialect writing d s source certificate events block_delete old old (Err answers.Memory)) is (inl (refl, keeps_same old))
 
-      pub refused_over : (old : Option (List ℕ)) (notes : Notes) → IsSent names bytes sent → JobRefusal sent.dialect setup sent.text.items notes
+      pub refused_over : (old : Option (List ℕ)) (notes : Notes) → IsSent names bytes sent → NotesRefusal sent.dialect setup sent.text.items notes
           → Over old old (Ok (WithNotes notes))
       refused_over old notes is refused = on_dialect names bytes sent
           (λ d s source. RunsDialect writing d s source certificate events block_delete old old (Ok (WithNotes notes))) is (refused, keeps_same old)
@@ -274,7 +274,7 @@ module _ (names : DialectFiles) (bytes : FileBytes) (sent : Sent) (certificate :
     memory_live old is = on_dialect names bytes sent
         (λ d s source. LivesDialect request d s source certificate input block_delete old old (Err answers.Memory)) is (inl (refl, keeps_same old))
 
-    pub refused_live : (old : Option (List ℕ)) (notes : Notes) → IsSent names bytes sent → JobRefusal sent.dialect setup sent.text.items notes
+    pub refused_live : (old : Option (List ℕ)) (notes : Notes) → IsSent names bytes sent → NotesRefusal sent.dialect setup sent.text.items notes
         → Live old old (Ok (WithNotes notes))
     refused_live old notes is refused = on_dialect names bytes sent
         (λ d s source. LivesDialect request d s source certificate input block_delete old old (Ok (WithNotes notes))) is (refused, keeps_same old)

@@ -23,7 +23,7 @@ use Rattle.ngc_run_log.specs.Living.{LiveData, LivesOn, LivesToRest}
 use Rattle.ngc_run_through.specs.declared.report.Report.{Report}
 use Rattle.ngc_run_through.specs.declared.report.RunFault.{RunFault}
 use Rattle.ngc_run_through.specs.declared.report.RunFault.TheVariants as runs
-use Rattle.ngc_simulator.specs.Dialects.{JobRefusal}
+use Rattle.ngc_simulator.specs.Dialects.{NotesRefusal}
 use Rattle.ngc_simulator.specs.Running.{AreNoEvents, IsTimeOf, RecordsRun, RecordsThrough}
 use Rattle.ngc_simulator.specs.declared.done.Done.{Done}
 use Rattle.ngc_simulator.specs.declared.done.Done.TheVariants.{Quietly, RunThrough, WithNotes}
@@ -149,7 +149,7 @@ RunsDialectThrough writing d setup source certificate block_delete old new (Ok (
     IfSome certificate (λ text. RunsJobThrough writing j text block_delete old new (Ok report)) ×
     IsTimeOf setup report time
 RunsDialectThrough writing d setup source certificate block_delete old new (Ok (WithNotes notes)) =
-    JobRefusal d setup source notes × Keeps old new
+    NotesRefusal d setup source notes × Keeps old new
 RunsDialectThrough writing d setup source certificate block_delete old new (Err fault) =
     LacksMemory old new fault ⊎ ((j : JobData) × IsDialectJob d source setup j ×
     IfSome certificate (λ text. RunsJobThrough writing j text block_delete old new (Err fault)))
@@ -163,7 +163,7 @@ RunsDialect writing d setup source certificate events block_delete old new (Ok Q
     (λ es. RunsJob writing j text es block_delete old new (Ok report)))
 RunsDialect writing d setup source certificate events block_delete old new (Ok (RunThrough time)) = ⊥
 RunsDialect writing d setup source certificate events block_delete old new (Ok (WithNotes notes)) =
-    JobRefusal d setup source notes × Keeps old new
+    NotesRefusal d setup source notes × Keeps old new
 RunsDialect writing d setup source certificate events block_delete old new (Err fault) =
     LacksMemory old new fault ⊎ ((j : JobData) × IsDialectJob d source setup j ×
     IfSome certificate (λ text. IfSome events
@@ -177,7 +177,7 @@ LivesDialect request d setup source certificate input block_delete old new (Ok Q
     (rest : Option (List ℕ)) × LivesJob request j text block_delete input rest old new (Ok tt))
 LivesDialect request d setup source certificate input block_delete old new (Ok (RunThrough time)) = ⊥
 LivesDialect request d setup source certificate input block_delete old new (Ok (WithNotes notes)) =
-    JobRefusal d setup source notes × Keeps old new
+    NotesRefusal d setup source notes × Keeps old new
 LivesDialect request d setup source certificate input block_delete old new (Err fault) =
     LacksMemory old new fault ⊎ ((j : JobData) × IsDialectJob d source setup j ×
     IfSome certificate (λ text. (rest : Option (List ℕ)) ×

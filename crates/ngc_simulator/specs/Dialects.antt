@@ -1,6 +1,6 @@
 -- The results of commands on a program for another control. Our own.
 use Rattle.std.specs.Prelude.{◌≡◌, ℕ, List, Option, Some, None, Result, Ok, Err, Bool, true, false}
-use Rattle.std.specs.Prelude.{IfSome, option_map, ◌++◌, nat_le, if◌then◌else◌}
+use Rattle.std.specs.Prelude.{IfSome, option_map}
 use Rattle.std.specs.Io.KnownBytes.{Appends, Keeps}
 use Rattle.ngc_text.specs.Written.{AppendsPrefix}
 use Rattle.ngc_canonical.specs.State.{Setup}
@@ -15,7 +15,6 @@ use Rattle.ngc_command_line.specs.declared.options.Format.{Format}
 use Rattle.ngc_dialect_execution.specs.Faults.{FailsBy}
 use Rattle.ngc_dialect_execution.specs.Program.{meaning_in}
 use Rattle.ngc_dialect_execution.specs.declared.fault.Cause.{Cause}
-use Rattle.ngc_dialect_execution.specs.declared.fault.Cause.TheVariants.{Reading}
 use Rattle.ngc_dialect_execution.specs.declared.fault.DialectFault.TheVariants.{At}
 use Rattle.ngc_dialect_faults.specs.Lines.{fault_line}
 use Rattle.ngc_dialect_job.specs.Job.{IsDialectJob}
@@ -27,11 +26,8 @@ use Rattle.ngc_inputs.specs.Shops.{PlacedResultIs, RefusesPlaced}
 use Rattle.ngc_inputs.specs.declared.fault.AnswerFault.{AnswerFault}
 use Rattle.ngc_inputs.specs.declared.fault.AnswerFault.TheVariants as answers
 use Rattle.ngc_job.specs.Job.{JobData}
-use Rattle.ngc_line_reader.specs.Program.{lines_of}
 use Rattle.ngc_listing.specs.Listing.{listing}
 use Rattle.ngc_margins.specs.declared.changes.Changes.{Changes}
-use Rattle.ngc_report.specs.Quotes.{bytes_with, marked, quoted}
-use Rattle.ngc_report.specs.declared.form.Form.TheVariants.{Words}
 use Rattle.ngc_simulator.specs.declared.dialects.DialectFiles.{DialectFiles}
 use Rattle.ngc_simulator.specs.declared.dialects.Sent.{Sent}
 use Rattle.ngc_simulator.specs.declared.done.Done.{Done}
@@ -86,25 +82,6 @@ pub record NotesFault (d : Dialect) (setup : Setup) (block_delete : Bool) (sourc
   pub reports : notes.text.items ≡ fault_line setting line cause
   pub unwritten : notes.is_written ≡ false
 
--- the line of a fault as it is written, with a mark below the column from which it can't be read
-abbrev pub marked_line : ℕ → ℕ → List ℕ → List ℕ
-marked_line line column source =
-    if nat_le column 65535 then marked Words line column (bytes_with line (lines_of source))
-    else quoted Words line (lines_of source)
-
-abbrev pub fault_place : ℕ → Cause → List ℕ → List ℕ
-fault_place line (Reading fault) source = marked_line line fault.column source
-fault_place line _ source = quoted Words line (lines_of source)
-
--- the same, and the line of the program is quoted
-pub record QuotesFault (d : Dialect) (setup : Setup) (block_delete : Bool) (source : List ℕ)
-    (setting : Option Setting) (notes : Notes) : Type 0 where
-  pub line : ℕ
-  pub cause : Cause
-  pub refuses : FailsBy (At line cause) (meaning_in d setup block_delete source)
-  pub reports : notes.text.items ≡ fault_line setting line cause ++ fault_place line cause source
-  pub unwritten : notes.is_written ≡ false
-
 -- ---- listing
 
 -- the listing of the commands of a program's text
@@ -141,18 +118,11 @@ PassesBefore On d setup source =
     (off : List Command) × (meaning_in d setup false source ≡ Ok off)
 
 -- a program is refused at the first setting of block delete at which it is, and notes say why
-pub record JobRefusal (d : Dialect) (setup : Setup) (source : List ℕ) (notes : Notes) : Type 0
-  where
-    pub setting : Setting
-    pub first : PassesBefore setting d setup source
-    pub says : NotesFault d setup (is_on setting) source (Some setting) notes
-
--- the same, and the notes quote the line
 pub record NotesRefusal (d : Dialect) (setup : Setup) (source : List ℕ) (notes : Notes) : Type 0
   where
     pub setting : Setting
     pub first : PassesBefore setting d setup source
-    pub says : QuotesFault d setup (is_on setting) source (Some setting) notes
+    pub says : NotesFault d setup (is_on setting) source (Some setting) notes
 
 -- From what the sink had taken to what it has taken now: the text of the certificate that is made for
 -- a job was written, or a prefix of it if the sink failed; where none is made, the output is
@@ -187,7 +157,7 @@ OnDialectJob d setup source old new Does (Ok Quietly) =
     (j : JobData) × IsDialectJob d source setup j × Does j (Ok tt)
 OnDialectJob d setup source old new Does (Ok (RunThrough time)) = ⊥
 OnDialectJob d setup source old new Does (Ok (WithNotes notes)) =
-    JobRefusal d setup source notes × Keeps old new
+    NotesRefusal d setup source notes × Keeps old new
 OnDialectJob d setup source old new Does (Err answers.Memory) = Keeps old new
 OnDialectJob d setup source old new Does (Err fault) =
     (j : JobData) × IsDialectJob d source setup j × Does j (Err fault)

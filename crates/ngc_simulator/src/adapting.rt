@@ -10,7 +10,7 @@ ghost use Rattle.ngc_simulator.specs.Answers.{AdaptResult, adapt_inputs};
 ghost use Rattle.ngc_inputs.specs.Faults.{FailsByOutput};
 ghost use Rattle.ngc_inputs.specs.Unread.{FailsByInput, SourceFails};
 
-use crate::dialects::{DialectFiles, Sent, read_sent, traced_once};
+use crate::dialects::{DialectFiles, Sent, read_sent, traced_at};
 use crate::done::{Done, Notes};
 use ngc_command_line::AdaptOptions;
 use ngc_dialect_execution::{KeptLine, Traced, Wanted};
@@ -99,7 +99,7 @@ fn adapt_sent<W: Sink>(
 {
     let text = sent.text.as_slice();
     let shop = &sent.shop;
-    let traced = match traced_once(alloc, EVERYTHING, sent.dialect, text, shop, block_delete)? {
+    let traced = match traced_at(alloc, EVERYTHING, sent.dialect, text, shop, block_delete)? {
         Ok(traced) => traced,
         Err(notes) => return Ok(Done::WithNotes(notes)),
     };

@@ -7,7 +7,7 @@ ghost use Rattle.ngc_text.specs.Failures.{Rises};
 ghost use Rattle.ngc_simulator.specs.Answers.{DialectCertifyResult, DialectCheckResult};
 ghost use Rattle.ngc_simulator.specs.Answers.{certify_inputs_in, check_inputs_in};
 ghost use Rattle.ngc_simulator.specs.Dialects.{CertifiesDialect, CertifiesJob, ChecksJob};
-ghost use Rattle.ngc_simulator.specs.Dialects.{JobRefusal};
+ghost use Rattle.ngc_simulator.specs.Dialects.{NotesRefusal};
 ghost use Rattle.ngc_inputs.specs.Faults.{FailsByOutput, OfChecking};
 ghost use Rattle.ngc_inputs.specs.Unread.{FailsByInput, SourceFails};
 
@@ -33,7 +33,7 @@ pub(crate) fn job_of_text(
 ) -> Result<Result<Job<Global>, Notes>, AnswerFault>
     ensures job { IfOk result (λ made. MatchResult made
         (λ j. IsDialectJob dialect text.now (setup_of shop.machine shop.tools) j)
-        (JobRefusal dialect (setup_of shop.machine shop.tools) text.now)) }
+        (NotesRefusal dialect (setup_of shop.machine shop.tools) text.now)) }
     ensures fault { IfErr result (λ e. e ≡ AnswerFault.Memory) }
 {
     match dialect_job(alloc, dialect, text, shop.machine, shop.tools) {
@@ -53,7 +53,7 @@ pub(crate) fn job_of(alloc: Global, sent: Sent) -> Result<Result<Job<Global>, No
     ensures job { IfOk result (λ made. MatchResult made
         (λ j. IsDialectJob sent.dialect sent.text.items
         (setup_of sent.shop.machine sent.shop.tools) j)
-        (JobRefusal sent.dialect (setup_of sent.shop.machine sent.shop.tools) sent.text.items)) }
+        (NotesRefusal sent.dialect (setup_of sent.shop.machine sent.shop.tools) sent.text.items)) }
     ensures fault { IfErr result (λ e. e ≡ AnswerFault.Memory) }
 {
     let shop = sent.shop;

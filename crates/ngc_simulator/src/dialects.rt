@@ -1,19 +1,16 @@
 //! Programs for other controls that are executed in their own language: their files, their commands, and
 //! why they are refused.
-ghost use Rattle.std.specs.Prelude.{◌≡◌, ◌++◌, false, IfErr, IfOk, IfSome, IsSome, MatchResult, OnErr, OnOk};
-ghost use Rattle.std.specs.Prelude.{None, Ok, Some, option_map};
-ghost use Rattle.std.specs.Io.KnownBytes.{Appends};
-ghost use Rattle.ngc_text.specs.Failures.{CountsFailure};
-ghost use Rattle.ngc_text.specs.Written.{AppendsPrefix};
+ghost use Rattle.std.specs.Prelude.{◌≡◌, false, IfErr, IfOk, IfSome, IsSome, MatchResult, None, OnOk, Ok, Some, option_map};
 ghost use Rattle.ngc_file_figures.specs.Files.{stored};
 ghost use Rattle.ngc_canonical.specs.Interpreter.{setup_of};
+ghost use Rattle.ngc_dialect_execution.specs.Faults.{FailsBy};
 ghost use Rattle.ngc_dialect_execution.specs.Program.{meaning_in};
+ghost use Rattle.ngc_dialect_execution.specs.declared.fault.DialectFault.TheVariants.{At};
 ghost use Rattle.ngc_dialect_faults.specs.Lines.{fault_line};
 ghost use Rattle.ngc_simulator.specs.Answers.{StopsReport, dialect_inputs, report_inputs_in};
 ghost use Rattle.ngc_simulator.specs.Cells.{is_idle};
 ghost use Rattle.ngc_simulator.specs.DialectReports.{IsTraced, dialect_frames};
-ghost use Rattle.ngc_simulator.specs.Dialects.{IsRead, IsSent, NotesFault, QuotesFault, StopsSending};
-ghost use Rattle.ngc_simulator.specs.Dialects.{fault_place, marked_line};
+ghost use Rattle.ngc_simulator.specs.Dialects.{IsRead, IsSent, NotesFault, StopsSending};
 ghost use Rattle.ngc_inputs.specs.Faults.{FailsByOutput};
 ghost use Rattle.ngc_inputs.specs.Setups.{AreFiguresIn, KeepsFiles, KeepsNamed};
 ghost use Rattle.ngc_inputs.specs.Unread.{FailsByInput, ReportsUnread, SourceFails};
@@ -33,8 +30,7 @@ use ngc_dialect_names::Dialect;
 use ngc_frames::FramedCommands;
 use ngc_inputs::{AnswerFault, FILE_LIMIT, Files, Shop, open_file, read_placed};
 use ngc_margins::Changes;
-use ngc_report::{Form, write_source_line, write_text_line};
-use ngc_text::{Device, InputFault, Sink, WriteFault, read_whole};
+use ngc_text::{Device, InputFault, Sink, read_whole};
 use std::alloc::Global;
 
 /// The names of a control and of the files for it.
@@ -161,106 +157,20 @@ pub(crate) fn refused(
     }
 }
 
-// Writes a line of a program, with a mark below a column.
-fn write_marked<W: Sink>(
-    line: u32,
-    column: usize,
-    text: &[u8],
-    output: &mut W,
-) -> Result<(), WriteFault>
-    ensures ok { OnOk result
-        (Appends (W.written output.old) (W.written output.new) (marked_line line column text.now)) }
-    ensures fault { OnErr result
-        (AppendsPrefix (W.written output.old) (W.written output.new)
-        (marked_line line column text.now)) }
-    ensures counts { CountsFailure (W.failures output.old) (W.failures output.new) result }
-{
-    if column <= 65535 {
-        write_source_line(Form::Words, text, line, column as u16, output)
-    } else {
-        write_text_line(Form::Words, text, line, output)
-    }
-}
-
-// Writes the line of a fault, with a mark below the column from which it can't be read.
-fn write_place<W: Sink>(
-    line: u32,
-    cause: &Cause,
-    text: &[u8],
-    output: &mut W,
-) -> Result<(), WriteFault>
-    ensures ok { OnOk result
-        (Appends (W.written output.old) (W.written output.new)
-        (fault_place line cause.now text.now)) }
-    ensures fault { OnErr result
-        (AppendsPrefix (W.written output.old) (W.written output.new)
-        (fault_place line cause.now text.now)) }
-    ensures counts { CountsFailure (W.failures output.old) (W.failures output.new) result }
-{
-    match cause {
-        Cause::Reading(fault) => write_marked(line, fault.column, text, output),
-        _ => write_text_line(Form::Words, text, line, output),
-    }
-}
-
-// Writes why a program is refused, and the line.
-fn write_quoted_fault<W: Sink>(
-    setting: Option<Setting>,
-    line: u32,
-    cause: &Cause,
-    text: &[u8],
-    output: &mut W,
-) -> Result<(), WriteFault>
-    ensures ok { OnOk result
-        (Appends (W.written output.old) (W.written output.new)
-        (fault_line setting line cause.now ++ fault_place line cause.now text.now)) }
-    ensures fault { OnErr result
-        (AppendsPrefix (W.written output.old) (W.written output.new)
-        (fault_line setting line cause.now ++ fault_place line cause.now text.now)) }
-    ensures counts { CountsFailure (W.failures output.old) (W.failures output.new) result }
-{
-    write_dialect_fault(setting, line, cause, output)?;
-    write_place(line, cause, text, output)
-}
-
-// Returns the notes on a program that is refused, which quote the line.
-fn refused_quoting(
-    alloc: Global,
-    setting: Option<Setting>,
-    line: u32,
-    cause: &Cause,
-    text: &[u8],
-) -> Result<Notes, AnswerFault>
-    ensures notes { IfOk result (λ notes. (notes.is_written ≡ false)
-        × (notes.text.items ≡ fault_line setting line cause.now
-        ++ fault_place line cause.now text.now)) }
-    ensures fault { IfErr result (λ e. e ≡ AnswerFault.Memory) }
-{
-    let mut said = Device::new(Vec::new(alloc));
-    match write_quoted_fault(setting, line, cause, text, &mut said) {
-        Ok(()) => Ok(Notes {
-            text: said.into_inner(),
-            is_written: false,
-        }),
-        Err(_) => Err(AnswerFault::Memory),
-    }
-}
-
-/// Executes a program at a setting of block delete for a report, and returns what was executed with what
-/// is wanted besides, or notes on why it is refused. They name the setting, and quote the line.
-pub(crate) fn traced_at(
+/// Executes a program at a setting of block delete, and returns what was executed with what is wanted
+/// besides, or the line at which it is refused and why.
+pub(crate) fn executed_at(
     alloc: Global,
     wanted: Wanted,
     dialect: Dialect,
     text: &[u8],
     shop: &Shop,
     block_delete: bool,
-    setting: Option<Setting>,
-) -> Result<Result<Traced<Global>, Notes>, AnswerFault>
+) -> Result<Result<Traced<Global>, (u32, Cause)>, AnswerFault>
     ensures executed { IfOk result (λ made. MatchResult made
         (IsTraced wanted dialect (setup_of shop.now.machine shop.now.tools) block_delete text.now)
-        (QuotesFault dialect (setup_of shop.now.machine shop.now.tools) block_delete text.now
-        setting)) }
+        (λ why. FailsBy (At why.0 why.1)
+        (meaning_in dialect (setup_of shop.now.machine shop.now.tools) block_delete text.now))) }
     ensures fault { IfErr result (λ e. e ≡ AnswerFault.Memory) }
 {
     match trace_dialect(
@@ -274,16 +184,12 @@ pub(crate) fn traced_at(
     ) {
         Ok(traced) => Ok(Ok(traced)),
         Err(DialectFault::Memory) => Err(AnswerFault::Memory),
-        Err(DialectFault::At { line, cause }) => {
-            let notes = refused_quoting(alloc, setting, line, &cause, text)?;
-            Ok(Err(notes))
-        }
+        Err(DialectFault::At { line, cause }) => Ok(Err((line, cause))),
     }
 }
 
-/// Executes a program at a setting of block delete, and returns what was executed with what is wanted
-/// besides, or notes on why it is refused.
-pub(crate) fn traced_once(
+/// Executes a program as `executed_at` does, and returns what was executed, or notes on why it is refused.
+pub(crate) fn traced_at(
     alloc: Global,
     wanted: Wanted,
     dialect: Dialect,
@@ -297,18 +203,9 @@ pub(crate) fn traced_once(
         None)) }
     ensures fault { IfErr result (λ e. e ≡ AnswerFault.Memory) }
 {
-    match trace_dialect(
-        alloc,
-        wanted,
-        dialect,
-        text,
-        &shop.machine,
-        &shop.tools,
-        block_delete,
-    ) {
+    match executed_at(alloc, wanted, dialect, text, shop, block_delete)? {
         Ok(traced) => Ok(Ok(traced)),
-        Err(DialectFault::Memory) => Err(AnswerFault::Memory),
-        Err(DialectFault::At { line, cause }) => {
+        Err((line, cause)) => {
             let notes = refused(alloc, None, line, &cause)?;
             Ok(Err(notes))
         }
