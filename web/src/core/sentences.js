@@ -103,7 +103,7 @@ function refusedSentence(report, group) {
   return { kind: 'bad', line: group.line.number, column: group.mark?.column, title: `Line ${group.line.number} ${what}: ${small(reason ?? `${cause}.`)}`, note: reason ?? `${cause}.`, detail: remedy };
 }
 
-// A program in a dialect has no report where it is refused, but one line with what is wrong, as `cutter compensation: not supported`.
+// A program in a dialect that is refused has one line with what is wrong, as `cutter compensation: not supported`.
 function refusalSentence({ refusal, dialect, explanation }) {
   const { setting, line, column, word } = refusal, words = refusal.words.replace(/^(the|this) dialect has/, `${CONTROLS[dialect]} has`).replace(/^(.*): not supported$/, "ngc doesn't support $1");
   const where = column ? `can't be read at column ${column}` : `is refused${word ? ` at ${word}` : ''}`, when = setting === 'on' ? ' with block delete on' : '';
