@@ -1,5 +1,6 @@
 //! Sums of lengths.
 ghost use Rattle.std.specs.Prelude.{◌≡◌, ◌≤◌, ◌<◌, ◌+◌, ◌*◌, true, IfOk, IfSome, drop, length, unsigned_abs};
+ghost use Rattle.std.specs.List.{prefix_len};
 ghost use Rattle.ngc_quantities.specs.Sums as spec;
 ghost use Rattle.ngc_quantities.specs.Written.{is_sign};
 
@@ -61,16 +62,21 @@ fn is_no_sign(byte: u8) -> bool
     !is_sign(byte)
 }
 
-// Returns the index of the first sign after the first byte, or at least the length if there is none.
+// Returns the number of bytes before the first sign, which is all of them if there is none.
 #[tactic(auto, using(crate::proofs::Counts::counted))]
+fn unsigned_length(text: &[u8]) -> usize
+    ensures count { result ≡ prefix_len spec.is_no_sign text.now }
+    ensures within { result ≤ length text.now }
+{
+    text.iter().take_while(|byte| is_no_sign(**byte)).count()
+}
+
+// Returns the index of the first sign after the first byte, or at least the length if there is none.
 fn sign_index(text: &[u8]) -> usize
     requires { length text.now ≤ 256 }
-    ensures value { result ≡ spec.sign_index text.now }
+    ensures { result ≡ spec.sign_index text.now }
 {
-    1 + without_first(text)
-        .iter()
-        .take_while(|byte| is_no_sign(**byte))
-        .count()
+    unsigned_length(without_first(text)) + 1
 }
 
 // Returns the index of the first sign if it is between two lengths.

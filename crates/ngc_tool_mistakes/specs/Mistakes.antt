@@ -2,9 +2,6 @@
 use Rattle.std.specs.Prelude.{ℕ, List, [], ◌++◌, codes, Option, Some, None, Result, Ok, Err}
 use Rattle.std.specs.Prelude.{if◌then◌else◌, Bool, true, false, ◌&&◌, is_none}
 use Rattle.toml.specs.Data.{Data, string, get, at}
-use Rattle.ngc_machine_figures.specs.declared.key.Key.TheVariants.{Version}
-use Rattle.ngc_machine_figures.specs.declared.refusal.FileRefusal.{FileRefusal}
-use Rattle.ngc_machine_figures.specs.declared.refusal.Wrong.TheVariants.{Missing}
 use Rattle.ngc_machine_figures.specs.Version.{is_written}
 use Rattle.ngc_machine_files.specs.Tree.{tree_of}
 use Rattle.ngc_machine_files.specs.declared.fault.FileFault.{FileFault}
@@ -46,17 +43,10 @@ are_measured (Some tools) = is_measured (at 0 tools)
 unfoldable pub forgets_version : Data → Bool
 forgets_version tree = is_none (get (codes "version") tree) && are_measured (get (codes "tool") tree)
 
--- the key `version` is missing
-unfoldable pub forgotten : FileRefusal
-forgotten = record { key = Version; wrong = Missing }
-
-abbrev pub forgotten_text : List ℕ → List ℕ → List ℕ
-forgotten_text name bytes = keys.refusal_text name bytes forgotten
-
 abbrev pub tree_text : List ℕ → List ℕ → FileFault → Data → List ℕ
 tree_text name bytes fault tree =
     if is_written tree then third_text name bytes (written_tools tree) else (
-    if forgets_version tree then forgotten_text name bytes else tools_mistake_text bytes fault)
+    if forgets_version tree then keys.forgotten_text name bytes else tools_mistake_text bytes fault)
 
 abbrev pub text_in : List ℕ → List ℕ → FileFault → Option Data → List ℕ
 text_in name bytes fault None = tools_mistake_text bytes fault
