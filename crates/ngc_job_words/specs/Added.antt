@@ -1,7 +1,7 @@
 -- The words that a job file adds to a call. The call with a job file is the call with these words. Our
 -- own.
 use Rattle.std.specs.Prelude.{ℕ, ◌+◌, List, [], ◌∷◌, ◌++◌, map, codes}
-use Rattle.std.specs.Prelude.{Option, Some, None, option_map, is_some, Bool, not, ◌&&◌, if◌then◌else◌}
+use Rattle.std.specs.Prelude.{Option, Some, None, option_map, is_some, Bool, false, not, ◌&&◌, ◌||◌, ◌==◌, drop, if◌then◌else◌}
 use Rattle.std.specs.List.{list_any}
 use Rattle.ngc_dialect_names.specs.Names.{name_of as dialect_name}
 use Rattle.ngc_dialect_names.specs.declared.dialect.Dialect.{Dialect}
@@ -48,9 +48,17 @@ dialect_words words dialect =
 
 -- ---- origins: one for each system that has none by the words
 
+-- the code in a value may begin with a G
+abbrev pub begins_g : Text → Bool
+begins_g [] = false
+begins_g (b ∷ bs) = (b == 71) || (b == 103)
+
+abbrev pub without_g : Text → Text
+without_g value = if begins_g value then drop 1 value else value
+
 -- the value of the option is for the system with this code
 abbrev pub begins_code : Text → Text → Bool
-begins_code code value = is_some (value_in code value)
+begins_code code value = is_some (value_in code (without_g value))
 
 abbrev pub has_system : List Text → ℕ → Bool
 has_system values system = list_any (begins_code (system_code system)) values

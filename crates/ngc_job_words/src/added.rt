@@ -160,10 +160,20 @@ fn add_dialect(
     add_option(added, alloc, words, JobOption::From, from)
 }
 
+// Returns the value of `--origin` without the G that its code may begin with.
+fn without_g(value: &str) -> &str
+    ensures { result.now ≡ spec.without_g value.now }
+{
+    match value.strip_prefix('G') {
+        Some(rest) => rest,
+        None => value.strip_prefix('g').unwrap_or(value),
+    }
+}
+
 fn begins_code(code: &str, value: &str) -> bool
     ensures { result ≡ spec.begins_code code.now value.now }
 {
-    value_in(code, value).is_some()
+    value_in(code, without_g(value)).is_some()
 }
 
 fn has_system_in(code: &str, values: &[&str]) -> bool
