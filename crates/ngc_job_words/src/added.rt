@@ -13,7 +13,7 @@ use crate::command::{JobOption, family_of};
 use crate::folder::path_in;
 use crate::text::{fixture_text, millimetres, origin_text, stock_text, system_code};
 use crate::values::values_of;
-use crate::word::{has, value_in};
+use crate::word::{has, after, value_in};
 use ngc_dialect_names::Dialect;
 use ngc_job_files::{JobFixture, JobHead, JobPaths, JobSheet};
 use ngc_machine_figures::{Length, StockSheet};
@@ -164,9 +164,9 @@ fn add_dialect(
 fn without_g(value: &str) -> &str
     ensures { result.now ≡ spec.without_g value.now }
 {
-    match value.strip_prefix('G') {
+    match after("G", value) {
         Some(rest) => rest,
-        None => value.strip_prefix('g').unwrap_or(value),
+        None => after("g", value).unwrap_or(value),
     }
 }
 
