@@ -13,7 +13,9 @@ use Rattle.ngc_events.specs.declared.event_fault.EventFault.TheVariants.{RingFul
 use Rattle.ngc_events.specs.declared.reply.Reply.TheVariants.{Loaded}
 use Rattle.ngc_fixed_length.specs.LinePath.{point}
 use Rattle.ngc_fixed_length.specs.declared.points.StepPos.{StepPos}
+use Rattle.ngc_machine_files.specs.Machine.{MachineFile}
 use Rattle.ngc_machine_files.specs.MachineRanges.{IsMachine}
+use Rattle.ngc_planner.specs.Components as planner
 use Rattle.ngc_planner.proofs.ComponentLaws.{least_changes}
 use Rattle.ngc_machine_model.specs.State.{Job, Queued, State, command_at, loaded, millionths, path_steps, change_of, least_change}
 use Rattle.ngc_machine_model.specs.RateRules.{target}
@@ -78,8 +80,8 @@ by_tick false [] job s o t machine held p = rests job s o t held p
 by_tick false (l ∷ ls) job s o t machine held p = by_steps (nat_lt 0 (path_steps l)) job l ls s o t machine held p
 
 -- the least change is at least 1
-pub least_change_some : (job : Job) → IsMachine job.machine → 1 ≤ least_change job
-least_change_some job machine = (least_changes job.machine End 0 machine).some
+pub least_change_some : (m : MachineFile) → IsMachine m → 1 ≤ planner.least_change m
+least_change_some m machine = (least_changes m End 0 machine).some
 
 -- ---- with the loads that come before it
 
