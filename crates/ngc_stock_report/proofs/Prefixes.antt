@@ -31,3 +31,9 @@ pub third_fault : (r : Result (Unit {0}) WriteFault) (old one two new : Option (
 third_fault (Ok u) old one two new a b c d is h k p = tt
 third_fault (Err e) old one two new a b c d is h k p =
     begins_last old one new a (b ++ d) h (begins_last one two new b d k (begins_as two new c d is p))
+
+-- one text and then a prefix of a second
+pub second_fault : (r : Result (Unit {0}) WriteFault) (old one new : Option (List ℕ)) (a b : List ℕ) → Appends old one a → OnErr r (AppendsPrefix one new b)
+    → OnErr r (AppendsPrefix old new (a ++ b))
+second_fault (Ok u) old one new a b h p = tt
+second_fault (Err e) old one new a b h p = begins_last old one new a b h p

@@ -8,6 +8,7 @@ mod cells;
 mod grids;
 pub mod laws;
 mod placed;
+mod uncut;
 mod walked;
 mod written;
 
