@@ -18,6 +18,7 @@ use Rattle.ngc_material.specs.declared.walk.Found.{Found}
 use Rattle.ngc_material_report.specs.Sentences.{touches_text, depths_text, cuts_text, untested_text}
 use Rattle.ngc_report.specs.declared.form.Form.{Form}
 use Rattle.ngc_report.specs.declared.form.Form.TheVariants.{Words, Json}
+use Rattle.ngc_stock_report.specs.Overlaps.{overlaps_text}
 use Rattle.ngc_stock_report.specs.Placed.{origin_at}
 use Rattle.ngc_stock_report.specs.Uncut.{uncut_text}
 use Rattle.ngc_stock_report.specs.Walked.{WalkData}
@@ -100,6 +101,10 @@ told_text form m tools commands w = uncut_text form m m.stock w.stock.grid comma
 
 -- the motions that may touch material, the tool changes in it, the feeds below it, how deep feeds cut, and
 -- what isn't tested
-abbrev pub material_text : Form → MachineFile → List Tool → List Command → Option WalkData → List ℕ
-material_text form m tools commands None = unwalked_text form m.stock
-material_text form m tools commands (Some w) = told_text form m tools commands w
+abbrev pub walked_text : Form → MachineFile → List Tool → List Command → Option WalkData → List ℕ
+walked_text form m tools commands None = unwalked_text form m.stock
+walked_text form m tools commands (Some w) = told_text form m tools commands w
+
+-- which fixtures overlap the block, and what a walk has found
+unfoldable pub material_text : Form → MachineFile → List Tool → List Command → Option WalkData → List ℕ
+material_text form m tools commands walk = overlaps_text form m m.stock ++ walked_text form m tools commands walk

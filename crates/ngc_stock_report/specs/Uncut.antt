@@ -1,7 +1,7 @@
 -- Whether any feed of a program may cut the block of material. Our own.
-use Rattle.std.specs.Prelude.{ℕ, ℤ, ◌+ℤ◌, List, [], ◌∷◌, codes, Option, Some, None, is_none, Bool, true, false, not, ◌&&◌, ◌||◌, if◌then◌else◌}
+use Rattle.std.specs.Prelude.{ℕ, ℤ, ◌+ℤ◌, List, [], ◌∷◌, ◌++◌, codes, IsTrue, Option, Some, None, is_none, Bool, true, false, not, ◌&&◌, ◌||◌, if◌then◌else◌}
 use Rattle.ngc_cells.specs.declared.grid.Grid.{Grid}
-use Rattle.ngc_commands.specs.Reached.{after, at_start}
+use Rattle.ngc_commands.specs.Reached.{after, after_all, at_start}
 use Rattle.ngc_commands.specs.declared.command.Action.{Action}
 use Rattle.ngc_commands.specs.declared.command.Action.TheVariants.{Move}
 use Rattle.ngc_commands.specs.declared.command.Command.{Command}
@@ -13,7 +13,7 @@ use Rattle.ngc_machine_files.specs.declared.machine.StockBox.{StockBox}
 use Rattle.ngc_machine_files.specs.declared.tools.Tool.{Tool}
 use Rattle.ngc_report.specs.declared.form.Form.{Form}
 use Rattle.ngc_report.specs.declared.form.Form.TheVariants.{Words, Json}
-use Rattle.ngc_stock.specs.Below.{all_below}
+use Rattle.ngc_stock.specs.Below.{all_below, IsAbove}
 use Rattle.ngc_stock.specs.declared.stock.Stock.{Stock}
 use Rattle.ngc_stock_report.specs.Placed.{origin_at}
 
@@ -79,3 +79,11 @@ block_text form m b g commands = if is_uncut m b g commands then uncut_line form
 abbrev pub uncut_text : Form → MachineFile → Option StockBox → Grid → List Command → List ℕ
 uncut_text form m None g commands = []
 uncut_text form m (Some b) g commands = block_text form m b g commands
+
+-- ---- what it means
+
+-- if the warning is there, no straight feed of the program cuts a point that is below the block's top in one of its
+-- cells
+abbrev pub UncutBlock : Type 0
+UncutBlock = (m : MachineFile) (b : StockBox) (g : Grid) (before later : List Command) (c : Command) →
+    IsTrue (is_uncut m b g (before ++ c ∷ later)) → IsAbove (from_top m b g) (after_all (at_start m) before).tool c.action

@@ -7,6 +7,7 @@ mod caution;
 mod cells;
 mod grids;
 pub mod laws;
+mod overlaps;
 mod placed;
 mod uncut;
 mod walked;
