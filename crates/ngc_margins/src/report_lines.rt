@@ -1,8 +1,8 @@
 //! The lines of a report that name margins and the way of traverses.
 ghost use Rattle.std.specs.Prelude.{◌≡◌};
-ghost use Rattle.ngc_margins.specs.Lines.{are_zero, kept_facts, kept_words, larger, lengths_fact};
-ghost use Rattle.ngc_margins.specs.Lines.{margin_words, margins_fact, nearer};
-ghost use Rattle.ngc_margins.specs.Lines.{rapids_fact, rapids_words, travel_words};
+ghost use Rattle.ngc_margins.specs.Lines.{are_zero, is_slack, kept_facts, kept_words, larger, lengths_fact};
+ghost use Rattle.ngc_margins.specs.Lines.{margin_words, margins_fact, motors_value, nearer, reason};
+ghost use Rattle.ngc_margins.specs.Lines.{rapids_fact, rapids_words, slack_value, travel_words, values_fact};
 ghost use Rattle.ngc_sentences.specs.Parts.{parts_text};
 ghost use Rattle.ngc_sentences.specs.Saying.{Says};
 
@@ -17,6 +17,8 @@ use std::alloc::Allocator;
 pub struct Kept {
     pub margins: Margins,
     pub rapids: Rapids,
+    /// How far a motor may stand from the path: half of the longest step that isn't the grid's, or 0.
+    pub slack: Nm,
 }
 
 impl Kept {
@@ -30,6 +32,7 @@ impl Kept {
         Kept {
             margins: machine.margins,
             rapids: machine.rapids,
+            slack: machine.motors().slack(),
         }
     }
 
@@ -43,34 +46,54 @@ impl Kept {
                 travel: Nm::zero(),
             },
             rapids: Rapids::Straight,
+            slack: Nm::zero(),
         }
     }
 }
 
+// Returns whether a margin to fixtures is how far a motor may stand from the path.
+fn is_slack(slack: Nm, margin: Nm) -> bool
+    ensures { result ≡ is_slack slack margin }
+{
+    margin.nanometres() != 0 && margin.nanometres() == slack.nanometres()
+}
+
+fn reason(slack: Nm, margin: Nm) -> &'static [u8]
+    ensures { result.now ≡ reason slack margin }
+{
+    if is_slack(slack, margin) {
+        b", half a step of the motors"
+    } else {
+        b""
+    }
+}
+
 #[tactic(auto, unfolding(crate::specs::Lines::larger))]
-fn larger(margin: Nm) -> [Part<'static>; 3]
-    ensures { parts_text result ≡ larger margin }
+fn larger(slack: Nm, margin: Nm) -> [Part<'static>; 5]
+    ensures { parts_text result ≡ larger slack margin }
 {
     [
         Part::Text(b"Margin: each fixture is "),
         Part::Millimetres(margin.nanometres()),
-        Part::Text(b" larger on every side, also in the figures below.\n"),
+        Part::Text(b" larger on every side"),
+        Part::Text(reason(slack, margin)),
+        Part::Text(b", also in the figures below.\n"),
     ]
 }
 
-fn say_larger<W: Sink>(margin: Nm, page: &mut Page, output: &mut W)
+fn say_larger<W: Sink>(slack: Nm, margin: Nm, page: &mut Page, output: &mut W)
     ensures { Says (W.written output.old) (W.written output.new)
-        (W.failures output.old) (W.failures output.new) page.old page.new (larger margin) }
+        (W.failures output.old) (W.failures output.new) page.old page.new (larger slack margin) }
 {
-    page.say(output, &larger(margin));
+    page.say(output, &larger(slack, margin));
 }
 
-fn say_margin<W: Sink>(margin: Nm, page: &mut Page, output: &mut W)
+fn say_margin<W: Sink>(slack: Nm, margin: Nm, page: &mut Page, output: &mut W)
     ensures { Says (W.written output.old) (W.written output.new)
-        (W.failures output.old) (W.failures output.new) page.old page.new (margin_words margin) }
+        (W.failures output.old) (W.failures output.new) page.old page.new (margin_words slack margin) }
 {
     if margin.nanometres() != 0 {
-        say_larger(margin, page, output);
+        say_larger(slack, margin, page, output);
     }
 }
 
@@ -113,12 +136,13 @@ fn say_rapids<W: Sink>(rapids: Rapids, page: &mut Page, output: &mut W)
     }
 }
 
-/// Says a sentence for each margin that isn't 0, and one where traverses may take any way.
+/// Says a sentence for each margin that isn't 0, and one where traverses may take any way. Where the margin
+/// to fixtures is half a step of the motors, its sentence says so.
 pub fn say_kept_words<W: Sink>(kept: &Kept, page: &mut Page, output: &mut W)
     ensures { Says (W.written output.old) (W.written output.new)
         (W.failures output.old) (W.failures output.new) page.old page.new (kept_words kept.now) }
 {
-    say_margin(kept.margins.fixtures, page, output);
+    say_margin(kept.slack, kept.margins.fixtures, page, output);
     say_travel_margin(kept.margins.travel, page, output);
     say_rapids(kept.rapids, page, output);
 }
@@ -130,7 +154,7 @@ fn are_zero(margins: &Margins) -> bool
 }
 
 #[tactic(auto, unfolding(crate::specs::Lines::lengths_fact))]
-fn lengths(margins: &Margins) -> [Part<'static>; 5]
+fn lengths(margins: &Margins) -> [Part<'static>; 4]
     ensures { parts_text result ≡ lengths_fact margins.now }
 {
     [
@@ -138,7 +162,6 @@ fn lengths(margins: &Margins) -> [Part<'static>; 5]
         Part::Signed(margins.fixtures.nanometres()),
         Part::Text(b",\"travel\":"),
         Part::Signed(margins.travel.nanometres()),
-        Part::Text(b"}"),
     ]
 }
 
@@ -150,12 +173,49 @@ fn say_lengths<W: Sink>(margins: &Margins, page: &mut Page, output: &mut W)
     page.say(output, &lengths(margins));
 }
 
-fn say_margins_fact<W: Sink>(margins: &Margins, page: &mut Page, output: &mut W)
+#[tactic(auto, unfolding(crate::specs::Lines::slack_value))]
+fn slack_value(margin: Nm) -> [Part<'static>; 2]
+    ensures { parts_text result ≡ slack_value margin }
+{
+    [
+        Part::Text(b",\"motors\":"),
+        Part::Signed(margin.nanometres()),
+    ]
+}
+
+fn say_slack<W: Sink>(margin: Nm, page: &mut Page, output: &mut W)
     ensures { Says (W.written output.old) (W.written output.new)
-        (W.failures output.old) (W.failures output.new) page.old page.new (margins_fact margins.now) }
+        (W.failures output.old) (W.failures output.new) page.old page.new (slack_value margin) }
+{
+    page.say(output, &slack_value(margin));
+}
+
+fn say_motors<W: Sink>(slack: Nm, margin: Nm, page: &mut Page, output: &mut W)
+    ensures { Says (W.written output.old) (W.written output.new)
+        (W.failures output.old) (W.failures output.new) page.old page.new (motors_value slack margin) }
+{
+    if is_slack(slack, margin) {
+        say_slack(margin, page, output);
+    }
+}
+
+fn say_values<W: Sink>(slack: Nm, margins: &Margins, page: &mut Page, output: &mut W)
+    ensures { Says (W.written output.old) (W.written output.new)
+        (W.failures output.old) (W.failures output.new) page.old page.new
+        (values_fact slack margins.now) }
+{
+    say_lengths(margins, page, output);
+    say_motors(slack, margins.fixtures, page, output);
+    say!(page, output; b"}");
+}
+
+fn say_margins_fact<W: Sink>(slack: Nm, margins: &Margins, page: &mut Page, output: &mut W)
+    ensures { Says (W.written output.old) (W.written output.new)
+        (W.failures output.old) (W.failures output.new) page.old page.new
+        (margins_fact slack margins.now) }
 {
     if !are_zero(margins) {
-        say_lengths(margins, page, output);
+        say_values(slack, margins, page, output);
     }
 }
 
@@ -174,6 +234,6 @@ pub fn say_kept_facts<W: Sink>(kept: &Kept, page: &mut Page, output: &mut W)
     ensures { Says (W.written output.old) (W.written output.new)
         (W.failures output.old) (W.failures output.new) page.old page.new (kept_facts kept.now) }
 {
-    say_margins_fact(&kept.margins, page, output);
+    say_margins_fact(kept.slack, &kept.margins, page, output);
     say_rapids_fact(kept.rapids, page, output);
 }

@@ -285,13 +285,20 @@ abbrev pub margin_line : Form → Grid → List Cut → List ℕ
 margin_line Words g cuts = margin_words g cuts
 margin_line Json g cuts = margin_fact g
 
+-- how wide a tool's cutter is, its lowest part
+abbrev pub cutter_width : Tool → ℕ
+cutter_width t = 2 * unsigned_abs (first_part t.parts).radius
+
 unfoldable pub thin_words : Grid → Tool → List ℕ
 thin_words g t =
-    codes "Tool " ++ decimal t.number ++ codes " is too thin for cells of " ++ size_text (2 * g.half)
+    codes "Tool " ++ decimal t.number ++ codes " (" ++ size_text (cutter_width t)
+    ++ codes " mm wide) is too thin for cells of " ++ size_text (2 * g.half)
     ++ codes " mm: its traverses were not tested.\n"
 
 unfoldable pub thin_fact : Tool → List ℕ
-thin_fact t = codes ",\n{\"fact\":\"material_untested\",\"tool\":" ++ decimal t.number ++ codes "}"
+thin_fact t =
+    codes ",\n{\"fact\":\"material_untested\",\"tool\":" ++ decimal t.number ++ codes ",\"width\":" ++ decimal (cutter_width t)
+    ++ codes "}"
 
 abbrev pub thin_line : Form → Grid → Tool → List ℕ
 thin_line Words g t = thin_words g t

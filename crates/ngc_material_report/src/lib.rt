@@ -9,7 +9,7 @@
 //! Line 50 feeds below the stock's bottom: tool 2 is at most 0.2 mm below it.
 //! With tool 2 straight feeds cut at most 5 mm deep, the deepest in line 151.
 //! Traverses were tested and depths measured for each tool less 0.29 mm of its radius.
-//! Tool 3 is too thin for cells of 0.2 mm: its traverses were not tested.
+//! Tool 3 (0.25 mm wide) is too thin for cells of 0.2 mm: its traverses were not tested.
 //! ```
 #![tactic(auto)]
 

@@ -8,7 +8,7 @@ ghost use Rattle.ngc_sentences.specs.Parts.{part_text};
 ghost use Rattle.ngc_sentences.specs.Saying.{Says};
 ghost use Rattle.ngc_cells.specs.Grids.{IsGrid};
 ghost use Rattle.ngc_stock.specs.Stocks.{margin};
-ghost use Rattle.ngc_material_report.specs.Sentences.{rounded_up, tested_words, margin_words, margin_fact, margin_line, thin_words, thin_fact, thin_line, thin_text, untested_text};
+ghost use Rattle.ngc_material_report.specs.Sentences.{cutter_width, rounded_up, tested_words, margin_words, margin_fact, margin_line, thin_words, thin_fact, thin_line, thin_text, untested_text};
 
 use ngc_cells::Grid;
 use ngc_machine_files::Tool;
@@ -50,6 +50,28 @@ fn tool_number(tool: &Tool) -> Part<'static>
     ensures { part_text result ≡ decimal tool.now.number }
 {
     Part::Number(u128::from(tool.number))
+}
+
+// Returns how wide a tool's cutter is, its lowest part.
+fn cutter_width(tool: &Tool) -> u64
+    ensures { result ≡ cutter_width tool.now }
+{
+    let part = tool.parts.as_slice()[0];
+    2 * part.radius.nanometres().unsigned_abs()
+}
+
+// Returns that width in millimetres.
+fn tool_width(tool: &Tool) -> Part<'static>
+    ensures { part_text result ≡ size_text (cutter_width tool.now) }
+{
+    Part::Size(u128::from(cutter_width(tool)))
+}
+
+// Returns that width in nanometres.
+fn whole_tool_width(tool: &Tool) -> Part<'static>
+    ensures { part_text result ≡ decimal (cutter_width tool.now) }
+{
+    Part::Number(u128::from(cutter_width(tool)))
 }
 
 // Returns what the margin concerns: the depths too, if there are any.
@@ -100,14 +122,14 @@ fn say_thin_words<W: Sink>(grid: &Grid, tool: &Tool, page: &mut Page, output: &m
     ensures { Says (W.written output.old) (W.written output.new)
         (W.failures output.old) (W.failures output.new) page.old page.new (thin_words grid.now tool.now) }
 {
-    say!(page, output; b"Tool ", tool_number(tool), b" is too thin for cells of ", width(grid), b" mm: its traverses were not tested.\n");
+    say!(page, output; b"Tool ", tool_number(tool), b" (", tool_width(tool), b" mm wide) is too thin for cells of ", width(grid), b" mm: its traverses were not tested.\n");
 }
 
 fn say_thin_fact<W: Sink>(tool: &Tool, page: &mut Page, output: &mut W)
     ensures { Says (W.written output.old) (W.written output.new)
         (W.failures output.old) (W.failures output.new) page.old page.new (thin_fact tool.now) }
 {
-    say!(page, output; b",\n{\"fact\":\"material_untested\",\"tool\":", tool_number(tool), b"}");
+    say!(page, output; b",\n{\"fact\":\"material_untested\",\"tool\":", tool_number(tool), b",\"width\":", whole_tool_width(tool), b"}");
 }
 
 fn say_thin_tool<W: Sink>(form: Form, grid: &Grid, tool: &Tool, page: &mut Page, output: &mut W)
@@ -141,7 +163,7 @@ fn say_tools<W: Sink>(form: Form, grid: &Grid, tools: &[Tool], page: &mut Page, 
 }
 
 /// Writes how much less than the radius of each tool a walk tests at traverses, and which of the tools are
-/// too thin for the cells, so that their traverses aren't tested. With `cuts`, which are the depths that
+/// too thin for the cells, with their widths, so that their traverses aren't tested. With `cuts`, which are the depths that
 /// are written, the first sentence says that it holds for them too.
 ///
 /// The function allocates no memory. After a fault (902, only if the sink failed) a prefix of the

@@ -1,5 +1,5 @@
 -- Prefixes of texts that are written in order.
-use Rattle.std.proofs.Common.{◌≡◌, ℕ, List, ◌++◌, Option, Result, Ok, Err, OnErr, ap, subst, sym, ◌∙◌}
+use Rattle.std.proofs.Common.{◌≡◌, ℕ, List, ◌++◌, Option, Result, Ok, Err, OnOk, OnErr, ap, subst, sym, ◌∙◌}
 use Rattle.std.proofs.lemmas.List.{append_assoc}
 use Rattle.std.specs.Io.KnownBytes.{Appends}
 use Rattle.ngc_text.proofs.AppendedTexts.{appends_both}
@@ -31,3 +31,15 @@ pub third_fault : (r : Result (Unit {0}) WriteFault) (old one two new : Option (
 third_fault (Ok u) old one two new a b c d is h k p = tt
 third_fault (Err e) old one two new a b c d is h k p =
     begins_last old one new a (b ++ d) h (begins_last one two new b d k (begins_as two new c d is p))
+
+-- one text and then a prefix of a second
+pub second_fault : (r : Result (Unit {0}) WriteFault) (old one new : Option (List ℕ)) (a b : List ℕ) → Appends old one a → OnErr r (AppendsPrefix one new b)
+    → OnErr r (AppendsPrefix old new (a ++ b))
+second_fault (Ok u) old one new a b h p = tt
+second_fault (Err e) old one new a b h p = begins_last old one new a b h p
+
+-- two texts
+pub both_written : (r : Result (Unit {0}) WriteFault) (old one new : Option (List ℕ)) (a b : List ℕ) → Appends old one a → OnOk r (Appends one new b)
+    → OnOk r (Appends old new (a ++ b))
+both_written (Ok u) old one new a b h p = appends_both old one new a b h p
+both_written (Err e) old one new a b h p = tt

@@ -18,7 +18,9 @@ use Rattle.ngc_material.specs.declared.walk.Found.{Found}
 use Rattle.ngc_material_report.specs.Sentences.{touches_text, depths_text, cuts_text, untested_text}
 use Rattle.ngc_report.specs.declared.form.Form.{Form}
 use Rattle.ngc_report.specs.declared.form.Form.TheVariants.{Words, Json}
+use Rattle.ngc_stock_report.specs.Overlaps.{overlaps_text}
 use Rattle.ngc_stock_report.specs.Placed.{origin_at}
+use Rattle.ngc_stock_report.specs.Uncut.{uncut_text}
 use Rattle.ngc_stock_report.specs.Walked.{WalkData}
 
 -- the origin of the block's coordinate system, from which places are written
@@ -93,8 +95,16 @@ walk_text form m tools commands w =
     touches_text form MOST_LINES (block_origin m m.stock) tools w.found w.feeds
     ++ (arcs_line form commands (found_or w.found w.feeds) ++ rest_text form m tools commands w)
 
+-- that no feed cuts the block, if that is so, and the rest
+abbrev pub told_text : Form → MachineFile → List Tool → List Command → WalkData → List ℕ
+told_text form m tools commands w = uncut_text form m m.stock w.stock.grid commands ++ walk_text form m tools commands w
+
 -- the motions that may touch material, the tool changes in it, the feeds below it, how deep feeds cut, and
 -- what isn't tested
-abbrev pub material_text : Form → MachineFile → List Tool → List Command → Option WalkData → List ℕ
-material_text form m tools commands None = unwalked_text form m.stock
-material_text form m tools commands (Some w) = walk_text form m tools commands w
+abbrev pub walked_text : Form → MachineFile → List Tool → List Command → Option WalkData → List ℕ
+walked_text form m tools commands None = unwalked_text form m.stock
+walked_text form m tools commands (Some w) = told_text form m tools commands w
+
+-- which fixtures overlap the block, and what a walk has found
+unfoldable pub material_text : Form → MachineFile → List Tool → List Command → Option WalkData → List ℕ
+material_text form m tools commands walk = overlaps_text form m m.stock ++ walked_text form m tools commands walk

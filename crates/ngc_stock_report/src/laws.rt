@@ -1,5 +1,6 @@
 //! The law of a report that says nothing of material.
 ghost use Rattle.ngc_stock_report.specs.Silent.{DeepestReport, SilentFeeds, SilentReport};
+ghost use Rattle.ngc_stock_report.specs.Uncut.{UncutBlock};
 
 /// States that if a walk over a program's commands finds no traverse, no straight traverse meets material
 /// that the feeds before it have left, for each disc of the cutter and each part above it, smaller by a margin and
@@ -19,4 +20,10 @@ pub fn silent_feeds()
 /// report names, above the lower of the feed's two tips.
 pub fn deepest_report()
     ensures { DeepestReport }
+{}
+
+/// States that if a report warns that no feed cuts the block of material, no straight feed of the program cuts a
+/// point below the block's top in one of its cells.
+pub fn uncut_block()
+    ensures { UncutBlock }
 {}

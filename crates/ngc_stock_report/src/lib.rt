@@ -7,7 +7,9 @@ mod caution;
 mod cells;
 mod grids;
 pub mod laws;
+mod overlaps;
 mod placed;
+mod uncut;
 mod walked;
 mod written;
 

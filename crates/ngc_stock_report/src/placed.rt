@@ -38,7 +38,8 @@ pub(crate) fn origin_at<A: Allocator>(machine: &Machine<A>, system: u32) -> Poin
     }
 }
 
-fn sum(origin: Nm, low: Nm) -> i64
+/// Returns a coordinate in the machine, of one in a coordinate system with this origin.
+pub(crate) fn sum(origin: Nm, low: Nm) -> i64
     requires origin { unsigned_abs origin ≤ 4000000000 }
     requires low { unsigned_abs low ≤ 1000000000 }
     ensures { result ≡ origin +ℤ low }

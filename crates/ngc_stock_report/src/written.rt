@@ -5,10 +5,12 @@ ghost use Rattle.ngc_text.specs.Failures.{CountsFailure};
 ghost use Rattle.ngc_text.specs.Written.{AppendsPrefix};
 ghost use Rattle.ngc_machine_files.specs.Machine.{file_of};
 ghost use Rattle.ngc_stock_report.specs.Texts.{block_origin, arcs_words, arcs_line, found_or, far_words, far_fact, far_line};
-ghost use Rattle.ngc_stock_report.specs.Texts.{unwalked_text, rest_text, walk_text, material_text};
+ghost use Rattle.ngc_stock_report.specs.Texts.{unwalked_text, rest_text, walk_text, told_text, walked_text, material_text};
 
 use crate::arcs::has_other_arcs;
+use crate::overlaps::write_overlaps;
 use crate::placed::origin_at;
+use crate::uncut::uncut_text;
 use crate::walked::Walk;
 use ngc_cells::Spot;
 use ngc_commands::{Command, Reached};
@@ -132,10 +134,52 @@ fn write_walk<A: Allocator, B: Allocator, W: Sink>(
     write_rest(form, machine, tools, commands, walk, output)
 }
 
-/// Writes what a walk has found: the straight traverses and feeds that may touch material, the tool changes
+// Writes that no feed cuts the block of material, if that is so, and then what a walk has found.
+fn write_told<A: Allocator, B: Allocator, W: Sink>(
+    form: Form,
+    machine: &Machine<B>,
+    tools: &[Tool],
+    commands: &[Command],
+    walk: &Walk<A>,
+    output: &mut W,
+) -> Result<(), WriteFault>
+    ensures ok { OnOk result (Appends (W.written output.old) (W.written output.new)
+        (told_text form (file_of machine.now) tools.now commands.now walk.now)) }
+    ensures fault { OnErr result (AppendsPrefix (W.written output.old) (W.written output.new)
+        (told_text form (file_of machine.now) tools.now commands.now walk.now)) }
+    ensures counts { CountsFailure (W.failures output.old) (W.failures output.new) result }
+{
+    let uncut = uncut_text(form, machine, &walk.stock.grid, commands);
+    write_all(output, uncut)?;
+    write_walk(form, machine, tools, commands, walk, output)
+}
+
+// Writes what a walk has found, or that it wasn't made.
+fn write_walked<A: Allocator, B: Allocator, W: Sink>(
+    form: Form,
+    machine: &Machine<B>,
+    tools: &[Tool],
+    commands: &[Command],
+    walk: &Option<Walk<A>>,
+    output: &mut W,
+) -> Result<(), WriteFault>
+    ensures ok { OnOk result (Appends (W.written output.old) (W.written output.new)
+        (walked_text form (file_of machine.now) tools.now commands.now walk.now)) }
+    ensures fault { OnErr result (AppendsPrefix (W.written output.old) (W.written output.new)
+        (walked_text form (file_of machine.now) tools.now commands.now walk.now)) }
+    ensures counts { CountsFailure (W.failures output.old) (W.failures output.new) result }
+{
+    match walk {
+        None => write_all(output, unwalked(form, machine)),
+        Some(walk) => write_told(form, machine, tools, commands, walk, output),
+    }
+}
+
+/// Writes a warning of each fixture that overlaps the block of material, a warning if no feed cuts the block,
+/// and then what a walk has found: the straight traverses and feeds that may touch material, the tool changes
 /// below its top, the feeds below its bottom, how deep straight feeds cut with each tool, and what isn't
 /// tested. `commands` are those of the walk. Without a block of material nothing is written; if the walk
-/// wasn't made because of a distance, one line says so.
+/// wasn't made because of a distance, one line says so in its place.
 ///
 /// After a fault (902, only if the sink failed) a prefix of the text is written.
 pub fn write_material<A: Allocator, B: Allocator, W: Sink>(
@@ -152,8 +196,6 @@ pub fn write_material<A: Allocator, B: Allocator, W: Sink>(
         (material_text form (file_of machine.now) tools.now commands.now walk.now)) }
     ensures counts { CountsFailure (W.failures output.old) (W.failures output.new) result }
 {
-    match walk {
-        None => write_all(output, unwalked(form, machine)),
-        Some(walk) => write_walk(form, machine, tools, commands, walk, output),
-    }
+    write_overlaps(form, machine, output)?;
+    write_walked(form, machine, tools, commands, walk, output)
 }
