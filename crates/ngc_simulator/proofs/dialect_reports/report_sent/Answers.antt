@@ -29,8 +29,8 @@ returns-in_err-report_job-in-Ok-clause-reports g c =
     (dialect_stopped d setup source c.args.request.now (framed_in n.framed) old new fault is.framed
     (subst (λ (x : SettingNotes). ReportsJob (framed_in n.framed) (other_lines (values_of c.args.request.now.figures) source x) c.args.request.now old new (Err fault)) is.notes told))
 
-pub returns-in-Err-clause-reports : goal.returns-in-Err-clause-reports
-returns-in-Err-clause-reports g c =
+pub returns-clause-reports : goal.returns-in-Err-clause-reports
+returns-clause-reports g c =
     let d = c.args.sent.dialect in
     let setup = setup_of c.args.sent.shop.machine c.args.sent.shop.tools in
     let source = c.args.sent.text.items in
