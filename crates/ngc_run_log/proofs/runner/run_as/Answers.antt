@@ -1,9 +1,17 @@
-use Rattle.std.proofs.Common.{ap, ◌∙◌}
+use Rattle.std.proofs.Common.{ap, ◌∙◌, ℕ, List, Option, Some, None, refl}
+use Rattle.std.specs.Io.KnownBytes.{Keeps}
 use Rattle.ngc_machine_files.specs.Machine.{MachineFile, motors_of}
 use Rattle.ngc_machine_model.specs.State.{Job}
 use Rattle.ngc_run_through.proofs.RunResults.{safe_of, in_time_of, opens_of}
 use Rattle.ngc_run_through.proofs.ResultForms.{are_switches, trace_is, none_ticked, run_written, run_unwritten}
 use Rattle.ngc_run_log.proofs.runner.run_as.Goals as goal
+
+keeps_same : (known : Option (List ℕ)) → Keeps known known
+keeps_same None = tt
+keeps_same (Some bytes) = refl
+
+pub returns-in-Err-new-clause-comes : goal.returns-in-Err-new-clause-comes
+returns-in-Err-new-clause-comes g c = keeps_same (g.W.Sink.written c.args.sink.now)
 
 pub run_lines-requires-clause-safe : goal.run_lines-requires-clause-safe
 run_lines-requires-clause-safe g c = safe_of c.args.accepted c.args.block_delete _ c.machine.ensures.accepted c.in-Ok-new.ensures.made.0
