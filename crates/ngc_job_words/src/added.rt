@@ -13,7 +13,7 @@ use crate::command::{JobOption, family_of};
 use crate::folder::path_in;
 use crate::text::{fixture_text, millimetres, origin_text, stock_text, system_code};
 use crate::values::values_of;
-use crate::word::{has, after, value_in};
+use crate::word::{after, has, value_in};
 use ngc_dialect_names::Dialect;
 use ngc_job_files::{JobFixture, JobHead, JobPaths, JobSheet};
 use ngc_machine_figures::{Length, StockSheet};

@@ -27,13 +27,17 @@ third_text name bytes (Err refusal) = refusal_text name bytes refusal
 
 -- ---- a table of version 3 that doesn't say so
 
-abbrev pub is_text : Option Data → Bool
-is_text (Some (string text)) = true
+abbrev pub is_text : Data → Bool
+is_text (string text) = true
 is_text _ = false
+
+abbrev pub is_text_at : Option Data → Bool
+is_text_at None = false
+is_text_at (Some value) = is_text value
 
 abbrev pub is_measured : Option Data → Bool
 is_measured None = false
-is_measured (Some tool) = is_text (get (codes "diameter") tool)
+is_measured (Some tool) = is_text_at (get (codes "diameter") tool)
 
 -- whether the first tool's diameter is a text, as in version 3 alone
 abbrev pub are_measured : Option Data → Bool

@@ -1,5 +1,5 @@
 //! The mistake of a tool table.
-ghost use Rattle.std.specs.Prelude.{◌≡◌, ◌⊎◌, OnOk, OnErr, option_map};
+ghost use Rattle.std.specs.Prelude.{◌≡◌, ◌⊎◌, OnOk, OnErr, Some};
 ghost use Rattle.std.specs.Io.KnownBytes.{Appends, Keeps};
 ghost use Rattle.toml.specs.Errors.{IsBlank};
 ghost use Rattle.toml.specs.Data.{at};
@@ -80,10 +80,20 @@ fn write_third<W: Sink>(
     }
 }
 
-fn is_text(value: Option<&Value>) -> bool
-    ensures { result ≡ spec.is_text (option_map (λ v. view v.now) value) }
+fn is_text(value: &Value) -> bool
+    ensures { result ≡ spec.is_text (view value.now) }
 {
-    matches!(value, Some(Value::String(_)))
+    matches!(value, Value::String(_))
+}
+
+// Returns whether the diameter of a tool is a text.
+fn is_measured(tool: &Value) -> bool
+    ensures { result ≡ spec.is_measured (Some (view tool.now)) }
+{
+    match tool.get("diameter") {
+        Some(value) => is_text(value),
+        None => false,
+    }
 }
 
 // Returns whether the diameter of the first of these tools is a text.
@@ -91,7 +101,7 @@ fn are_measured(tools: &Value) -> bool
     ensures { result ≡ spec.is_measured (at 0 (view tools.now)) }
 {
     match tools.get(0) {
-        Some(tool) => is_text(tool.get("diameter")),
+        Some(tool) => is_measured(tool),
         None => false,
     }
 }
