@@ -29,7 +29,7 @@ returns-in_err-report_job-in-Ok-clause-reports g c =
     (dialect_stopped d setup source c.args.request.now (framed_in n.framed) old new fault is.framed
     (subst (λ (x : SettingNotes). ReportsJob (framed_in n.framed) (other_lines (values_of c.args.request.now.figures) source x) c.args.request.now old new (Err fault)) is.notes told))
 
-pub returns-clause-reports : goal.returns-in-Err-clause-reports
+pub returns-clause-reports : goal.returns-clause-reports
 returns-clause-reports g c =
     let d = c.args.sent.dialect in
     let setup = setup_of c.args.sent.shop.machine c.args.sent.shop.tools in
