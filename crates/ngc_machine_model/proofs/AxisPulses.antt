@@ -1,19 +1,20 @@
--- The rates on the motions that move an axis bound its pulses.
+-- The accounts of the motions bound the pulses of an axis.
 use Rattle.std.proofs.Common.{◌≡◌, ℕ, suc, ◌+◌, ◌-◌, ◌*◌, ◌/◌, ◌<◌, ◌≤◌, inl, inr, ap, subst, sym, ◌∙◌, arith, refl, List, [], ◌∷◌, ◌++◌, length, drop, Some}
-use Rattle.std.proofs.Common.{None, true, false, Bool, cond, ℤ}
-use Rattle.std.specs.Prelude.{Option, MatchBool, nat_lt, nat_le, take, count_by, ◌-ℤ◌, ◌||◌, if◌then◌else◌}
-use Rattle.std.proofs.lemmas.Bool.{cases_lt, cases_Bool, or_left, or_right, true≢false}
+use Rattle.std.proofs.Common.{None, true, false, Bool}
+use Rattle.std.specs.Prelude.{Option, MatchBool, nat_lt, nat_le}
+use Rattle.std.proofs.lemmas.Bool.{cases_lt, true≢false}
 use Rattle.std.proofs.lemmas.Bool.Decides.{nat_tests}
+use Rattle.std.proofs.Math.Nat.{mul-le-mul_left}
 use Rattle.ngc_fixed_length.specs.declared.points.StepPos.{StepPos}
+use Rattle.ngc_fixed_length.specs.Length.{IsStep}
 use Rattle.ngc_fixed_length.specs.Grid.{grid}
 use Rattle.ngc_fixed_length.specs.LinePath.{point}
 use Rattle.ngc_machine_files.specs.MachineRanges.{IsMachine}
 use Rattle.ngc_commands.specs.declared.command.Command.{Command}
-use Rattle.ngc_commands.specs.declared.command.Action.{Action}
 use Rattle.ngc_commands.specs.Movement.{actions_of, ways_of, AreJoined}
 use Rattle.ngc_planner.specs.Bounds.{IsWithinBounds}
 use Rattle.ngc_fixed_length.specs.Limits.{MILLION}
-use Rattle.ngc_planner.specs.Pulses.{is_stepping, is_path_step, up_to_whole}
+use Rattle.ngc_planner.specs.Pulses.{is_stepping, count_in, up_to_whole}
 use Rattle.ngc_events.specs.declared.event.Event.{Event}
 use Rattle.ngc_events.specs.declared.event.Event.TheVariants.{Load, Tick, Hold, Resume, Override, StopSwitch, Start}
 use Rattle.ngc_machine_model.specs.State.{Job, Queued, State, opening, loaded, command_at, path_steps, millionths}
@@ -26,302 +27,359 @@ use Rattle.ngc_machine_model.proofs.TestCases.{match_with}
 use Rattle.ngc_machine_model.proofs.SafeRun.{RingFits}
 use Rattle.ngc_machine_model.proofs.RatesOfRun.{Fits, after_stays, event_keeps, goes_over, over_small}
 use Rattle.ngc_machine_model.proofs.Travel.{moved}
-use Rattle.ngc_machine_model.proofs.PulseRules.{Advances, IsOnHead, WalksIn, head_path, opening_walks, rate_most, still_axis, tick_both, waits}
-use Rattle.ngc_machine_model.proofs.StillAxes.{Axis, X, Y, Z, on, IsStill}
-use Rattle.ngc_machine_model.proofs.AxisTravel.{AreSlow, slow_window}
+use Rattle.ngc_machine_model.proofs.PulseRules.{IsOnHead, WalksIn, head_path, opening_walks, rate_most, tick_both, waits}
+use Rattle.ngc_machine_model.proofs.StillAxes.{Axis, on}
+use Rattle.ngc_machine_model.proofs.AxisCounts.{passes, IsNotAhead, IsNotBehind, AreFew, AreBounded, few_none, few_same, few_by, few_next, few_fresh, bounded_none, bounded_next}
+use Rattle.ngc_machine_model.proofs.AxisAccounts.{steps, no_step, IsShare, ActionAccount, action_account, axis_rate, slack_of}
 
--- An action that does not move the axis never steps on it, and a tick on one that does has at most
--- this rate.
-pub record IsBoundOn (job : Job) (axis : Axis) (moves : Action → Bool) (most : ℕ) : Type 0 where
-  pub still : (a : Action) (path : List StepPos) → MayTake job a path → moves a ≡ false → IsStill axis path
-  pub bound : (a : Action) (n v : ℕ) → IsWithinBounds job.machine a n v → moves a ≡ true → v ≤ most
+-- ---- the account of a state
 
--- ---- steps on an axis
-
-abbrev passes : Bool → ℕ
-passes b = cond b 1 0
-
-abbrev steps : Axis → StepPos → Bool
-steps axis p = is_stepping (on axis p)
-
-is_step : (axis : Axis) (p : StepPos) → steps axis p ≡ true → is_path_step p ≡ true
-is_step X p h = or_left (is_stepping p.x) (is_stepping p.y || is_stepping p.z) h
-is_step Y p h = or_right (is_stepping p.x) (is_stepping p.y || is_stepping p.z) (or_left (is_stepping p.y) (is_stepping p.z) h)
-is_step Z p h = or_right (is_stepping p.x) (is_stepping p.y || is_stepping p.z) (or_right (is_stepping p.y) (is_stepping p.z) h)
-
-no_more : (b c : Bool) → (b ≡ true → c ≡ true) → passes b ≤ passes c
-no_more true true h = omega arith
-no_more true false h = absurd (true≢false (sym (h refl)))
-no_more false true h = omega arith
-no_more false false h = omega arith
-
-same_on : (a b : ℤ) → a ≡ b → is_stepping (b -ℤ a) ≡ false
-same_on a b e = subst (λ c. is_stepping (c -ℤ a) ≡ false) e (still_axis a)
-
-no_step : (axis : Axis) (p q : StepPos) → on axis p ≡ on axis q → passes (steps axis (step_to p q)) ≡ 0
-no_step X p q e = ap passes (same_on p.x q.x e)
-no_step Y p q e = ap passes (same_on p.y q.y e)
-no_step Z p q e = ap passes (same_on p.z q.z e)
-
--- ---- travel on an axis
-
--- the distance travelled on the head, if it moves the axis
-abbrev on_head : (Action → Bool) → List Queued → ℕ → ℕ
-on_head moves [] travelled = 0
-on_head moves (l ∷ ls) travelled = if moves l.command.action then travelled else 0
-
-abbrev on_axis : (Action → Bool) → State → ℕ
-on_axis moves s = on_head moves s.ring s.travelled
-
-chosen : (b : Bool) (t : ℕ) → b ≡ true → (if b then t else 0) ≡ t
-chosen true t h = refl
-chosen false t h = absurd (true≢false (sym h))
-
-left_out : (b : Bool) (t : ℕ) → b ≡ false → (if b then t else 0) ≡ 0
-left_out true t h = absurd (true≢false h)
-left_out false t h = refl
-
-no_more_than : (moves : Action → Bool) (ring : List Queued) (t : ℕ) → on_head moves ring t ≤ t
-no_more_than moves [] t = omega arith
-no_more_than moves (l ∷ ls) t = elim (cases_Bool (moves l.command.action)) [
-  | inl h ↦ let e = chosen (moves l.command.action) t h in omega (arith, e)
-  | inr h ↦ let e = left_out (moves l.command.action) t h in omega (arith, e)
-]
-
--- the travel grows by at most that much in a tick, by these whole millions of a motion that ends
--- and the distance travelled on the next
-record Grows (axis : Axis) (moves : Action → Bool) (most : ℕ) (old new : State) : Type 0 where
-  pub whole : ℕ
-  pub slow : whole * MILLION + on_axis moves new ≤ on_axis moves old + most
-  pub counts : passes (steps axis (step_to old.position new.position)) + on_axis moves old / MILLION ≤ (whole * MILLION + on_axis moves new) / MILLION
-
--- if nothing is travelled
-stands : (axis : Axis) (moves : Action → Bool) (most : ℕ) (old new : State) → new.position ≡ old.position → on_axis moves new ≡ on_axis moves old →
-    Grows axis moves most old new
-stands axis moves most old new p t =
-    let c = no_step axis old.position new.position (ap (on axis) (sym p)) in
-    record { whole = 0; slow = omega (arith, t); counts = omega (arith, c, t) }
-
--- ---- a tick
-
--- from point j of a still path to point k, the same or the next
-same_along : (axis : Axis) (path : List StepPos) (j k : ℕ) → IsStill axis path → j ≤ k → k ≤ j + 1 → k ≤ length path - 1 →
-    on axis (point path j) ≡ on axis (point path k)
-same_along axis path j k still jk kj kn = elim (cases_lt j k) [
-  | inl h ↦ let e : j + 1 ≡ k = omega (arith, h, kj) in still j (omega (arith, h, kn)) ∙ ap (λ i. on axis (point path i)) e
-  | inr h ↦ let e : j ≡ k = omega (arith, h, jk) in ap (λ i. on axis (point path i)) e
-]
-
--- the distance that passes into the next motion
-over_slow : (job : Job) (axis : Axis) (moves : Action → Bool) (most : ℕ) → IsBoundOn job axis moves most → (l : Queued) (ls : List Queued) (over v : ℕ) →
-    (0 < over → PassesInto job v l ls) → over ≤ v → on_head moves ls over ≤ most
-over_slow job axis moves most b l [] over v into h = omega arith
-over_slow job axis moves most b l (k ∷ ks) over v into h = elim (cases_Bool (moves k.command.action)) [
-  | inl moving ↦
-      let e = chosen (moves k.command.action) over moving in
-      elim (cases_lt 0 over) [
-        | inl more ↦ let bound = b.bound k.command.action (path_steps k) v (into more).1 moving in omega (arith, e, h, bound)
-        | inr none ↦ omega (arith, e, none)
-      ]
-  | inr resting ↦ let e = left_out (moves k.command.action) over resting in omega (arith, e)
-]
+-- that of the head, if there is one
+abbrev RingAccount : Job → Axis → List Queued → Type 0
+RingAccount job axis [] = Unit {0}
+RingAccount job axis (l ∷ ls) = ActionAccount job axis l.command.action l.path
 
 head_takes : (job : Job) (l : Queued) (ls : List Queued) (left : List Command) → RingFits job left (l ∷ ls) → MayTake job l.command.action l.path
 head_takes job l ls [] fits = absurd fits
 head_takes job l ls (c ∷ cs) fits = subst (λ (d : Command). MayTake job d.action l.path) (sym fits.0) fits.1
 
--- a head that moves the axis
-moving_grows : (job : Job) (axis : Axis) (moves : Action → Bool) (most : ℕ) → IsBoundOn job axis moves most →
-    (l : Queued) (ls : List Queued) (old : State) (o : Outcome) (new : State) →
-    old.ring ≡ l ∷ ls → old.travelled + new.rate - millionths l < MILLION → Advances old new → moves l.command.action ≡ true → Travels job l ls old o new →
-    Grows axis moves most old new
-moving_grows job axis moves most b l ls old o new e over advances moving t =
-    let m = moved job l ls old o new t in
-    let bound = b.bound l.command.action (path_steps l) new.rate t.may.rules.within moving in
-    let c = advances.counts in
-    let one = no_more (steps axis (step_to old.position new.position)) (is_path_step (step_to old.position new.position))
-    (is_step axis (step_to old.position new.position)) in
-    let before : on_axis moves old ≡ old.travelled = ap (λ r. on_head moves r old.travelled) e ∙ chosen (moves l.command.action) old.travelled moving in
-    elim (m.state) [
-      | inl s ↦
-          let full = s.0 in let rest = s.3 in let next = no_more_than moves new.ring new.travelled in
-          record { whole = path_steps l; slow = omega (arith, full, rest, next, before, bound); counts = omega (arith, full, rest, over, before, c, one) }
-      | inr s ↦
-          let after : on_axis moves new ≡ old.travelled + new.rate = ap (λ r. on_head moves r new.travelled) (s.1 ∙ e)
-          ∙ chosen (moves l.command.action) new.travelled moving ∙ s.2 in
-          record { whole = 0; slow = omega (arith, after, before, bound); counts = omega (arith, after, before, c, one) }
-    ]
+ring_account : (job : Job) → IsStep job.machine.step → (axis : Axis) (left : List Command) (ring : List Queued) → RingFits job left ring → RingAccount job axis ring
+ring_account job unit axis left [] fits = tt
+ring_account job unit axis left (l ∷ ls) fits = action_account job unit axis l.command.action l.path (head_takes job l ls left fits)
 
--- one that does not
-still_grows : (job : Job) (axis : Axis) (moves : Action → Bool) (most : ℕ) → IsBoundOn job axis moves most →
-    (l : Queued) (ls : List Queued) (old : State) (o : Outcome) (new : State) →
-    old.ring ≡ l ∷ ls → old.travelled ≤ millionths l - 1 → on axis old.position ≡ on axis new.position → moves l.command.action ≡ false →
-    Travels job l ls old o new →
-    Grows axis moves most old new
-still_grows job axis moves most b l ls old o new e f same resting t =
-    let m = moved job l ls old o new t in
-    let c = no_step axis old.position new.position same in
-    let before : on_axis moves old ≡ 0 = ap (λ r. on_head moves r old.travelled) e ∙ left_out (moves l.command.action) old.travelled resting in
-    elim (m.state) [
-      | inl s ↦
-          let full = s.0 in let rest = s.3 in
-          let ring : new.ring ≡ ls = s.2 ∙ ap (drop 1) e in
-          let next = over_slow job axis moves most b l ls new.travelled new.rate (λ h. t.may.rules.goes_on (omega (arith, full, rest, h)))
-          (omega (arith, full, rest, f)) in
-          let after : on_axis moves new ≡ on_head moves ls new.travelled = ap (λ r. on_head moves r new.travelled) ring in
-          record { whole = 0; slow = omega (arith, after, next); counts = omega (arith, before, c) }
-      | inr s ↦
-          let after : on_axis moves new ≡ 0 = ap (λ r. on_head moves r new.travelled) (s.1 ∙ e) ∙ left_out (moves l.command.action) new.travelled resting in
-          record { whole = 0; slow = omega (arith, after); counts = omega (arith, before, c) }
-    ]
+-- ticks in which the axis steps seldom enough, after these millionths on the head
+abbrev AreFewFrom : (job : Job) (axis : Axis) (ring : List Queued) → RingAccount job axis ring → ℕ → List StepPos → Type 0
+AreFewFrom job axis [] a t ticks = AreFew (steps axis) (axis_rate job axis) (slack_of job) 1 0 0 ticks
+AreFewFrom job axis (l ∷ ls) a t ticks = AreFew (steps axis) (axis_rate job axis) (slack_of job) a.q (a.made (t / MILLION)) (t * a.e) ticks
 
-travel_grows : (job : Job) (axis : Axis) (moves : Action → Bool) (most : ℕ) → IsBoundOn job axis moves most →
-    (l : Queued) (ls : List Queued) (old : State) (o : Outcome) (new : State) →
-    old.ring ≡ l ∷ ls → old.travelled ≤ millionths l - 1 → new.rate ≤ MILLION → 0 < path_steps l → WalksIn job old → Advances old new →
+abbrev AreFewOn : Job → Axis → List Queued → ℕ → List StepPos → Type 0
+AreFewOn job axis ring t ticks = (a : RingAccount job axis ring) → AreFewFrom job axis ring a t ticks
+
+abbrev AreFewIn : Job → Axis → State → List StepPos → Type 0
+AreFewIn job axis s ticks = AreFewOn job axis s.ring s.travelled ticks
+
+-- on the head the steps agree with the travel
+ahead_by : (slack q e m k t : ℕ) → 2 * (q * m) ≤ slack * q + 2 * (k * e) → k * MILLION ≤ t → IsNotAhead slack q m (t * e)
+ahead_by slack q e m k t half whole = let way = mul-le-mul_left e whole in omega (arith, half, way)
+
+behind_by : (slack q e m k t : ℕ) → 2 * (k * e) ≤ slack * q + 2 * (q * m) → e ≤ q → t ≤ k * MILLION + (MILLION - 1) → IsNotBehind slack q m (t * e)
+behind_by slack q e m k t half part whole = let way = mul-le-mul_left e whole in omega (arith, half, way, part)
+
+not_ahead : (slack n q e : ℕ) (made : ℕ → ℕ) (axis : Axis) (path : List StepPos) (t : ℕ) → IsShare axis path slack n q e made → t ≤ n * MILLION - 1 →
+    IsNotAhead slack q (made (t / MILLION)) (t * e)
+not_ahead slack n q e made axis path t s f =
+    ahead_by slack q e (made (t / MILLION)) (t / MILLION) t (s.not_ahead (t / MILLION) (omega (arith, f))) (omega arith)
+
+not_behind : (slack n q e : ℕ) (made : ℕ → ℕ) (axis : Axis) (path : List StepPos) (t : ℕ) → IsShare axis path slack n q e made → t ≤ n * MILLION - 1 →
+    IsNotBehind slack q (made (t / MILLION)) (t * e)
+not_behind slack n q e made axis path t s f =
+    behind_by slack q e (made (t / MILLION)) (t / MILLION) t (s.not_behind (t / MILLION) (omega (arith, f))) s.part (omega arith)
+
+none_few : (job : Job) (axis : Axis) (ring : List Queued) (t : ℕ) → Fits ring t → AreFewOn job axis ring t []
+none_few job axis [] t f a = few_none (steps axis) (axis_rate job axis) (slack_of job) 1 0 0 (omega arith)
+none_few job axis (l ∷ ls) t f a =
+    few_none (steps axis) (axis_rate job axis) (slack_of job) a.q (a.made (t / MILLION)) (t * a.e)
+    (not_ahead (slack_of job) (path_steps l) a.q a.e a.made axis l.path t a.share f)
+
+window_few : (job : Job) (axis : Axis) (ring : List Queued) (a : RingAccount job axis ring) (t : ℕ) (x : StepPos) (ticks : List StepPos) → Fits ring t →
+    AreFewFrom job axis ring a t (x ∷ ticks) → AreBounded (steps axis) (axis_rate job axis) (slack_of job) ticks →
+    AreBounded (steps axis) (axis_rate job axis) (slack_of job) (x ∷ ticks)
+window_few job axis [] a t x ticks f few later =
+    bounded_next (steps axis) (axis_rate job axis) (slack_of job) 1 0 0 x ticks (omega arith) (omega arith) few later
+window_few job axis (l ∷ ls) a t x ticks f few later =
+    bounded_next (steps axis) (axis_rate job axis) (slack_of job) a.q (a.made (t / MILLION)) (t * a.e) x ticks a.share.some
+    (not_behind (slack_of job) (path_steps l) a.q a.e a.made axis l.path t a.share f) few later
+
+-- ---- a tick in which nothing moves
+
+stands : (job : Job) (axis : Axis) (ring : List Queued) (t : ℕ) (x : StepPos) (ticks : List StepPos) → Fits ring t → passes (steps axis x) ≡ 0 →
+    AreFewOn job axis ring t ticks → AreFewOn job axis ring t (x ∷ ticks)
+stands job axis [] t x ticks f none few a =
+    few_same (steps axis) (axis_rate job axis) (slack_of job) 1 0 0 0 0 0 x ticks (omega arith) (omega (arith, none)) (omega arith) (omega arith) (few a)
+stands job axis (l ∷ ls) t x ticks f none few a =
+    few_same (steps axis) (axis_rate job axis) (slack_of job) a.q (a.made (t / MILLION)) (t * a.e) (a.made (t / MILLION)) (t * a.e) 0 x ticks
+    (not_ahead (slack_of job) (path_steps l) a.q a.e a.made axis l.path t a.share f) (omega (arith, none)) (omega arith) (omega arith) (few a)
+
+stands_in : (job : Job) (axis : Axis) (old new : State) (ticks : List StepPos) → Fits old.ring old.travelled → new.position ≡ old.position →
+    AreFewIn job axis old ticks → AreFewIn job axis old (step_to old.position new.position ∷ ticks)
+stands_in job axis old new ticks f p few =
+    stands job axis old.ring old.travelled (step_to old.position new.position) ticks f (no_step axis old.position new.position (ap (on axis) (sym p))) few
+
+rest_few : (job : Job) (axis : Axis) (old new : State) (ticks : List StepPos) → Fits old.ring old.travelled → new ≡ record old { rate = 0 } →
+    AreFewIn job axis new ticks → AreFewIn job axis old (step_to old.position new.position ∷ ticks)
+rest_few job axis old new ticks f n few =
+    stands_in job axis old new ticks f (ap (λ (s : State). s.position) n) (subst (λ (s : State). AreFewIn job axis s ticks) n few)
+
+-- ---- a tick on a head with path steps
+
+-- from point j of a path to point k, the same or the next
+made_next : (slack n q e : ℕ) (made : ℕ → ℕ) (axis : Axis) (path : List StepPos) (j k : ℕ) → IsShare axis path slack n q e made → j ≤ k → k ≤ j + 1 → k ≤ n →
+    passes (steps axis (step_to (point path j) (point path k))) + made j ≤ made k
+made_next slack n q e made axis path j k s jk kj kn = elim (cases_lt j k) [
+  | inl h ↦
+      let next : j + 1 ≡ k = omega (arith, h, kj) in
+      subst (λ i. passes (steps axis (step_to (point path j) (point path i))) + made j ≤ made i) next (s.moves j (omega (arith, h, kn)))
+  | inr h ↦
+      let same : j ≡ k = omega (arith, h, jk) in
+      subst (λ i. passes (steps axis (step_to (point path j) (point path i))) + made j ≤ made i) same
+      (let none = no_step axis (point path j) (point path j) refl in omega (arith, none))
+]
+
+-- what a tick goes on with over a joint
+record Next (job : Job) (axis : Axis) (over v : ℕ) (ticks : List StepPos) : Type 0 where
+  pub q : ℕ
+  pub e : ℕ
+  pub some : 0 < q
+  pub slow : over * (v * e) ≤ over * (axis_rate job axis * q)
+  pub few : AreFew (steps axis) (axis_rate job axis) (slack_of job) q 0 (over * e) ticks
+
+next_few : (job : Job) (axis : Axis) (l : Queued) (ring : List Queued) (over v : ℕ) (ticks : List StepPos) → RingAccount job axis ring →
+    (0 < over → PassesInto job v l ring) → over < MILLION → AreFewOn job axis ring over ticks → Next job axis over v ticks
+next_few job axis l [] over v ticks a into small few = record {
+  q = 1;
+  e = 0;
+  some = omega arith;
+  slow = omega arith;
+  few = few_by (steps axis) (axis_rate job axis) (slack_of job) 1 0 0 0 (over * 0) ticks refl (omega arith) (few a);
+}
+next_few job axis l (k ∷ ks) over v ticks a into small few =
+    let first : over / MILLION ≡ 0 = omega (arith, small) in
+    let begins : a.made (over / MILLION) ≡ 0 = ap a.made first ∙ a.share.begins in
+    record {
+      q = a.q;
+      e = a.e;
+      some = a.share.some;
+      slow = elim (cases_lt 0 over) [
+        | inl more ↦ mul-le-mul_left over (a.slow v (into more).1)
+        | inr none ↦ let z : over ≡ 0 = omega (arith, none) in subst (λ o. o * (v * a.e) ≤ o * (axis_rate job axis * a.q)) (sym z) (omega arith)
+      ];
+      few = few_by (steps axis) (axis_rate job axis) (slack_of job) a.q (a.made (over / MILLION)) (over * a.e) 0 (over * a.e) ticks begins refl (few a);
+    }
+
+whole_travel : (q total n e t rest : ℕ) → q * total ≡ n * e → t + rest ≡ n * MILLION → q * total * MILLION ≡ (t + rest) * e
+whole_travel q total n e t rest ends long = omega (arith, ends, ap (λ s. s * e) long)
+
+over_few : (job : Job) (axis : Axis) (l : Queued) (a : ActionAccount job axis l.command.action l.path) (t over v : ℕ) (x : StepPos) (ticks : List StepPos) →
+    t ≤ millionths l - 1 → 0 < path_steps l → t + v ≡ millionths l + over → passes (steps axis x) + a.made (t / MILLION) ≤ a.made (path_steps l) →
+    IsWithinBounds job.machine l.command.action (path_steps l) v → Next job axis over v ticks →
+    AreFew (steps axis) (axis_rate job axis) (slack_of job) a.q (a.made (t / MILLION)) (t * a.e) (x ∷ ticks)
+over_few job axis l a t over v x ticks f some travel step within next =
+    let rest = millionths l - t in
+    let parts : v ≡ over + rest = omega (arith, travel, f, some) in
+    let long : t + rest ≡ path_steps l * MILLION = omega (arith, f, some) in
+    let whole = whole_travel a.q (a.made (path_steps l)) (path_steps l) a.e t rest a.share.ends long in
+    few_next (steps axis) (axis_rate job axis) (slack_of job) a.q (a.made (t / MILLION)) a.e t (a.made (path_steps l)) next.q next.e over rest x ticks
+    (not_ahead (slack_of job) (path_steps l) a.q a.e a.made axis l.path t a.share f) step whole (omega (arith, f, some)) next.some
+    (subst (λ w. w * a.e ≤ axis_rate job axis * a.q) parts (a.slow v within))
+    (subst (λ w. over * (w * next.e) ≤ over * (axis_rate job axis * next.q)) parts next.slow) next.few
+
+-- the step of the axis in a tick
+tick_step : (axis : Axis) (path : List StepPos) (p q : StepPos) (j k : ℕ) (made : ℕ → ℕ) → p ≡ point path j → q ≡ point path k →
+    passes (steps axis (step_to (point path j) (point path k))) + made j ≤ made k → passes (steps axis (step_to p q)) + made j ≤ made k
+tick_step axis path p q j k made at there step =
+    let e : passes (steps axis (step_to p q)) ≡ passes (steps axis (step_to (point path j) (point path k))) =
+    ap (λ s. passes (steps axis (step_to s q))) at ∙ ap (λ s. passes (steps axis (step_to (point path j) s))) there in
+    omega (arith, e, step)
+
+travel_few : (job : Job) → IsStep job.machine.step → (axis : Axis) (l : Queued) (ls : List Queued) (old : State) (o : Outcome) (new : State) (ticks : List StepPos) →
+    old.ring ≡ l ∷ ls → old.travelled ≤ millionths l - 1 → new.rate ≤ MILLION → 0 < path_steps l → WalksIn job old → WalksIn job new →
     Travels job l ls old o new →
-    Grows axis moves most old new
-travel_grows job axis moves most b l ls old o new e f small p walks advances t =
+    AreFewIn job axis new ticks → AreFewOn job axis (l ∷ ls) old.travelled (step_to old.position new.position ∷ ticks)
+travel_few job unit axis l ls old o new ticks e f small p walks later t few a =
     let m = moved job l ls old o new t in
-    let over = over_small l ls (old.travelled + new.rate - millionths l) (goes_over job l ls old o new small p f t) in
-    let fits : RingFits job walks.left (l ∷ ls) = subst (RingFits job walks.left) e walks.fits in
-    let at = head_path job l ls walks.left walks.place old.travelled old.position walks.joined fits p walks.begins
+    let over = old.travelled + new.rate - millionths l in
+    let goes = goes_over job l ls old o new small p f t in
+    let less = over_small l ls over goes in
+    let at = head_path job l ls walks.left walks.place old.travelled old.position walks.joined (subst (RingFits job walks.left) e walks.fits) p walks.begins
     (λ h. subst (λ r. IsOnHead r old.travelled old.position) e (walks.goes_on h)) in
-    elim (cases_Bool (moves l.command.action)) [
-      | inl moving ↦ moving_grows job axis moves most b l ls old o new e over advances moving t
-      | inr resting ↦
-          let still = b.still l.command.action l.path (head_takes job l ls walks.left fits) resting in
-          let same = same_along axis l.path (old.travelled / MILLION) (place_after l old new.rate) still (omega (arith, p, f)) (omega (arith, small))
-          (omega arith) in
-          still_grows job axis moves most b l ls old o new e f (ap (on axis) at ∙ same ∙ sym (ap (on axis) m.position)) resting t
+    let j = old.travelled / MILLION in
+    elim (m.state) [
+      | inl s ↦
+          let full = s.0 in
+          let k : place_after l old new.rate ≡ path_steps l = omega (arith, full) in
+          let ring : new.ring ≡ ls = s.2 ∙ ap (drop 1) e in
+          let there : AreFewOn job axis ls over ticks = subst (λ r. AreFewOn job axis r over ticks) ring
+          (subst (λ u. AreFewOn job axis new.ring u ticks) s.3 few) in
+          let b = subst (RingAccount job axis) ring (ring_account job unit axis later.left new.ring later.fits) in
+          let next = next_few job axis l ls over new.rate ticks b (λ h. t.may.rules.goes_on (omega (arith, h))) less there in
+          let step = made_next (slack_of job) (path_steps l) a.q a.e a.made axis l.path j (path_steps l) a.share (omega (arith, f, p))
+          (omega (arith, full, small)) (omega arith) in
+          over_few job axis l a old.travelled over new.rate (step_to old.position new.position) ticks f p (omega (arith, full))
+          (tick_step axis l.path old.position new.position j (path_steps l) a.made at (m.position ∙ ap (point l.path) k) step) t.may.rules.within next
+      | inr s ↦
+          let short = s.3 in
+          let next = (old.travelled + new.rate) / MILLION in
+          let k : place_after l old new.rate ≡ next = omega (arith, short) in
+          let there : AreFewOn job axis (l ∷ ls) (old.travelled + new.rate) ticks = subst (λ r. AreFewOn job axis r (old.travelled + new.rate) ticks) (s.1 ∙ e)
+          (subst (λ u. AreFewOn job axis new.ring u ticks) s.2 few) in
+          let step = made_next (slack_of job) (path_steps l) a.q a.e a.made axis l.path j next a.share (omega arith) (omega (arith, small))
+          (omega (arith, short)) in
+          few_same (steps axis) (axis_rate job axis) (slack_of job) a.q (a.made j) (old.travelled * a.e) (a.made next) ((old.travelled + new.rate) * a.e)
+          (new.rate * a.e) (step_to old.position new.position) ticks
+          (not_ahead (slack_of job) (path_steps l) a.q a.e a.made axis l.path old.travelled a.share f)
+          (tick_step axis l.path old.position new.position j next a.made at (m.position ∙ ap (point l.path) k) step) (omega arith)
+          (a.slow new.rate t.may.rules.within) (there a)
     ]
 
-rest_grows : (axis : Axis) (moves : Action → Bool) (most : ℕ) (old new : State) → new ≡ record old { rate = 0 } → Grows axis moves most old new
-rest_grows axis moves most old new n = subst (Grows axis moves most old) (sym n) (stands axis moves most old (record old { rate = 0 }) refl refl)
+-- ---- a head without path steps
 
-finish_grows : (axis : Axis) (moves : Action → Bool) (most : ℕ) (l : Queued) (old new : State) → old.travelled ≤ millionths l - 1 → path_steps l ≡ 0 →
-    new ≡ after l.command.action (record (without_head 0 old) { rate = 0 }) → Grows axis moves most old new
-finish_grows axis moves most l old new f z n =
+-- before anything is travelled on a ring
+zero_few : (job : Job) (axis : Axis) (ring : List Queued) (t q : ℕ) (ticks : List StepPos) → RingAccount job axis ring → t ≡ 0 →
+    AreFewOn job axis ring t ticks → AreFew (steps axis) (axis_rate job axis) (slack_of job) q 0 0 ticks
+zero_few job axis [] t q ticks a z few = few_fresh (steps axis) (axis_rate job axis) (slack_of job) q 1 ticks (omega arith) (few a)
+zero_few job axis (l ∷ ls) t q ticks a z few =
+    let first : t / MILLION ≡ 0 = omega (arith, z) in
+    let none : t * a.e ≡ 0 = omega (arith, ap (λ u. u * a.e) z) in
+    few_fresh (steps axis) (axis_rate job axis) (slack_of job) q a.q ticks a.share.some
+    (few_by (steps axis) (axis_rate job axis) (slack_of job) a.q (a.made (t / MILLION)) (t * a.e) 0 0 ticks (ap a.made first ∙ a.share.begins) none (few a))
+
+still_few : (job : Job) (axis : Axis) (ring : List Queued) (t : ℕ) (ticks : List StepPos) → t ≡ 0 →
+    ((q : ℕ) → AreFew (steps axis) (axis_rate job axis) (slack_of job) q 0 0 ticks) → AreFewOn job axis ring t ticks
+still_few job axis [] t ticks z few a = few 1
+still_few job axis (l ∷ ls) t ticks z few a =
+    let first : 0 ≡ t / MILLION = omega (arith, z) in
+    let none : 0 ≡ t * a.e = omega (arith, ap (λ u. u * a.e) z) in
+    few_by (steps axis) (axis_rate job axis) (slack_of job) a.q 0 0 (a.made (t / MILLION)) (t * a.e) ticks (sym a.share.begins ∙ ap a.made first) none (few a.q)
+
+finish_few : (job : Job) → IsStep job.machine.step → (axis : Axis) (l : Queued) (ls : List Queued) (old new : State) (ticks : List StepPos) → old.ring ≡ l ∷ ls →
+    old.travelled ≤ millionths l - 1 → path_steps l ≡ 0 → WalksIn job new → new ≡ after l.command.action (record (without_head 0 old) { rate = 0 }) →
+    AreFewIn job axis new ticks → AreFewOn job axis (l ∷ ls) old.travelled (step_to old.position new.position ∷ ticks)
+finish_few job unit axis l ls old new ticks e f z later n few =
     let a = after_stays l.command.action (record (without_head 0 old) { rate = 0 }) in
     let travelled : new.travelled ≡ 0 = ap (λ (s : State). s.travelled) n ∙ a.2 in
     let position : new.position ≡ old.position = ap (λ (s : State). s.position) n ∙ a.3 in
-    let before = no_more_than moves old.ring old.travelled in let next = no_more_than moves new.ring new.travelled in
-    stands axis moves most old new position (omega (arith, before, next, travelled, f, z))
+    let b = ring_account job unit axis later.left new.ring later.fits in
+    stands job axis (l ∷ ls) old.travelled (step_to old.position new.position) ticks f
+    (no_step axis old.position new.position (ap (on axis) (sym position)))
+    (still_few job axis (l ∷ ls) old.travelled ticks (omega (arith, f, z)) (λ q. zero_few job axis new.ring new.travelled q ticks b travelled few))
 
-head_grows : (job : Job) (axis : Axis) (moves : Action → Bool) (most : ℕ) → IsBoundOn job axis moves most →
-    (l : Queued) (ls : List Queued) (old : State) (o : Outcome) (new : State) →
-    old.ring ≡ l ∷ ls → old.travelled ≤ millionths l - 1 → new.rate ≤ MILLION → WalksIn job old → Advances old new → HeadTick job l ls old o new →
-    Grows axis moves most old new
-head_grows job axis moves most b l ls old o new e f small walks advances t =
+dwell_few : (job : Job) (axis : Axis) (old new : State) (ticks : List StepPos) → Fits old.ring old.travelled →
+    new ≡ record old { rate = 0; dwelt = suc old.dwelt } →
+    AreFewIn job axis new ticks → AreFewIn job axis old (step_to old.position new.position ∷ ticks)
+dwell_few job axis old new ticks f n few =
+    stands_in job axis old new ticks f (ap (λ (s : State). s.position) n) (subst (λ (s : State). AreFewIn job axis s ticks) n few)
+
+-- ---- a tick
+
+abbrev Ticks : Job → Axis → State → State → List StepPos → Type 0
+Ticks job axis old new ticks = AreFewIn job axis new ticks → AreFewIn job axis old (step_to old.position new.position ∷ ticks)
+
+from_head : (job : Job) (axis : Axis) (ring : List Queued) (old : State) (ticks : List StepPos) → old.ring ≡ ring →
+    AreFewOn job axis ring old.travelled ticks → AreFewIn job axis old ticks
+from_head job axis ring old ticks e few = subst (λ r. AreFewOn job axis r old.travelled ticks) (sym e) few
+
+head_few : (job : Job) → IsStep job.machine.step → (axis : Axis) (l : Queued) (ls : List Queued) (old : State) (o : Outcome) (new : State) (ticks : List StepPos) →
+    old.ring ≡ l ∷ ls → old.travelled ≤ millionths l - 1 → Fits old.ring old.travelled → new.rate ≤ MILLION → WalksIn job old → WalksIn job new →
+    HeadTick job l ls old o new → Ticks job axis old new ticks
+head_few job unit axis l ls old o new ticks e f fits small walks later t few =
     elim (match_with (nat_lt 0 (path_steps l)) (Travels job l ls old o new)
     (MatchBool old.held (Rests old o new) (Serves job l.command.action old o new)) t) [
-      | inl u ↦ travel_grows job axis moves most b l ls old o new e f small (let b = u.0 in grind (arith, nat_tests)) walks advances u.1
+      | inl u ↦ from_head job axis (l ∷ ls) old (step_to old.position new.position ∷ ticks) e
+          (travel_few job unit axis l ls old o new ticks e f small (let b = u.0 in grind (arith, nat_tests)) walks later u.1 few)
       | inr u ↦ elim (match_with old.held (Rests old o new) (Serves job l.command.action old o new) u.1) [
-        | inl r ↦ rest_grows axis moves most old new r.1.stands
+        | inl r ↦ rest_few job axis old new ticks fits r.1.stands few
         | inr r ↦ elim (match_with (nat_lt (suc old.dwelt) (ticks_of job l.command.action)) (Dwells old o new)
             (Finishes l.command.action old o new) r.1) [
-              | inl d ↦ subst (Grows axis moves most old) (sym d.1.counts)
-                  (stands axis moves most old (record old { rate = 0; dwelt = suc old.dwelt }) refl refl)
-              | inr d ↦ finish_grows axis moves most l old new f (let b = u.0 in grind (arith, nat_tests)) d.1.goes_on
+              | inl d ↦ dwell_few job axis old new ticks fits d.1.counts few
+              | inr d ↦ from_head job axis (l ∷ ls) old (step_to old.position new.position ∷ ticks) e
+                  (finish_few job unit axis l ls old new ticks e f (let b = u.0 in grind (arith, nat_tests)) later d.1.goes_on few)
             ]
       ]
     ]
 
-tick_grows : (job : Job) (axis : Axis) (moves : Action → Bool) (most : ℕ) → IsBoundOn job axis moves most →
-    (stopped : Bool) (ring : List Queued) (old : State) (o : Outcome) (new : State) →
-    old.ring ≡ ring → Fits ring old.travelled → new.rate ≤ MILLION → WalksIn job old → Advances old new → TickBy job stopped ring old o new →
-    Grows axis moves most old new
-tick_grows job axis moves most b true ring old o new e f small walks advances t = rest_grows axis moves most old new t.stands
-tick_grows job axis moves most b false [] old o new e f small walks advances t = rest_grows axis moves most old new t.stands
-tick_grows job axis moves most b false (l ∷ ls) old o new e f small walks advances t =
-    head_grows job axis moves most b l ls old o new e f small walks advances t
+tick_few : (job : Job) → IsStep job.machine.step → (axis : Axis) (stopped : Bool) (ring : List Queued) (old : State) (o : Outcome) (new : State) (ticks : List StepPos) →
+    old.ring ≡ ring → Fits ring old.travelled → Fits old.ring old.travelled → new.rate ≤ MILLION → WalksIn job old → WalksIn job new →
+    TickBy job stopped ring old o new → Ticks job axis old new ticks
+tick_few job unit axis true ring old o new ticks e f fits small walks later t few = rest_few job axis old new ticks fits t.stands few
+tick_few job unit axis false [] old o new ticks e f fits small walks later t few = rest_few job axis old new ticks fits t.stands few
+tick_few job unit axis false (l ∷ ls) old o new ticks e f fits small walks later t few =
+    head_few job unit axis l ls old o new ticks e f fits small walks later t few
 
 -- ---- other events
 
-pushed : (moves : Action → Bool) (ring : List Queued) (l : Queued) (t : ℕ) → Fits ring t → on_head moves (ring ++ l ∷ []) t ≡ on_head moves ring t
-pushed moves [] l t f = let most = no_more_than moves (l ∷ []) t in omega (arith, most, f)
-pushed moves (k ∷ ks) l t f = refl
+pushed : (job : Job) (axis : Axis) (ring : List Queued) (l : Queued) (t : ℕ) (ticks : List StepPos) → Fits ring t → RingAccount job axis (ring ++ l ∷ []) →
+    AreFewOn job axis (ring ++ l ∷ []) t ticks → AreFewOn job axis ring t ticks
+pushed job axis [] l t ticks f b few a = zero_few job axis (l ∷ []) t 1 ticks b f few
+pushed job axis (k ∷ ks) l t ticks f b few a = few a
 
-load_stays : (job : Job) (moves : Action → Bool) (old : State) (next : Option Command) (o : Outcome) (new : State) → Fits old.ring old.travelled →
-    LoadCommand job old next o new →
-    on_axis moves new ≡ on_axis moves old
-load_stays job moves old None o new f t = ap (on_axis moves) t.1
-load_stays job moves old (Some c) o new f t =
+load_few : (job : Job) → IsStep job.machine.step → (axis : Axis) (old : State) (next : Option Command) (o : Outcome) (new : State) (ticks : List StepPos) →
+    Fits old.ring old.travelled → WalksIn job new → LoadCommand job old next o new → AreFewIn job axis new ticks → AreFewIn job axis old ticks
+load_few job unit axis old None o new ticks f later t few = subst (λ (s : State). AreFewIn job axis s ticks) t.1 few
+load_few job unit axis old (Some c) o new ticks f later t few =
     elim (match_with (nat_lt (length old.ring) job.machine.ring) _ _ t) [
-      | inl u ↦ ap (on_axis moves) u.1.3 ∙ pushed moves old.ring (record { command = c; path = u.1.0 }) old.travelled f
-      | inr u ↦ ap (on_axis moves) u.1.1
+      | inl u ↦
+          let l : Queued = record { command = c; path = u.1.0 } in
+          let b = subst (λ (s : State). RingAccount job axis s.ring) u.1.3 (ring_account job unit axis later.left new.ring later.fits) in
+          pushed job axis old.ring l old.travelled ticks f b (subst (λ (s : State). AreFewIn job axis s ticks) u.1.3 few)
+      | inr u ↦ subst (λ (s : State). AreFewIn job axis s ticks) u.1.1 few
     ]
 
-event_stays : (job : Job) (moves : Action → Bool) (old : State) (e : Event) (o : Outcome) (new : State) → is_tick e ≡ false → Fits old.ring old.travelled →
-    Step job old e o new →
-    on_axis moves new ≡ on_axis moves old
-event_stays job moves old Tick o new n f t = absurd (true≢false n)
-event_stays job moves old Load o new n f t = load_stays job moves old (command_at job (loaded old)) o new f t
-event_stays job moves old Hold o new n f t = ap (on_axis moves) t.1
-event_stays job moves old Resume o new n f t = ap (on_axis moves) t.1
-event_stays job moves old Start o new n f t = ap (on_axis moves) t.1
-event_stays job moves old (StopSwitch on) o new n f t = ap (on_axis moves) t.1
-event_stays job moves old (Override p) o new n f t = elim (match_with (nat_le p 200) _ _ t) [
-  | inl u ↦ ap (on_axis moves) u.1.1
-  | inr u ↦ ap (on_axis moves) u.1.1
+event_few : (job : Job) → IsStep job.machine.step → (axis : Axis) (old : State) (e : Event) (o : Outcome) (new : State) (ticks : List StepPos) → is_tick e ≡ false →
+    Fits old.ring old.travelled → WalksIn job new → Step job old e o new → AreFewIn job axis new ticks → AreFewIn job axis old ticks
+event_few job unit axis old Tick o new ticks n f later t few = absurd (true≢false n)
+event_few job unit axis old Load o new ticks n f later t few = load_few job unit axis old (command_at job (loaded old)) o new ticks f later t few
+event_few job unit axis old Hold o new ticks n f later t few = subst (λ (s : State). AreFewIn job axis s ticks) t.1 few
+event_few job unit axis old Resume o new ticks n f later t few = subst (λ (s : State). AreFewIn job axis s ticks) t.1 few
+event_few job unit axis old Start o new ticks n f later t few = subst (λ (s : State). AreFewIn job axis s ticks) t.1 few
+event_few job unit axis old (StopSwitch on) o new ticks n f later t few = subst (λ (s : State). AreFewIn job axis s ticks) t.1 few
+event_few job unit axis old (Override p) o new ticks n f later t few = elim (match_with (nat_le p 200) _ _ t) [
+  | inl u ↦ subst (λ (s : State). AreFewIn job axis s ticks) u.1.1 few
+  | inr u ↦ subst (λ (s : State). AreFewIn job axis s ticks) u.1.1 few
 ]
 
 -- ---- runs
 
--- ticks that continue from a state, after motions of q whole millions that moved the axis
-abbrev IsSlowFrom : Axis → (Action → Bool) → ℕ → ℕ → State → List StepPos → Type 0
-IsSlowFrom axis moves most q s ticks = AreSlow (steps axis) most (q * MILLION + on_axis moves s) ticks
+abbrev IsCounted : Job → Axis → State → List StepPos → Type 0
+IsCounted job axis s ticks = AreFewIn job axis s ticks × AreBounded (steps axis) (axis_rate job axis) (slack_of job) ticks
 
-slow_later : (job : Job) (axis : Axis) (moves : Action → Bool) (most q : ℕ) (old : State) (e : Event) (o : Outcome) (new : State) (ticks : List StepPos) →
-    is_tick e ≡ false →
+later_counted : (job : Job) → IsStep job.machine.step → (axis : Axis) (old : State) (e : Event) (o : Outcome) (new : State) (ticks : List StepPos) → is_tick e ≡ false →
     job.machine.max_rate ≤ MILLION → Fits old.ring old.travelled → WalksIn job old → Step job old e o new →
-    (Fits new.ring new.travelled → WalksIn job new → IsSlowFrom axis moves most q new ticks) → IsSlowFrom axis moves most q old ticks
-slow_later job axis moves most q old e o new ticks n m f w t later =
-    subst (λ s. AreSlow (steps axis) most (q * MILLION + s) ticks) (event_stays job moves old e o new n f t)
-    (later (event_keeps job old e o new m f t).1 (waits job old e o new n w t).0)
+    (Fits new.ring new.travelled → WalksIn job new → IsCounted job axis new ticks) → IsCounted job axis old ticks
+later_counted job unit axis old e o new ticks n m f w t from =
+    let later = (waits job old e o new n w t).0 in
+    let c = from (event_keeps job old e o new m f t).1 later in
+    (event_few job unit axis old e o new ticks n f later t c.0, c.1)
 
-run_slow : (job : Job) (axis : Axis) (moves : Action → Bool) (most : ℕ) → IsBoundOn job axis moves most →
-    (q : ℕ) (old : State) (es : List Event) (os : List Outcome) (states : List State) →
+run_counted : (job : Job) → IsStep job.machine.step → (axis : Axis) (old : State) (es : List Event) (os : List Outcome) (states : List State) →
     job.machine.max_rate ≤ MILLION → Fits old.ring old.travelled → WalksIn job old → Run job old es os states →
-    IsSlowFrom axis moves most q old (pulses old.position es states)
-run_slow job axis moves most b q old [] os states m f w r = tt
-run_slow job axis moves most b q old (e ∷ es) os [] m f w r = tt
-run_slow job axis moves most b q old (e ∷ es) [] (new ∷ states) m f w r = absurd r
-run_slow job axis moves most b q old (Tick ∷ es) (o ∷ os) (new ∷ states) m f w r =
+    IsCounted job axis old (pulses old.position es states)
+run_counted job unit axis old [] os states m f w r =
+    (none_few job axis old.ring old.travelled f, bounded_none (steps axis) (axis_rate job axis) (slack_of job))
+run_counted job unit axis old (e ∷ es) os [] m f w r =
+    (none_few job axis old.ring old.travelled f, bounded_none (steps axis) (axis_rate job axis) (slack_of job))
+run_counted job unit axis old (e ∷ es) [] (new ∷ states) m f w r = absurd r
+run_counted job unit axis old (Tick ∷ es) (o ∷ os) (new ∷ states) m f w r =
     let k = event_keeps job old Tick o new m f r.0 in
     let greatest = rate_most job old.ring old new.rate k.0 in
     let small : new.rate ≤ MILLION = omega (arith, greatest, m) in
     let t = tick_both job old.stopped old.ring old o new refl f small w r.0 in
-    let g = tick_grows job axis moves most b old.stopped old.ring old o new refl f small w t.0 r.0 in
-    let slow = g.slow in let counts = g.counts in (
-      (q + g.whole) * MILLION + on_axis moves new,
-      omega (arith, slow),
-      omega (arith, counts),
-      run_slow job axis moves most b (q + g.whole) new es os states m k.1 t.1 r.1,
-    )
-run_slow job axis moves most b q old (Load ∷ es) (o ∷ os) (new ∷ states) m f w r =
-    slow_later job axis moves most q old Load o new (pulses new.position es states) refl m f w r.0
-    (λ g v. run_slow job axis moves most b q new es os states m g v r.1)
-run_slow job axis moves most b q old (Hold ∷ es) (o ∷ os) (new ∷ states) m f w r =
-    slow_later job axis moves most q old Hold o new (pulses new.position es states) refl m f w r.0
-    (λ g v. run_slow job axis moves most b q new es os states m g v r.1)
-run_slow job axis moves most b q old (Resume ∷ es) (o ∷ os) (new ∷ states) m f w r =
-    slow_later job axis moves most q old Resume o new (pulses new.position es states) refl m f w r.0
-    (λ g v. run_slow job axis moves most b q new es os states m g v r.1)
-run_slow job axis moves most b q old (Start ∷ es) (o ∷ os) (new ∷ states) m f w r =
-    slow_later job axis moves most q old Start o new (pulses new.position es states) refl m f w r.0
-    (λ g v. run_slow job axis moves most b q new es os states m g v r.1)
-run_slow job axis moves most b q old (StopSwitch on ∷ es) (o ∷ os) (new ∷ states) m f w r =
-    slow_later job axis moves most q old (StopSwitch on) o new (pulses new.position es states) refl m f w r.0
-    (λ g v. run_slow job axis moves most b q new es os states m g v r.1)
-run_slow job axis moves most b q old (Override p ∷ es) (o ∷ os) (new ∷ states) m f w r =
-    slow_later job axis moves most q old (Override p) o new (pulses new.position es states) refl m f w r.0
-    (λ g v. run_slow job axis moves most b q new es os states m g v r.1)
+    let c = run_counted job unit axis new es os states m k.1 t.1 r.1 in
+    let few = tick_few job unit axis old.stopped old.ring old o new (pulses new.position es states) refl f f small w t.1 r.0 c.0 in
+    let a = ring_account job unit axis w.left old.ring w.fits in
+    (few, window_few job axis old.ring a old.travelled (step_to old.position new.position) (pulses new.position es states) f (few a) c.1)
+run_counted job unit axis old (Load ∷ es) (o ∷ os) (new ∷ states) m f w r =
+    later_counted job unit axis old Load o new (pulses new.position es states) refl m f w r.0
+    (λ g v. run_counted job unit axis new es os states m g v r.1)
+run_counted job unit axis old (Hold ∷ es) (o ∷ os) (new ∷ states) m f w r =
+    later_counted job unit axis old Hold o new (pulses new.position es states) refl m f w r.0
+    (λ g v. run_counted job unit axis new es os states m g v r.1)
+run_counted job unit axis old (Resume ∷ es) (o ∷ os) (new ∷ states) m f w r =
+    later_counted job unit axis old Resume o new (pulses new.position es states) refl m f w r.0
+    (λ g v. run_counted job unit axis new es os states m g v r.1)
+run_counted job unit axis old (Start ∷ es) (o ∷ os) (new ∷ states) m f w r =
+    later_counted job unit axis old Start o new (pulses new.position es states) refl m f w r.0
+    (λ g v. run_counted job unit axis new es os states m g v r.1)
+run_counted job unit axis old (StopSwitch on ∷ es) (o ∷ os) (new ∷ states) m f w r =
+    later_counted job unit axis old (StopSwitch on) o new (pulses new.position es states) refl m f w r.0
+    (λ g v. run_counted job unit axis new es os states m g v r.1)
+run_counted job unit axis old (Override p ∷ es) (o ∷ os) (new ∷ states) m f w r =
+    later_counted job unit axis old (Override p) o new (pulses new.position es states) refl m f w r.0
+    (λ g v. run_counted job unit axis new es os states m g v r.1)
 
--- in n ticks the axis has no more pulses than its bound allows
-pub axis_window : (job : Job) → IsMachine job.machine → AreJoined job.machine.start (ways_of (actions_of job.commands)) →
-    (axis : Axis) (moves : Action → Bool) (most : ℕ) → IsBoundOn job axis moves most →
+-- in n ticks the axis has no more pulses than its rate and the slack allow
+pub axis_window : (job : Job) → IsMachine job.machine → AreJoined job.machine.start (ways_of (actions_of job.commands)) → (axis : Axis) →
     (es : List Event) (os : List Outcome) (states : List State) → Run job (opening job.machine) es os states → (i n : ℕ) →
-    count_by (λ p. is_stepping (on axis p)) (take n (drop i (pulses (grid job.machine.step job.machine.start) es states))) ≤ up_to_whole (n * most)
-axis_window job machine joined axis moves most b es os states r i n =
-    slow_window (steps axis) most (0 * MILLION + 0) (pulses (grid job.machine.step job.machine.start) es states)
-    (run_slow job axis moves most b 0 (opening job.machine) es os states machine.max_rate.greatest refl (opening_walks job joined) r) i n
+    count_in (λ p. is_stepping (on axis p)) i n (pulses (grid job.machine.step job.machine.start) es states)
+    ≤ up_to_whole (n * axis_rate job axis) + slack_of job
+axis_window job machine joined axis es os states r =
+    (run_counted job machine.step axis (opening job.machine) es os states machine.max_rate.greatest refl (opening_walks job joined) r).1

@@ -29,10 +29,15 @@ pub mod PulseRules
 -- A motion never steps on an axis on which its ends agree, unless it is an arc and the axis is in
 -- its plane.
 pub mod StillAxes
--- Windows over ticks that each add at most m millionths to a travel, and pass a test only if one
--- more million is full.
-pub mod AxisTravel
--- The rates on the motions that move an axis bound its pulses.
+-- Counts of the ticks in which an axis steps, on motions in which it has a share of the path steps.
+pub mod AxisCounts
+-- A position of a path that follows a line is within one and a half steps of its share of the way
+-- between the grid points of the ends.
+pub mod LineShares
+-- The share of an axis in the path steps of each motion, and the steps that the axis has made on the
+-- way.
+pub mod AxisAccounts
+-- The accounts of the motions bound the pulses of an axis.
 pub mod AxisPulses
 -- The pulses of a run keep their rules: those of each axis, and those of path steps.
 pub mod AxisRules

@@ -13,13 +13,9 @@ use Rattle.ngc_fixed_length.specs.LinePath.{point, FollowsLine, IsLineOf}
 use Rattle.ngc_fixed_length.specs.Places.{height}
 use Rattle.ngc_commands.specs.declared.movement.Way.{Way}
 use Rattle.ngc_commands.specs.declared.movement.Way.TheVariants.{Line, Arc}
-use Rattle.ngc_commands.specs.declared.command.Action.{Action}
-use Rattle.ngc_commands.specs.declared.command.Action.TheVariants.{Move}
 use Rattle.ngc_commands.specs.ProgramPath.{IsPathOf}
 use Rattle.ngc_planner.specs.declared.axes.Axes.{Axes}
 use Rattle.ngc_planner.specs.Axes.{differing, with_plane, axes_of}
-use Rattle.ngc_machine_model.specs.State.{Job}
-use Rattle.ngc_machine_model.specs.Step.{MayTake}
 
 -- ---- one axis
 
@@ -39,11 +35,6 @@ has X a = a.x
 has Y a = a.y
 has Z a = a.z
 
--- an action may move it
-abbrev pub may_move : Axis → ℤ → Action → Bool
-may_move axis step (Move m) = has axis (axes_of step m.way)
-may_move axis step _ = false
-
 -- no move of a path steps on it
 abbrev pub IsStill : Axis → List StepPos → Type 0
 IsStill axis path = (k : ℕ) → k < length path - 1 → on axis (point path k) ≡ on axis (point path (k + 1))
@@ -51,7 +42,7 @@ IsStill axis path = (k : ℕ) → k < length path - 1 → on axis (point path k)
 -- ---- paths
 
 -- n moves from p to q that follow a line on the axis
-record Follows (axis : Axis) (step : ℤ) (n : ℕ) (b e : ℤ) (p q : StepPos) (path : List StepPos) : Type 0 where
+pub record Follows (axis : Axis) (step : ℤ) (n : ℕ) (b e : ℤ) (p q : StepPos) (path : List StepPos) : Type 0 where
   pub count : length path ≡ n + 1
   pub starts : point path 0 ≡ p
   pub ends : point path n ≡ q
@@ -80,18 +71,18 @@ still axis step n b e p q path f h k less =
     let s = stays step n b e (λ i. on axis (point path i)) f.follows ends in
     s k (omega (arith, c, less)) ∙ sym (s (k + 1) (omega (arith, c, less)))
 
-line_follows : (axis : Axis) (step : ℤ) (b e : Point3) (n : ℕ) (path : List StepPos) → IsLineOf step b e n path →
+pub line_follows : (axis : Axis) (step : ℤ) (b e : Point3) (n : ℕ) (path : List StepPos) → IsLineOf step b e n path →
     (c : ℤ) × (d : ℤ) × Follows axis step n c d (grid step b) (grid step e) path
 line_follows X step b e n path l = (b.x, e.x, record { count = l.count; starts = l.starts; ends = l.ends; follows = l.x })
 line_follows Y step b e n path l = (b.y, e.y, record { count = l.count; starts = l.starts; ends = l.ends; follows = l.y })
 line_follows Z step b e n path l = (b.z, e.z, record { count = l.count; starts = l.starts; ends = l.ends; follows = l.z })
 
 -- the heights of a path's points above a plane
-abbrev heights : Plane → List StepPos → ℕ → ℤ
+abbrev pub heights : Plane → List StepPos → ℕ → ℤ
 heights plane path k = height plane (record { x = (point path k).x; y = (point path k).y; z = (point path k).z })
 
 -- an arc's path, in its plane's coordinates
-record Rises (plane : Plane) (step : ℤ) (n : ℕ) (b e : ℤ) (p q : StepPos) (path : List StepPos) : Type 0 where
+pub record Rises (plane : Plane) (step : ℤ) (n : ℕ) (b e : ℤ) (p q : StepPos) (path : List StepPos) : Type 0 where
   pub count : length path ≡ n + 1
   pub starts : point path 0 ≡ p
   pub ends : point path n ≡ q
@@ -109,7 +100,7 @@ still_arc X YZ step n b e p q path r h = still X step n b e p q path (record { c
 still_arc Y YZ step n b e p q path r h = absurd (true≢false h)
 still_arc Z YZ step n b e p q path r h = absurd (true≢false h)
 
-still_way : (axis : Axis) (step : ℤ) (way : Way) (path : List StepPos) → IsPathOf step way path → has axis (axes_of step way) ≡ false → IsStill axis path
+pub still_way : (axis : Axis) (step : ℤ) (way : Way) (path : List StepPos) → IsPathOf step way path → has axis (axes_of step way) ≡ false → IsStill axis path
 still_way axis step (Line b e) path w h =
     let n = greatest_distance (grid step b) (grid step e) in
     let f = line_follows axis step b e n path w in
@@ -117,9 +108,3 @@ still_way axis step (Line b e) path w h =
 still_way axis step (Arc a) path w h =
     still_arc axis a.plane step w.0 (height a.plane a.start) (height a.plane a.end) (grid step a.start) (grid step a.end) path
     (record { count = w.1.weak.count; starts = w.1.weak.starts; ends = w.1.weak.ends; rises = w.1.rises }) h
-
--- a path that an action may take is still on the axes that the action does not move
-pub still_action : (axis : Axis) (job : Job) (a : Action) (path : List StepPos) → MayTake job a path → may_move axis job.machine.step a ≡ false →
-    IsStill axis path
-still_action axis job (Move m) path take h = still_way axis job.machine.step m.way path take h
-still_action axis job _ path take h = λ k less. absurd (let e = ap length take in omega (arith, e, less))

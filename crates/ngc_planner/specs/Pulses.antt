@@ -24,22 +24,24 @@ count_in test i n ticks = count_by test (take n (drop i ticks))
 abbrev pub up_to_whole : ℕ → ℕ
 up_to_whole x = (x + (MILLION - 1)) / MILLION
 
--- The greatest rate of an axis' pulses, if its rate is this number. On a machine with limits of each
--- axis nothing is said of the axis, since it has a share of the rate that rounding makes uneven.
-abbrev pub pulse_rate : Option AxisLimits → ℕ → ℕ → ℕ
-pulse_rate None greatest rate = min greatest rate
-pulse_rate (Some limits) greatest rate = greatest
+-- On a machine with limits of each axis an axis has a share of a motion's rate. Its path is within a
+-- step of the line, whose ends are within half a step of grid points: so at each end of a window of
+-- ticks it may be one and a half steps ahead of its share or behind.
+abbrev pub uneven : Option AxisLimits → ℕ
+uneven None = 0
+uneven (Some limits) = 3
+
+-- the greatest number of pulses in n ticks of an axis whose rate is this number
+abbrev pub most_pulses : MachineFile → ℕ → ℕ → ℕ
+most_pulses machine rate n = up_to_whole (n * min machine.max_rate rate) + uneven machine.own
 
 pub record KeepsPulseRules (machine : MachineFile) (ticks : List Pulse) : Type 0 where
   pub x : (i n : ℕ) → i + n ≤ length ticks →
-      count_in (λ p. is_stepping p.x) i n ticks
-      ≤ up_to_whole (n * pulse_rate machine.own machine.max_rate machine.axis_rates.x)
+      count_in (λ p. is_stepping p.x) i n ticks ≤ most_pulses machine machine.axis_rates.x n
   pub y : (i n : ℕ) → i + n ≤ length ticks →
-      count_in (λ p. is_stepping p.y) i n ticks
-      ≤ up_to_whole (n * pulse_rate machine.own machine.max_rate machine.axis_rates.y)
+      count_in (λ p. is_stepping p.y) i n ticks ≤ most_pulses machine machine.axis_rates.y n
   pub z : (i n : ℕ) → i + n ≤ length ticks →
-      count_in (λ p. is_stepping p.z) i n ticks
-      ≤ up_to_whole (n * pulse_rate machine.own machine.max_rate machine.axis_rates.z)
+      count_in (λ p. is_stepping p.z) i n ticks ≤ most_pulses machine machine.axis_rates.z n
   -- two windows of n ticks, one directly after the other
   pub faster : (i n : ℕ) → i + n + n ≤ length ticks →
       count_in is_path_step (i + n) n ticks ≤ count_in is_path_step i n ticks
