@@ -1,8 +1,9 @@
 -- The lines of a file, in order.
-use Rattle.std.proofs.Common.{◌≡◌, ℕ, Option, ◌+◌, ◌<◌, ◌≤◌, List, [], ◌∷◌, length, Bool, true, false, cond, refl, ap, sym, ◌∙◌, arith}
-use Rattle.std.specs.Prelude.{◌==◌}
+use Rattle.std.proofs.Common.{◌≡◌, ℕ, Option, ◌+◌, ◌<◌, ◌≤◌, List, [], ◌∷◌, length, Bool, true, false, cond, refl, ap, ◌∙◌, arith}
+use Rattle.std.specs.Prelude.{◌==◌, ◌-◌, nat_le}
 use Rattle.ngc_file_lines.specs.Lines.{longer_first, lines_of, line_of, rest_after_line}
 use Rattle.ngc_file_lines.specs.Search.{sought, after, line_from}
+use Rattle.ngc_file_lines.specs.Places.{place_from}
 use Rattle.ngc_file_lines.specs.declared.search.Seek.{Seek}
 
 -- a byte that is no line feed
@@ -47,3 +48,19 @@ line_from-next header key table ahead number bytes line afterwards is h l b s =
 pub filled : (xs : List ℕ) → (length xs == 0) ≡ false → 0 < length xs
 filled [] h = cc
 filled (x ∷ xs) h = omega arith
+
+pub place_from-next : (number n : ℕ) (bytes line afterwards : List ℕ) → 0 < length bytes → line ≡ line_of bytes → afterwards ≡ rest_after_line bytes
+    → place_from number n (lines_of bytes)
+    ≡ cond (nat_le n (length line)) (record { number = number; line = line; before = n }) (place_from (number + 1) (n - (length line + 1)) (lines_of afterwards))
+place_from-next number n bytes line afterwards h l b =
+    ap (place_from number n) (lines_of-split bytes h) ∙ rw (l, b) refl
+
+pub place_from-here : (number n : ℕ) (bytes line afterwards : List ℕ) → 0 < length bytes → line ≡ line_of bytes → afterwards ≡ rest_after_line bytes
+    → nat_le n (length line) ≡ true → place_from number n (lines_of bytes) ≡ record { number = number; line = line; before = n }
+place_from-here number n bytes line afterwards h l b is =
+    place_from-next number n bytes line afterwards h l b ∙ rw (is) refl
+
+pub place_from-later : (number n : ℕ) (bytes line afterwards : List ℕ) → 0 < length bytes → line ≡ line_of bytes → afterwards ≡ rest_after_line bytes
+    → nat_le n (length line) ≡ false → place_from number n (lines_of bytes) ≡ place_from (number + 1) (n - (length line + 1)) (lines_of afterwards)
+place_from-later number n bytes line afterwards h l b is =
+    place_from-next number n bytes line afterwards h l b ∙ rw (is) refl

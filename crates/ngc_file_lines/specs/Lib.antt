@@ -1,3 +1,4 @@
 pub mod Lines
 pub mod Search
 pub mod Values
+pub mod Places

@@ -2,3 +2,5 @@
 pub mod Unshown
 -- How long the name of an unknown table is.
 pub mod Names
+-- What is written of a stop, as a text for some stop.
+pub mod Stopped

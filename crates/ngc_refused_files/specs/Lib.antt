@@ -3,3 +3,4 @@ pub mod Examples
 pub mod Sentences
 pub mod Headers
 pub mod Refusals
+pub mod Stops

@@ -1,5 +1,5 @@
 //! The line of a refusal, and the value on it.
-ghost use Rattle.std.specs.Prelude.{◌≡◌, ◌≤◌, IfSome, length, option_map};
+ghost use Rattle.std.specs.Prelude.{◌≡◌, option_map};
 ghost use Rattle.std.specs.List.{list_all};
 ghost use Rattle.ngc_file_lines.specs.Search.{numbered};
 ghost use Rattle.ngc_file_lines.specs.Values.{placed};

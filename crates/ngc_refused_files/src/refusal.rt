@@ -55,7 +55,7 @@ fn is_short(line: &[u8]) -> bool
     line.len() <= 94
 }
 
-fn say_below<W: Sink>(line: &[u8], mark: Option<usize>, page: &mut Page, output: &mut W)
+pub(crate) fn say_below<W: Sink>(line: &[u8], mark: Option<usize>, page: &mut Page, output: &mut W)
     ensures { Says (W.written output.old) (W.written output.new)
         (W.failures output.old) (W.failures output.new) page.old page.new
         (spec.shown_below line.now mark) }
