@@ -102,6 +102,7 @@ numbers_in_file f scale rates steps ring s r w i = record {
   ticks_per_second = r.ticks;
   max_rate = r.max_rate;
   change = r.change;
+  changes = r.changes;
   corner = r.corner;
   turn = r.turn;
   axis_rate = r.axis_rate;

@@ -25,6 +25,7 @@ rates_in n =
       axis_rate = n.axis_rate;
       max_rate = n.max_rate;
       change = n.change;
+      changes = n.changes;
       corner = n.corner;
       turn = n.turn;
       jump = n.jump;

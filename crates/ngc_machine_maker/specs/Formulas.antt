@@ -168,10 +168,19 @@ speed_or otherwise (Some speed) = speed
 abbrev pub jump_speed : Figures → Speed
 jump_speed f = speed_or f.corner f.jump
 
+-- the change that an axis can follow, at most a step per tick in each tick
+abbrev pub limited_change : Scale → ℕ → Acceleration → Result ℕ FigureRefusal
+limited_change scale ticks a =
+    some refusals.LowAcceleration
+    (min (change_of scale ticks a.nanometres_a_second_squared) 1000000)
+
+abbrev pub each_change : Scale → ℕ → PerAxis Acceleration → Result (PerAxis ℕ) FigureRefusal
+each_change scale ticks accelerations =
+    each_axis (λ a axis. limited_change scale ticks a) accelerations
+
 -- one change serves all axes: the one that the slowest axis can follow
-abbrev pub limited_change : Scale → ℕ → PerAxis Acceleration → Result ℕ FigureRefusal
-limited_change scale ticks accelerations =
-    some refusals.LowAcceleration (min (change_of scale ticks (least accelerations)) 1000000)
+abbrev pub least_of : PerAxis ℕ → ℕ
+least_of changes = min (min changes.x changes.y) changes.z
 
 -- an acceleration above 4,400 m/s^2 counts as that
 abbrev pub on_arcs : ℕ → ℕ
@@ -196,13 +205,14 @@ rates_of scale f =
     and_then (ticks_of scale f) (λ ticks.
     and_then (each_rate scale ticks f.feed) (λ rates.
     and_then (corner_of scale ticks (greatest_of rates) f.corner) (λ corner.
-    and_then (limited_change scale ticks f.acceleration) (λ change.
+    and_then (each_change scale ticks f.acceleration) (λ changes.
     and_then (limited_turn f.arc_feed scale ticks (arcs_of f)) (λ turn.
     Ok (record {
       ticks = ticks;
       axis_rate = rates;
       max_rate = greatest_of rates;
-      change = change;
+      change = least_of changes;
+      changes = changes;
       corner = corner;
       turn = turn;
       jump = jump_of scale ticks corner f.jump;

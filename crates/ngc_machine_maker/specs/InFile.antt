@@ -29,6 +29,7 @@ pub record AreInFile (n : MachineNumbers) : Type 0 where
   pub ticks_per_second : IsRate n.ticks_per_second
   pub max_rate : IsRate n.max_rate
   pub change : IsRate n.change
+  pub changes : AreRates n.changes
   pub corner : IsRate n.corner
   pub turn : IsTurn n.turn
   pub axis_rate : AreRates n.axis_rate

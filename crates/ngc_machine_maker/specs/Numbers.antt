@@ -32,6 +32,7 @@ numbers_by f scale rates steps ring =
       ticks_per_second = rates.ticks;
       max_rate = rates.max_rate;
       change = rates.change;
+      changes = rates.changes;
       corner = rates.corner;
       turn = rates.turn;
       axis_rate = rates.axis_rate;

@@ -34,6 +34,7 @@ pub record AreAllRates (rates : Rates) : Type 0 where
   pub axis_rate : AreRates rates.axis_rate
   pub max_rate : IsRate rates.max_rate
   pub change : IsRate rates.change
+  pub changes : AreRates rates.changes
   pub corner : IsRate rates.corner
   pub turn : IsTurn rates.turn
   pub jump : rates.jump ≤ 1000000

@@ -40,6 +40,12 @@ pub record AreNoFaster (scale : Scale) (ticks : ℕ) (rates : PerAxis ℕ) (feed
 abbrev pub IsFollowedBy : Scale → ℕ → ℕ → Acceleration → Type 0
 IsFollowedBy scale ticks change a = IsNoGreaterAcceleration scale ticks change a.nanometres_a_second_squared
 
+pub record AreFollowedBy (scale : Scale) (ticks : ℕ) (changes : PerAxis ℕ)
+    (accelerations : PerAxis Acceleration) : Type 0 where
+  pub x : IsFollowedBy scale ticks changes.x accelerations.x
+  pub y : IsFollowedBy scale ticks changes.y accelerations.y
+  pub z : IsFollowedBy scale ticks changes.z accelerations.z
+
 -- rates and changes are no greater than requested, on each axis
 pub record AreSafe (scale : Scale) (rates : Rates) (f : Figures) : Type 0 where
   pub feed : AreNoFaster scale rates.ticks rates.axis_rate f.feed
@@ -48,6 +54,8 @@ pub record AreSafe (scale : Scale) (rates : Rates) (f : Figures) : Type 0 where
   pub x_follows : IsFollowedBy scale rates.ticks rates.change f.acceleration.x
   pub y_follows : IsFollowedBy scale rates.ticks rates.change f.acceleration.y
   pub z_follows : IsFollowedBy scale rates.ticks rates.change f.acceleration.z
+  -- the change of each axis by itself
+  pub changes : AreFollowedBy scale rates.ticks rates.changes f.acceleration
   pub arcs : IsNoHarderOnArcs f.arc_feed scale rates.ticks rates.turn (arcs_of f)
 
 -- a number of steps is no longer than a length

@@ -20,6 +20,8 @@ pub struct MachineNumbers {
     pub ticks_per_second: u32,
     pub max_rate: u32,
     pub change: u32,
+    /// The change of each axis by itself, which is no key; `change` is the least of them.
+    pub changes: PerAxis<u32>,
     pub corner: u32,
     pub turn: u64,
     pub axis_rate: PerAxis<u32>,
@@ -105,6 +107,7 @@ pub fn numbers_of(figures: &Figures) -> Result<MachineNumbers, FigureRefusal>
         ticks_per_second: rates.ticks,
         max_rate: rates.max_rate,
         change: rates.change,
+        changes: rates.changes,
         corner: rates.corner,
         turn: rates.turn,
         axis_rate: rates.axis_rate,

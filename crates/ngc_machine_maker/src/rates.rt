@@ -1,14 +1,15 @@
 //! Speeds and accelerations in steps.
 ghost use Rattle.std.specs.Prelude.{◌≡◌, ◌+◌, ◌*◌, ◌/◌, ◌<◌, ◌≤◌, ◌^◌, min, max, IfOk};
 ghost use Rattle.ngc_machine_maker.specs.Formulas.{rate_of, change_of, turn_of, axis_rate};
-ghost use Rattle.ngc_machine_maker.specs.Formulas.{each_rate, fastest, least};
+ghost use Rattle.ngc_machine_maker.specs.Formulas.{each_rate, least};
 ghost use Rattle.ngc_machine_maker.specs.Formulas.{chosen_ticks, ticks_of, corner_of, jump_of, jump_speed};
-ghost use Rattle.ngc_machine_maker.specs.Formulas.{limited_change, limited_turn, arcs_of};
+ghost use Rattle.ngc_machine_maker.specs.Formulas.{limited_change, each_change};
+ghost use Rattle.ngc_machine_maker.specs.Formulas.{limited_turn, arcs_of};
 ghost use Rattle.ngc_machine_maker.specs.Formulas.{diagonal_turns};
 ghost use Rattle.ngc_machine_maker.specs.Formulas.{greatest_of, rates_of};
 ghost use Rattle.ngc_machine_maker.specs.Ranges.{IsScale, IsRate, AreRates, IsTurn, AreAllRates};
 ghost use Rattle.ngc_machine_maker.specs.Safe.{IsNoMore, IsNoFaster, IsNoGreaterAcceleration, IsNoHarderOnArcs};
-ghost use Rattle.ngc_machine_maker.specs.Safe.{AreNoFaster, AreSafe};
+ghost use Rattle.ngc_machine_maker.specs.Safe.{AreNoFaster, IsFollowedBy, AreFollowedBy, AreSafe};
 
 use crate::figures::{Acceleration, Axis, Figures, PerAxis, Speed};
 use crate::refusal::FigureRefusal;
@@ -28,19 +29,10 @@ pub(crate) struct Rates {
     pub axis_rate: PerAxis<u32>,
     pub max_rate: u32,
     pub change: u32,
+    pub changes: PerAxis<u32>,
     pub corner: u32,
     pub turn: u64,
     pub jump: u32,
-}
-
-fn fastest(speeds: &PerAxis<Speed>) -> u64
-    ensures { result ≡ fastest speeds.now }
-{
-    speeds
-        .x
-        .nanometres_a_minute
-        .max(speeds.y.nanometres_a_minute)
-        .max(speeds.z.nanometres_a_minute)
 }
 
 /// Returns the least of three accelerations, in nanometres per second squared.
@@ -60,7 +52,12 @@ fn chosen_ticks(scale: &Scale, feed: &PerAxis<Speed>) -> u32
     ensures value { result ≡ chosen_ticks scale.now feed.now }
     ensures range { IsRate result }
 {
-    let steps = u128::from(fastest(feed)) * u128::from(scale.steps);
+    let fastest = feed
+        .x
+        .nanometres_a_minute
+        .max(feed.y.nanometres_a_minute)
+        .max(feed.z.nanometres_a_minute);
+    let steps = u128::from(fastest) * u128::from(scale.steps);
     let thousands = steps / (30_000 * u128::from(scale.per)) + 1;
     (1_000 * thousands).clamp(10_000, 1_000_000) as u32
 }
@@ -184,24 +181,42 @@ fn jump_of(scale: &Scale, ticks: u32, corner: u32, figures: &Figures) -> u32
     }
 }
 
-// Returns a change that the slowest axis can follow, at most a step per tick in each tick.
+// Returns a change that an axis can follow, at most a step per tick in each tick.
 fn limited_change(
     scale: &Scale,
     ticks: u32,
-    accelerations: &PerAxis<Acceleration>,
+    acceleration: Acceleration,
 ) -> Result<u32, FigureRefusal>
     requires scale { IsScale scale.now }
     requires ticks { IsRate ticks }
-    ensures value { result ≡ limited_change scale.now ticks accelerations.now }
+    ensures value { result ≡ limited_change scale.now ticks acceleration }
     ensures range { IfOk result IsRate }
-    ensures safe { IfOk result (λ change.
-        IsNoGreaterAcceleration scale.now ticks change (least accelerations.now)) }
+    ensures safe { IfOk result (λ change. IsFollowedBy scale.now ticks change acceleration) }
 {
-    let change = change_of(scale, ticks, least(accelerations)).min(GREATEST_RATE);
+    let change = change_of(scale, ticks, acceleration.nanometres_a_second_squared).min(
+        GREATEST_RATE,
+    );
     if change == 0 {
         return Err(FigureRefusal::LowAcceleration);
     }
     Ok(change as u32)
+}
+
+fn changes_of(
+    scale: &Scale,
+    ticks: u32,
+    accelerations: &PerAxis<Acceleration>,
+) -> Result<PerAxis<u32>, FigureRefusal>
+    requires scale { IsScale scale.now }
+    requires ticks { IsRate ticks }
+    ensures value { result ≡ each_change scale.now ticks accelerations.now }
+    ensures range { IfOk result AreRates }
+    ensures safe { IfOk result (λ changes. AreFollowedBy scale.now ticks changes accelerations.now) }
+{
+    let x = limited_change(scale, ticks, accelerations.x)?;
+    let y = limited_change(scale, ticks, accelerations.y)?;
+    let z = limited_change(scale, ticks, accelerations.z)?;
+    Ok(PerAxis { x, y, z })
 }
 
 fn limited_turn(
@@ -254,13 +269,15 @@ pub(crate) fn rates_of(scale: &Scale, figures: &Figures) -> Result<Rates, Figure
     let axis_rate = axis_rates(scale, ticks, &figures.feed)?;
     let max_rate = greatest_of(&axis_rate);
     let corner = corner_of(scale, ticks, max_rate, figures.corner)?;
-    let change = limited_change(scale, ticks, &figures.acceleration)?;
+    let changes = changes_of(scale, ticks, &figures.acceleration)?;
+    let change = changes.x.min(changes.y).min(changes.z);
     let turn = limited_turn(figures.arc_feed, scale, ticks, arcs_of(figures))?;
     Ok(Rates {
         ticks,
         axis_rate,
         max_rate,
         change,
+        changes,
         corner,
         turn,
         jump: jump_of(scale, ticks, corner, figures),

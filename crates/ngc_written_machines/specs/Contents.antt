@@ -8,6 +8,7 @@ use Rattle.ngc_machine_figures.specs.declared.sheet.Length.{Length}
 use Rattle.ngc_machine_figures.specs.declared.sheet.PlaceSheet.{PlaceSheet}
 use Rattle.ngc_machine_figures.specs.Files.{SheetValues}
 use Rattle.ngc_machine_files.specs.declared.machine_contents.Coordinates.{Coordinates}
+use Rattle.ngc_machine_files.specs.declared.machine_contents.LimitNumbers.{LimitNumbers}
 use Rattle.ngc_machine_files.specs.declared.machine_contents.MachineNumbers.{MachineNumbers}
 use Rattle.ngc_machine_files.specs.declared.machine_contents.MachineOptions.{MachineOptions}
 use Rattle.ngc_machine_files.specs.declared.machine_contents.MachinePoints.{MachinePoints}
@@ -17,6 +18,7 @@ use Rattle.ngc_machine_files.specs.declared.machine.Rapids.TheVariants.{Straight
 use Rattle.ngc_machine_files.specs.MachineText.{MachineValues}
 use Rattle.ngc_machine_maker.specs.declared.figures.PerAxis.{PerAxis}
 use Rattle.ngc_machine_maker.specs.declared.numbers.MachineNumbers as maker
+use Rattle.ngc_machine_maker.specs.Formulas.{greatest_of}
 use Rattle.ngc_written_machines.specs.Corners.{coordinates, place_on_grid, fixture, stock}
 use Rattle.ngc_written_machines.specs.Motors.{travel_ends}
 
@@ -43,13 +45,14 @@ optional_numbers s rates = record {
   travel_margin = or_zero s.places.travel_margin;
 }
 
+-- the machine's change is the greatest of the axes' changes
 abbrev pub numbers : HeadSheet → maker.MachineNumbers → MachineNumbers
 numbers s rates = record {
   version = pos 2;
   step = pos rates.step;
   ticks_per_second = pos rates.ticks_per_second;
   max_rate = pos rates.max_rate;
-  change = pos rates.change;
+  change = pos (greatest_of rates.changes);
   corner = pos rates.corner;
   turn = pos rates.turn;
   optional = optional_numbers s rates;
@@ -69,6 +72,13 @@ options s = record {
 
 abbrev pub axis_rates : PerAxis ℕ → Coordinates
 axis_rates r = record { x = pos r.x; y = pos r.y; z = pos r.z }
+
+-- each axis has the change of its own acceleration, and the turn is that of the machine
+abbrev pub own_limits : maker.MachineNumbers → LimitNumbers
+own_limits rates = record {
+  changes = axis_rates rates.changes;
+  turns = record { x = pos rates.turn; y = pos rates.turn; z = pos rates.turn };
+}
 
 -- a program starts at zero, unless the file says otherwise; the start is on the grid of the steps
 abbrev pub start_at : ℕ → Option Place → Coordinates
@@ -98,15 +108,15 @@ abbrev pub origin : Option Place → Coordinates
 origin None = record { x = pos 0; y = pos 0; z = pos 0 }
 origin (Some place) = coordinates place
 
--- what a machine file of version 2 has for a sheet, with the step and the rates of its figures, and
--- with the step of each axis' motor; no axis has limits of its own
+-- what a machine file of version 2 has for a sheet, with the step and the rates of its figures, with
+-- the step of each axis' motor, and with limits of each axis
 abbrev pub values_by : SheetValues → MotorSteps → maker.MachineNumbers → MachineValues
 values_by s own rates = record {
   numbers = numbers s.head rates;
   options = options s;
   motor_steps = own;
   axis_rates = axis_rates rates.axis_rate;
-  own = None;
+  own = Some (own_limits rates);
   points = points rates.step (travel_ends rates.step own s.head.axes) s.head.places;
   origins = map origin s.head.origins;
   fixtures = map fixture s.fixtures;

@@ -1,6 +1,7 @@
 //! The contents of a machine file of what is written in one of version 3.
 ghost use Rattle.std.specs.Prelude.{◌≡◌, ◌<◌, IfOk, map};
 ghost use Rattle.ngc_machine_files.specs.MachineText.{values_of};
+ghost use Rattle.ngc_machine_maker.specs.Formulas.{greatest_of};
 ghost use Rattle.ngc_machine_maker.specs.InFile.{AreInFile};
 ghost use Rattle.ngc_machine_figures.specs.Files.{values_of as sheet_values};
 ghost use Rattle.ngc_written_machines.specs.Contents as spec;
@@ -11,8 +12,8 @@ use crate::corners::{coordinates, fixture, place_on_grid, stock};
 use crate::motors::travel_ends;
 use ngc_machine_figures::{FixtureSheet, HeadSheet, Length, PlaceSheet, Sheet};
 use ngc_machine_files::{
-    Coordinates, Corners, MachineContents, MachineNumbers, MachineOptions, MachinePoints,
-    OptionalNumbers, Rapids,
+    Coordinates, Corners, LimitNumbers, MachineContents, MachineNumbers, MachineOptions,
+    MachinePoints, OptionalNumbers, Rapids,
 };
 use ngc_machine_maker::{MachineNumbers as Rates, PerAxis};
 use ngc_motors::MotorSteps;
@@ -61,6 +62,13 @@ fn optional_numbers(head: &HeadSheet, rates: &Rates) -> OptionalNumbers
     }
 }
 
+fn greatest_of(changes: &PerAxis<u32>) -> u32
+    ensures { result ≡ greatest_of changes.now }
+{
+    changes.x.max(changes.y).max(changes.z)
+}
+
+// Returns the numbers of a file. The machine's change is the greatest of the axes' changes.
 fn numbers(head: &HeadSheet, rates: &Rates) -> MachineNumbers
     requires { AreInFile rates.now }
     ensures { result ≡ spec.numbers head.now rates.now }
@@ -70,7 +78,7 @@ fn numbers(head: &HeadSheet, rates: &Rates) -> MachineNumbers
         step: i64::from(rates.step),
         ticks_per_second: i64::from(rates.ticks_per_second),
         max_rate: i64::from(rates.max_rate),
-        change: i64::from(rates.change),
+        change: i64::from(greatest_of(&rates.changes)),
         corner: i64::from(rates.corner),
         turn: rates.turn as i64,
         optional: optional_numbers(head, rates),
@@ -104,6 +112,22 @@ fn axis_rates(rates: &PerAxis<u32>) -> Coordinates
         x: i64::from(rates.x),
         y: i64::from(rates.y),
         z: i64::from(rates.z),
+    }
+}
+
+// Returns the limits of each axis: the change of its own acceleration, and the machine's turn.
+fn own_limits(rates: &Rates) -> LimitNumbers
+    requires { AreInFile rates.now }
+    ensures { result ≡ spec.own_limits rates.now }
+{
+    let turn = rates.turn as i64;
+    LimitNumbers {
+        changes: axis_rates(&rates.changes),
+        turns: Coordinates {
+            x: turn,
+            y: turn,
+            z: turn,
+        },
     }
 }
 
@@ -182,9 +206,10 @@ fn fixtures(alloc: Global, sheets: &[FixtureSheet]) -> Result<Vec<Corners>, Allo
 }
 
 /// Returns the contents of a machine file of version 2 for a sheet, with the step and the rates of
-/// its figures and with the step of each axis' motor. Home positions, origins, fixtures and the block
-/// of material are as they are written. The start is on the grid of the steps, and the travel of an
-/// axis ends at whole steps of its motor, if that isn't the grid's. It fails if memory is refused.
+/// its figures, with the step of each axis' motor, and with limits of each axis. Home positions,
+/// origins, fixtures and the block of material are as they are written. The start is on the grid of
+/// the steps, and the travel of an axis ends at whole steps of its motor, if that isn't the grid's.
+/// It fails if memory is refused.
 pub(crate) fn contents_of(
     alloc: Global,
     sheet: &Sheet,
@@ -203,7 +228,7 @@ pub(crate) fn contents_of(
         options: options(sheet),
         motor_steps: *motors,
         axis_rates: axis_rates(&rates.axis_rate),
-        own: None,
+        own: Some(own_limits(rates)),
         points: points(rates.step, &travel, &sheet.head.places),
         origins: origins(&sheet.head.origins),
         fixtures,
