@@ -1,5 +1,5 @@
 -- Data in blocks, as they come.
-use Rattle.std.proofs.Common.{◌≡◌, ℕ, zero, suc, ◌+◌, ◌-◌, ◌*◌, ◌/◌, ◌%◌, ◌<◌, ◌≤◌, Option, List, [], ◌∷◌, ◌++◌, length, take, drop, refl, ap, sym, ◌∙◌, subst, arith, append_assoc, append-nil, length-append}
+use Rattle.std.proofs.Common.{◌≡◌, ℕ, zero, suc, ◌+◌, ◌-◌, ◌*◌, ◌/◌, ◌%◌, ◌<◌, ◌≤◌, Option, Some, None, List, [], ◌∷◌, ◌++◌, length, take, drop, refl, ap, sym, ◌∙◌, subst, arith, append_assoc, append-nil, length-append}
 use Rattle.std.proofs.lemmas.List.{length-drop, drop-drop, drop-append-le, take-append-le, take_all, drop_all}
 use Rattle.std.specs.Io.KnownBytes.{Appends, Keeps}
 use Rattle.ngc_text.specs.Written.{AppendsPrefix}
@@ -22,9 +22,9 @@ blocks_split (suc q) m d e h =
     let more : q * 16000 ≤ length (drop 16000 d) = omega (arith, h, length-drop 16000 d) in
     let place : drop (q * 16000) (drop 16000 d) ≡ drop (suc q * 16000) d = drop-drop (q * 16000) 16000 d ∙ ap (λ n. drop n d) (omega arith) in
     rw (count q m) (rw (take-append-le 16000 d e enough, drop-append-le 16000 d e enough) (rw (blocks_split q m (drop 16000 d) e more, place) (
-      sym (append_assoc (block 0 (take 16000 d)) (blocks q (drop 16000 d)) (blocks m (drop (suc q * 16000) d ++ e)))))) where
-  count : (q m : ℕ) → suc q + m ≡ suc (q + m)
-  count q m = omega arith
+    sym (append_assoc (block 0 (take 16000 d)) (blocks q (drop 16000 d)) (blocks m (drop (suc q * 16000) d ++ e)))))) where
+      count : (q m : ℕ) → suc q + m ≡ suc (q + m)
+      count q m = omega arith
 
 fit : (d : List ℕ) → length d / 16000 * 16000 ≤ length d
 fit d = omega arith
@@ -148,8 +148,8 @@ pub up_to_short : (old new : Option (List ℕ)) (before after : Stream) (whole l
 up_to_short old new before after whole later done = done.1.short
 
 -- no data yet
-pub up_to_none : (known : Option (List ℕ)) (s : Stream) (whole : List ℕ) → length s.waiting.items < 16000 → AddsUpTo known known s s whole whole
-up_to_none known s whole h = ([], adds_none known s h, refl)
+pub up_to_none : (known : Option (List ℕ)) (s : Stream) (whole later : List ℕ) → length s.waiting.items < 16000 → whole ≡ later → AddsUpTo known known s s whole later
+up_to_none known s whole later h is = ([], adds_none known s h, is)
 
 -- a byte is added, and others follow
 pub up_to_byte : (old mid new : Option (List ℕ)) (before between after : Stream) (whole later others : List ℕ) (b byte : ℕ) →

@@ -15,8 +15,8 @@ odd_sum : (a b : ℕ) → (bit_xor a b % 2 == 1) ≡ differ (a % 2 == 1) (b % 2 
 odd_sum a b =
     let e : bit_xor a b % 2 ≡ bit_xor (a % 2) (b % 2) = xor_mod a b 1 in
     elim (even_or_odd a) [
-    | inl p ↦ elim (even_or_odd b) [ inl q ↦ rw (e, p, q) refl | inr q ↦ rw (e, p, q) refl ]
-    | inr p ↦ elim (even_or_odd b) [ inl q ↦ rw (e, p, q) refl | inr q ↦ rw (e, p, q) refl ]
+      | inl p ↦ elim (even_or_odd b) [ inl q ↦ rw (e, p, q) refl | inr q ↦ rw (e, p, q) refl ]
+      | inr p ↦ elim (even_or_odd b) [ inl q ↦ rw (e, p, q) refl | inr q ↦ rw (e, p, q) refl ]
     ]
 
 half_sum : (a b : ℕ) → bit_xor a b / 2 ≡ bit_xor (a / 2) (b / 2)
@@ -108,8 +108,8 @@ divides_none c later n = ap (λ i. divided i (added later (bits 32 c))) (none n)
 pub divides_both : (a b : List Bool) (old mid new : ℕ) → Divides a old mid → Divides b mid new → Divides (a ++ b) old new
 divides_both a b old mid new first second later n =
     rw (append_assoc a b later, length-append a b) (rw (regrouped (length a) (length b) n) (first (b ++ later) (length b + n) ∙ second later n)) where
-  regrouped : (i j n : ℕ) → i + j + n ≡ i + (j + n)
-  regrouped i j n = omega arith
+      regrouped : (i j n : ℕ) → i + j + n ≡ i + (j + n)
+      regrouped i j n = omega arith
 
 eight : (b : ℕ) → length (bits 8 b) ≡ 8
 unfolding bits
@@ -139,8 +139,8 @@ unfolding remainder divided
 remains bytes register divides =
     rw trues (ap (λ n. divided n (added (message bytes ++ replicate 32 false) (bits 32 4294967295))) (sym (same (length (message bytes))))
     ∙ divides (replicate 32 false) 0 ∙ alone 32 register) where
-  same : (n : ℕ) → n + 0 ≡ n
-  same n = omega arith
+      same : (n : ℕ) → n + 0 ≡ n
+      same n = omega arith
 
 pub message_both : (a b : List ℕ) → message (a ++ b) ≡ message a ++ message b
 message_both a b = flat_map-append (bits 8) a b

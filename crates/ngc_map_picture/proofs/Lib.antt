@@ -10,3 +10,5 @@ pub mod Chunks
 pub mod Blocked
 -- The colours and the pixels of a picture, in order.
 pub mod Rows
+-- A whole picture, from its parts.
+pub mod Pictures

@@ -64,3 +64,12 @@ grey_fits high top h = div_below (high * 253) top 253 (omega (arith, h)) (omega 
 
 pub few_pixels : (m : ℕ) → 1000 / m ≤ 1000
 few_pixels m = div-le_self 1000 m
+
+less_none : (n : ℕ) → n ≡ n - 0
+less_none n = omega arith
+
+pub all_pixels : (r : Relief) (y n : ℕ) → pixels r y 0 n ≡ pixels r y 0 (n - 0)
+all_pixels r y n = ap (pixels r y 0) (less_none n)
+
+pub all_rows : (r : Relief) (n : ℕ) → scanlines r 0 n ≡ scanlines r 0 (n - 0)
+all_rows r n = ap (scanlines r 0) (less_none n)

@@ -55,11 +55,7 @@ fn block_head(last: u8, size: u16) -> [u8; 5]
 
 /// Writes a stored block as a chunk; `last` is 1 if it is the last block. After a fault a prefix of
 /// it is written.
-pub(crate) fn write_block<W: Sink>(
-    last: u8,
-    bytes: &[u8],
-    sink: &mut W,
-) -> Result<(), WriteFault>
+pub(crate) fn write_block<W: Sink>(last: u8, bytes: &[u8], sink: &mut W) -> Result<(), WriteFault>
     requires { length bytes.now ≤ SIZE }
     ensures ok { OnOk result
         (Appends (W.written sink.old) (W.written sink.new) (block last bytes.now)) }

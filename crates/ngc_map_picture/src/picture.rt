@@ -1,9 +1,9 @@
 //! The picture as a file.
-ghost use Rattle.std.specs.Prelude.{◌≡◌, ◌<◌, ◌≤◌, ◌++◌, ◌∷◌, [], length, OnOk, OnErr};
+ghost use Rattle.std.specs.Prelude.{◌≡◌, ◌<◌, ◌≤◌, ◌++◌, ◌∷◌, [], codes, length, OnOk, OnErr};
 ghost use Rattle.std.specs.Io.KnownBytes.{Appends};
 ghost use Rattle.ngc_text.specs.Failures.{CountsFailure};
 ghost use Rattle.ngc_text.specs.Written.{AppendsPrefix};
-ghost use Rattle.ngc_map_picture.specs.Blocks.{SIZE, ended, full_blocks, stream};
+ghost use Rattle.ngc_map_picture.specs.Blocks.{SIZE, chunk, ended, full_blocks, stream};
 ghost use Rattle.ngc_map_picture.specs.Streams.{AddsData, AreSums};
 ghost use Rattle.ngc_map_picture.specs.Png.{header, last_chunk, settings, signature};
 ghost use Rattle.ngc_map_picture.specs.Maps.{IsRelief, width, height, palette, pixels, scanlines, map_picture};
@@ -65,11 +65,7 @@ fn add_row<W: Sink>(
 }
 
 /// Adds all rows of pixels. After a fault a prefix of the full blocks is written.
-fn add_rows<W: Sink>(
-    relief: &Relief<'_>,
-    rows: &mut Stream,
-    sink: &mut W,
-) -> Result<(), WriteFault>
+fn add_rows<W: Sink>(relief: &Relief<'_>, rows: &mut Stream, sink: &mut W) -> Result<(), WriteFault>
     requires relief { IsRelief relief.now }
     requires short { length rows.old.waiting.items < SIZE }
     ensures ok { OnOk result (AddsData (W.written sink.old) (W.written sink.new) rows.old rows.new
@@ -133,6 +129,30 @@ fn header(width: u32, height: u32) -> [u8; 13]
     [a, b, c, d, e, f, g, h, 8, 3, 0, 0, 0]
 }
 
+/// Writes the chunk with the size. After a fault a prefix of it is written.
+fn write_size<W: Sink>(width: u32, height: u32, sink: &mut W) -> Result<(), WriteFault>
+    ensures ok { OnOk result (Appends (W.written sink.old) (W.written sink.new)
+        (chunk (codes "IHDR") (header width height))) }
+    ensures fault { OnErr result (AppendsPrefix (W.written sink.old) (W.written sink.new)
+        (chunk (codes "IHDR") (header width height))) }
+    ensures counts { CountsFailure (W.failures sink.old) (W.failures sink.new) result }
+{
+    let size = header(width, height);
+    write_chunk(b"IHDR", b"", &size, sink)
+}
+
+/// Writes the chunk with the palette. After a fault a prefix of it is written.
+fn write_palette<W: Sink>(sink: &mut W) -> Result<(), WriteFault>
+    ensures ok { OnOk result (Appends (W.written sink.old) (W.written sink.new)
+        (chunk (codes "PLTE") palette)) }
+    ensures fault { OnErr result (AppendsPrefix (W.written sink.old) (W.written sink.new)
+        (chunk (codes "PLTE") palette)) }
+    ensures counts { CountsFailure (W.failures sink.old) (W.failures sink.new) result }
+{
+    let colours = palette();
+    write_chunk(b"PLTE", b"", colours.as_slice(), sink)
+}
+
 /// Writes the chunks before the rows. After a fault a prefix of them is written.
 fn write_settings<W: Sink>(width: u32, height: u32, sink: &mut W) -> Result<(), WriteFault>
     ensures ok { OnOk result (Appends (W.written sink.old) (W.written sink.new)
@@ -141,8 +161,8 @@ fn write_settings<W: Sink>(width: u32, height: u32, sink: &mut W) -> Result<(), 
         (settings width height palette)) }
     ensures counts { CountsFailure (W.failures sink.old) (W.failures sink.new) result }
 {
-    match write_chunk(b"IHDR", b"", &header(width, height), sink) {
-        Ok(()) => write_chunk(b"PLTE", b"", palette().as_slice(), sink),
+    match write_size(width, height, sink) {
+        Ok(()) => write_palette(sink),
         Err(fault) => Err(fault),
     }
 }

@@ -42,11 +42,7 @@ pub(crate) fn begin<W: Sink>(sink: &mut W) -> Result<Stream, WriteFault>
 /// Adds a byte, and writes the block that is full with it.
 ///
 /// After a fault a prefix of that block is written.
-pub(crate) fn add<W: Sink>(
-    stream: &mut Stream,
-    byte: u8,
-    sink: &mut W,
-) -> Result<(), WriteFault>
+pub(crate) fn add<W: Sink>(stream: &mut Stream, byte: u8, sink: &mut W) -> Result<(), WriteFault>
     requires { length stream.old.waiting.items < SIZE }
     ensures ok { OnOk result
         (AddsData (W.written sink.old) (W.written sink.new) stream.old stream.new (byte ∷ [])) }

@@ -1,10 +1,10 @@
 use Rattle.std.proofs.Common.{rules, refl, arith}
 use Rattle.ngc_map_picture.proofs.Blocked.{up_to_all, up_to_byte, up_to_byte_stops, up_to_none, up_to_short}
-use Rattle.ngc_map_picture.proofs.Rows.{no_pixels, pixels_next}
+use Rattle.ngc_map_picture.proofs.Rows.{all_pixels, no_pixels, pixels_next}
 use Rattle.ngc_map_picture.proofs.picture.add_pixels.Goals as goal
 
 pub loop-x-init : goal.loop-x-init
-loop-x-init g c = record { added = up_to_none _ _ _ c.requires.short; failures = refl }
+loop-x-init g c = record { added = up_to_none _ _ _ _ c.requires.short (all_pixels _ _ _); failures = refl }
 
 pub add-requires : goal.add-requires
 add-requires g c = up_to_short _ _ _ _ _ _ c.loop-x.invariant.added

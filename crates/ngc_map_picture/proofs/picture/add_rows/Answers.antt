@@ -1,10 +1,10 @@
 use Rattle.std.proofs.Common.{rules, refl, arith}
 use Rattle.ngc_map_picture.proofs.Blocked.{up_to_all, up_to_more, up_to_none, up_to_short, up_to_stops}
-use Rattle.ngc_map_picture.proofs.Rows.{no_rows, rows_next}
+use Rattle.ngc_map_picture.proofs.Rows.{all_rows, no_rows, rows_next}
 use Rattle.ngc_map_picture.proofs.picture.add_rows.Goals as goal
 
 pub loop-y-init : goal.loop-y-init
-loop-y-init g c = record { added = up_to_none _ _ _ c.requires.short; failures = refl }
+loop-y-init g c = record { added = up_to_none _ _ _ _ c.requires.short (all_rows _ _); failures = refl }
 
 pub add_row-requires-clause-short : goal.add_row-requires-clause-short
 add_row-requires-clause-short g c = up_to_short _ _ _ _ _ _ c.loop-y.invariant.added
