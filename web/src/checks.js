@@ -53,9 +53,10 @@ export function makeChecks(store, jobs) {
     store.watch(state => [current(state, 'report')], report => {
       if (report && groupsNow(store.state).some(it => it.warnings.length || it.notes.length)) begin('remarks', 'remarks', 'remarks', inputs());
     });
-    // Every place in the way, and the other setting of block delete, once the first verdict is there.
+    // Every place in the way, and the other setting of block delete, once the first verdict is there. Of a refused program for another
+    // control the report says only the first fault.
     store.watch(state => [current(state, 'report')], report => {
-      if (report && !report.refusedFile && groupsNow(store.state).some(it => !it.fits)) begin('every', 'side', 'report', { ...inputs(), all: true });
+      if (report && !report.refusedFile && !report.refusal && groupsNow(store.state).some(it => !it.fits)) begin('every', 'side', 'report', { ...inputs(), all: true });
     });
   }
   return {

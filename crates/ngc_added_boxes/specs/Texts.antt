@@ -1,8 +1,9 @@
 -- The values of two options: `--fixture "left clamp=54:-30,20,-10,-5,40,15"` is a name, a coordinate
--- system and two opposite corners in millimetres; `--stock 54:0,0,-20,100,60,0` has no name. Our own.
+-- system and two opposite corners in millimetres; `--stock 54:0,0,-20,100,60,0` has no name. With a
+-- unit they are as in `54: 0, 0, -1 in to 4, 2, 0 in`. Our own.
 use Rattle.std.specs.Prelude.{ℕ, ◌+◌, ◌==◌, ℤ, int_lt, nat_le, nat_lt, Bool, true, false}
 use Rattle.std.specs.Prelude.{not, ◌&&◌, List, [], ◌∷◌, ◌++◌, length, take, drop, fold, Option, Some}
-use Rattle.std.specs.Prelude.{None, Result, Ok, Err, if◌then◌else◌}
+use Rattle.std.specs.Prelude.{None, Result, Ok, Err, if◌then◌else◌, unsigned_abs}
 use Rattle.std.specs.Int.{int_min, int_max}
 use Rattle.std.specs.List.{prefix_len}
 use Rattle.std.specs.Path.{rsplit_once}
@@ -10,6 +11,9 @@ use Rattle.ngc_fixed_length.specs.declared.points.Point3.{Point3}
 use Rattle.ngc_machine_files.specs.Names.{name_of}
 use Rattle.ngc_machine_files.specs.Ranges.{BLOCK_LIMIT, CORNER_LIMIT}
 use Rattle.ngc_machine_maker.specs.Decimals.{number_in, three_texts}
+use Rattle.ngc_quantities.specs.Ranges.{place_of as written_in}
+use Rattle.ngc_quantities.specs.declared.fault.Fault.{Fault}
+use Rattle.ngc_quantities.specs.declared.range.Place.{Place}
 use Rattle.ngc_origins.specs.Texts.{begins_minus, negative, place_of, positive, system_in}
 use Rattle.ngc_added_boxes.specs.Boxes.{AddedBoxes, MOST_ADDED, no_boxes}
 use Rattle.ngc_added_boxes.specs.declared.boxes.AddedFixture.{AddedFixture}
@@ -63,10 +67,52 @@ with_third limit x y (Some parts) =
     both_of (corner_in limit x y parts.0)
     (corner_in limit (three_texts parts.1).x (three_texts parts.1).y (three_texts parts.1).z)
 
--- two corners: six coordinates, separated by commas
-abbrev pub corners_in : ℕ → List ℕ → Option (Point3 × Point3)
-corners_in limit text =
+-- two corners: six numbers in millimetres, separated by commas
+abbrev pub plain_corners : ℕ → List ℕ → Option (Point3 × Point3)
+plain_corners limit text =
     with_third limit (three_texts text).x (three_texts text).y (split_first 44 (three_texts text).z)
+
+-- ---- corners with a unit, as a machine file of version 3 has them
+
+-- a length of at most `limit` nanometres either way
+abbrev pub near : ℕ → ℤ → Option ℤ
+near limit z = if nat_le (unsigned_abs z) limit then Some z else None
+
+abbrev pub near_place : ℕ → Place → Option Point3
+near_place limit p = place_of (near limit p.x) (near limit p.y) (near limit p.z)
+
+abbrev pub near_found : ℕ → Result Place Fault → Option Point3
+near_found limit (Ok p) = near_place limit p
+near_found limit (Err fault) = None
+
+abbrev pub written_corner : ℕ → List ℕ → Option Point3
+written_corner limit text = near_found limit (written_in text)
+
+-- the first t is that of the word `to`
+abbrev pub after_o : List ℕ → List ℕ → Option (List ℕ × List ℕ)
+after_o before [] = None
+after_o before (b ∷ after) = if b == 111 then Some (before, after) else None
+
+abbrev pub with_to : Option (List ℕ × List ℕ) → Option (List ℕ × List ℕ)
+with_to None = None
+with_to (Some parts) = after_o parts.0 parts.1
+
+abbrev pub split_to : List ℕ → Option (List ℕ × List ℕ)
+split_to text = with_to (split_first 116 text)
+
+abbrev pub corners_of : ℕ → Option (List ℕ × List ℕ) → Option (Point3 × Point3)
+corners_of limit None = None
+corners_of limit (Some parts) = both_of (written_corner limit parts.0) (written_corner limit parts.1)
+
+abbrev pub written_corners : ℕ → List ℕ → Option (Point3 × Point3)
+written_corners limit text = corners_of limit (split_to text)
+
+abbrev pub or_corners : Option (Point3 × Point3) → Option (Point3 × Point3) → Option (Point3 × Point3)
+or_corners (Some corners) other = Some corners
+or_corners None other = other
+
+abbrev pub corners_in : ℕ → List ℕ → Option (Point3 × Point3)
+corners_in limit text = or_corners (plain_corners limit text) (written_corners limit text)
 
 -- ---- a box
 

@@ -144,7 +144,8 @@ fn with_text(boxes: Boxes, text: &str) -> Result<Boxes, BoxMistake>
 }
 
 /// Returns the fixtures that these texts write, each as `left clamp=54:-30,20,-10,-5,40,15` in
-/// millimetres; or the first text that is no such fixture, or the seventeenth.
+/// millimetres, or as `left clamp=G54: 0, 0, -1 in to 1, 2, 0 in`; or the first text that is no such
+/// fixture, or the seventeenth.
 pub fn read_fixtures<'a>(list: &[&'a str]) -> Result<Boxes, RefusedBox<'a>>
     ensures { MatchResult result
         (λ boxes. spec.parsed_fixtures (map (λ t. t.now) list.now) ≡ Ok boxes)
@@ -161,7 +162,7 @@ pub fn read_fixtures<'a>(list: &[&'a str]) -> Result<Boxes, RefusedBox<'a>>
 }
 
 /// Returns the boxes with the block of material that the text writes, as `54:0,0,-20,100,60,0` in
-/// millimetres; or the reason why it is none.
+/// millimetres, or as `G54: 0, 0, -1 in to 4, 2, 0 in`; or the reason why it is none.
 pub fn read_stock(boxes: Boxes, text: &str) -> Result<Boxes, BoxMistake>
     ensures { result ≡ spec.with_stock boxes text.now }
 {

@@ -99,7 +99,7 @@ pub(crate) const ORIGIN: Argument<'static> = Argument {
     is_named: true,
     is_required: false,
     takes: Takes::Texts("PLACE"),
-    help: "Origin of a system in place of the machine file's,\nin mm, as 54=60,40,-140; once for each system",
+    help: "Origin of a system in place of the machine file's, in\nmm, as 54=60,40,-140, or with a unit, as\n\"54=2.5, 1, -3 in\"; once for each system",
 };
 
 pub(crate) const FIXTURE: Argument<'static> = Argument {
@@ -107,7 +107,7 @@ pub(crate) const FIXTURE: Argument<'static> = Argument {
     is_named: true,
     is_required: false,
     takes: Takes::Texts("BOX"),
-    help: "Box that tools stay out of, added for this call, in\nmm, as clamp=54:-30,20,-10,-5,40,15; up to 16 times",
+    help: "Box that tools stay out of, added for this call, in\nmm, as clamp=54:-30,20,-10,-5,40,15, or with a unit, as\n\"clamp=54: 0, 0, 0 in to 1, 2, 0.5 in\"; up to 16 times",
 };
 
 pub(crate) const STOCK: Argument<'static> = Argument {
@@ -115,7 +115,7 @@ pub(crate) const STOCK: Argument<'static> = Argument {
     is_named: true,
     is_required: false,
     takes: Takes::Text("BOX"),
-    help: "Material in place of the machine file's, in mm, as\n54:0,0,-20,100,60,0",
+    help: "Material in place of the machine file's, in mm, as\n54:0,0,-20,100,60,0, or with a unit, as\n\"54: 0, 0, -1 in to 4, 2, 0 in\"",
 };
 
 pub(crate) const MARGIN: Argument<'static> = Argument {

@@ -44,7 +44,7 @@ fn reason(mistake: OriginMistake) -> &'static str {
     match mistake {
         OriginMistake::NoSystem => "the system is 54 to 59, 59.1, 59.2 or 59.3",
         OriginMistake::NoPlace => {
-            "X, Y and Z are three numbers from -1000 to 1000, in mm, with at most six decimals"
+            "X, Y and Z are three numbers from -1000 to 1000, in mm, with at most six decimals,\nor lengths with a unit, as 2.5, 1, -3 in"
         }
         OriginMistake::Twice => "this system has an origin already",
     }
@@ -111,14 +111,14 @@ For more information, try '--help'.
 
 fn fixture_fault(alloc: Global, refused: &RefusedBox<'_>) -> UsageFault {
     let corners =
-        "two corners are six numbers from -4000 to 4000, in mm, with at most six decimals";
+        "two corners are six numbers from -4000 to 4000, in mm, with at most six decimals,\nor two places with a unit, as 0, 0, -1 in to 4, 2, 0 in";
     let reason = box_reason(refused.mistake, corners);
     box_fault(alloc, "fixture", refused.text, reason)
 }
 
 fn stock_fault(alloc: Global, found: &ArgMatches<'_>, mistake: BoxMistake) -> UsageFault {
     let corners =
-        "two corners are six numbers from -1000 to 1000, in mm, with at most six decimals";
+        "two corners are six numbers from -1000 to 1000, in mm, with at most six decimals,\nor two places with a unit, as 0, 0, -1 in to 4, 2, 0 in";
     let text = found.get_str("stock").unwrap_or("");
     box_fault(alloc, "stock", text, box_reason(mistake, corners))
 }

@@ -13,6 +13,7 @@ use Rattle.ngc_planner.specs.Bounds.{IsMotion}
 use Rattle.ngc_fixed_length.specs.Limits.{MILLION}
 use Rattle.ngc_planner.specs.Ramp.{RampState, IsRest, MayCoast, MayCoastOn, Coasts}
 use Rattle.ngc_planner.proofs.CoastLaws.{coast_ticks, coast_on}
+use Rattle.ngc_planner.proofs.ComponentLaws.{change_some}
 use Rattle.ngc_events.specs.declared.event.Event.{Event}
 use Rattle.ngc_events.specs.declared.event.Event.TheVariants.{Tick}
 use Rattle.ngc_events.specs.declared.reply.Reply.TheVariants.{Ticked}
@@ -73,7 +74,7 @@ pub record IsEven (job : Job) (l : Queued) (ls : List Queued) (s : State) (r : R
   pub runs : s.stopped ≡ false
   pub ring : s.ring ≡ l ∷ ls
   pub legs : r.legs ≡ leg_of job s.done joined l ∷ legs_after job (suc s.done) l ls
-  pub last : r.last_change ≤ job.machine.change
+  pub last : r.last_change ≡ s.change
   pub rate : r.rate ≡ s.rate
   pub within : r.rest ≤ millionths l
   pub at : s.travelled ≡ millionths l - r.rest
@@ -100,7 +101,8 @@ even_tick job l ls s r joined wish n h = record {
   at = h.at;
   place_at = refl;
   aim = h.aim;
-  tick = coast_ticks r wish n (leg_of job s.done joined l) (legs_after job (suc s.done) l ls) h.machine.change.least h.within h.may;
+  tick = coast_ticks r wish n (leg_of job s.done joined l) (legs_after job (suc s.done) l ls)
+      (change_some job.machine l.command.action (path_steps l) h.machine) h.within h.may;
   place_next = refl;
   point_at = refl;
 }
@@ -109,7 +111,7 @@ travels_step : (job : Job) (l : Queued) (ls : List Queued) (s new : State) → T
     s.ring ≡ l ∷ ls → Step job s Tick quiet new
 travels_step job l ls s new travels moves runs ring =
     let head : HeadTick job l ls s quiet new =
-    subst (λ b. MatchBool b (Travels job l ls s quiet new) (MatchBool s.held (Rests job s quiet new) (Serves job l.command.action s quiet new)))
+    subst (λ b. MatchBool b (Travels job l ls s quiet new) (MatchBool s.held (Rests s quiet new) (Serves job l.command.action s quiet new)))
     (sym (lt-ltb 0 (path_steps l) moves)) travels in
     subst (λ b. TickBy job b s.ring s quiet new) (sym runs) (subst (λ xs. TickBy job false xs s quiet new) (sym ring) head)
 
@@ -151,7 +153,7 @@ coasts_even (suc n) job l ls s r joined wish h =
     let has = has_travelled job l ls s r (one_less r) joined wish r.rate (place_before s) false false (place_before s) (point l.path (place_before s)) k in
     let less : r.rate < r.rest = omega (arith, h.may.brakes) in
     let travels : Travels job l ls s quiet mid = goes_on job l ls s mid r r.rate (place_before s) false (point l.path (place_before s))
-    (s.travelled + s.rate) s.ring s.rate has h.at h.within less (omega (arith, h.rate)) refl (sym h.rate) refl in
+    (s.travelled + s.rate) s.ring s.rate s.change has h.at h.within less (omega (arith, h.rate)) refl (sym h.rate) (sym h.last ∙ h.may.same) refl in
     let least : TravelsAtLeast job s.ring s s.rate = subst (λ v. TravelsAtLeast job s.ring s v) h.rate
     (subst (λ xs. TravelsAtLeast job xs s r.rate) (sym h.ring) has.least) in
     let place : (s.travelled + s.rate) / MILLION ≡ s.travelled / MILLION = (
@@ -173,7 +175,7 @@ pub record IsEvenOn (job : Job) (queue : List Queued) (s : State) (r : RampState
   pub ring : s.ring ≡ queue
   pub legs : (joined : Bool) × (r.legs ≡ legs_of job s.done joined queue)
   pub left : IsRest r.rest r.legs
-  pub last : r.last_change ≤ job.machine.change
+  pub last : r.last_change ≡ s.change
   pub rate : r.rate ≡ s.rate
   pub at : s.travelled ≡ travelled_of queue r.rest
   pub place_at : place ≡ s.travelled / MILLION
@@ -223,7 +225,7 @@ even_by job done ring after drive dwelt position tool panel s wish n p o moves r
   ring = refl;
   legs = o.legs;
   left = o.left;
-  last = o.last;
+  last = refl;
   rate = refl;
   at = refl;
   place_at = o.place;
@@ -241,21 +243,21 @@ pub record IsDwell (job : Job) (l : Queued) (ls : List Queued) (s : State) (n : 
   pub runs : s.stopped ≡ false
   pub free : s.held ≡ false
   pub ring : s.ring ≡ l ∷ ls
-  pub slow : s.rate ≤ job.machine.change
+  pub slow : s.rate ≤ s.change
   pub long : 1 ≤ n → s.dwelt + n < ticks_of job l.command.action
 
 abbrev dwelt_one : State → State
 dwelt_one s = record s { rate = 0; dwelt = suc s.dwelt }
 
-dwells_step : (job : Job) (l : Queued) (ls : List Queued) (s new : State) → Dwells job s quiet new → suc s.dwelt < ticks_of job l.command.action →
+dwells_step : (job : Job) (l : Queued) (ls : List Queued) (s new : State) → Dwells s quiet new → suc s.dwelt < ticks_of job l.command.action →
     path_steps l ≤ 0 → s.stopped ≡ false → s.held ≡ false → s.ring ≡ l ∷ ls → Step job s Tick quiet new
 dwells_step job l ls s new dwells short still runs free ring =
-    let serves : Serves job l.command.action s quiet new = subst (λ b. MatchBool b (Dwells job s quiet new) (Finishes job l.command.action s quiet new))
+    let serves : Serves job l.command.action s quiet new = subst (λ b. MatchBool b (Dwells s quiet new) (Finishes l.command.action s quiet new))
     (sym (lt-ltb (suc s.dwelt) (ticks_of job l.command.action) short)) dwells in
     let head : HeadTick job l ls s quiet new =
-    subst (λ b. MatchBool b (Travels job l ls s quiet new) (MatchBool s.held (Rests job s quiet new) (Serves job l.command.action s quiet new)))
+    subst (λ b. MatchBool b (Travels job l ls s quiet new) (MatchBool s.held (Rests s quiet new) (Serves job l.command.action s quiet new)))
     (sym (le-ltb 0 (path_steps l) still))
-    (subst (λ b. MatchBool b (Rests job s quiet new) (Serves job l.command.action s quiet new)) (sym free) serves) in
+    (subst (λ b. MatchBool b (Rests s quiet new) (Serves job l.command.action s quiet new)) (sym free) serves) in
     subst (λ b. TickBy job b s.ring s quiet new) (sym runs) (subst (λ xs. TickBy job false xs s quiet new) (sym ring) head)
 
 -- there is no least travel
@@ -273,7 +275,7 @@ coasts_dwell zero job l ls s h = no_ticks job s
 coasts_dwell (suc n) job l ls s h =
     let mid = dwelt_one s in
     let long = h.long (omega arith) in
-    let dwells : Dwells job s quiet mid = record { slow = h.slow; quiet = refl; counts = refl } in
+    let dwells : Dwells s quiet mid = record { slow = h.slow; quiet = refl; counts = refl } in
     let least : TravelsAtLeast job s.ring s 0 = subst (λ xs. TravelsAtLeast job xs s 0) (sym h.ring) (still_goes job l ls s 0 h.still) in
     let next : IsDwell job l ls mid n = record {
       still = h.still;
@@ -289,7 +291,7 @@ coasts_dwell (suc n) job l ls s h =
     (dwells_step job l ls s mid dwells (omega (arith, long)) h.still h.runs h.free h.ring) least (coasts_dwell n job l ls mid next))
 
 pub coasts_served : (job : Job) (queue : List Queued) (s : State) (a : Action) (left n : ℕ) → IsServed queue a → s.ring ≡ queue → s.stopped ≡ false →
-    s.held ≡ false → s.rate ≤ job.machine.change →
+    s.held ≡ false → s.rate ≤ s.change →
     left ≡ ticks_of job a - suc s.dwelt → n ≤ left → CoastsFor job s n
 coasts_served job [] s a left n served ring runs free slow is few = elim served [ ]
 coasts_served job (l ∷ ls) s a left n served ring runs free slow is few =

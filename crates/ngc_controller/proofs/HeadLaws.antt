@@ -13,8 +13,9 @@ use Rattle.ngc_planner.specs.ArcFeed.{target_on}
 use Rattle.ngc_braking.specs.declared.leg.Leg.{Leg}
 use Rattle.ngc_fixed_length.specs.Limits.{MILLION}
 use Rattle.ngc_planner.specs.Ramp.{RampState, IsRest, TicksTo, next_rest, after_tick}
+use Rattle.ngc_planner.proofs.ComponentLaws.{change_some}
 use Rattle.ngc_planner.proofs.RampLaws.{ends_slowly}
-use Rattle.ngc_machine_model.specs.State.{Job, Queued, State, path_steps, millionths, effective}
+use Rattle.ngc_machine_model.specs.State.{Job, Queued, State, path_steps, millionths, change_of, effective}
 use Rattle.ngc_machine_model.specs.Reach.{leg_of, legs_after}
 use Rattle.ngc_events.specs.declared.reply.Ending.TheVariants.{Done}
 use Rattle.ngc_events.specs.declared.reply.Reply.TheVariants.{Ticked}
@@ -36,7 +37,7 @@ pub record IsTravelOn (job : Job) (ring : List Queued) (old : State) (r s : Ramp
   pub moves : IsMoving ring
   pub legs : (joined : Bool) × (r.legs ≡ legs_of job old.done joined ring)
   pub left : IsRest r.rest r.legs
-  pub last : r.last_change ≤ job.machine.change
+  pub last : r.last_change ≡ old.change
   pub places : r.room ≡ job.machine.ring
   pub rate : r.rate ≡ old.rate
   pub at : old.travelled ≡ travelled_of ring r.rest
@@ -139,7 +140,8 @@ ends_if false h = sym h
 
 pub travel_goes_on : (job : Job) (ring : List Queued) (old new : State) (r s : RampState) (wish aimed v place : ℕ) (due ended : Bool) (next : ℕ) (p : StepPos)
     (t : ℕ) (xs : List Queued) → IsTravelOn job ring old r s wish aimed v place due ended next p →
-    ended ≡ false → t ≡ travelled_of xs s.rest → xs ≡ ring → ring ≡ old.ring → new ≡ record old { ring = xs; rate = s.rate; position = p; travelled = t } →
+    ended ≡ false → t ≡ travelled_of xs s.rest → xs ≡ ring → ring ≡ old.ring →
+    new ≡ record old { ring = xs; rate = s.rate; change = s.last_change; position = p; travelled = t } →
     TravelsOn job ring old (Ok (Ticked (then_some due p) None)) new
 travel_goes_on job [] old new r s wish aimed v place due ended next p t xs h on far queue same is = elim h.moves [ ]
 travel_goes_on job (l ∷ ls) old new r s wish aimed v place due ended next p t xs h on far queue same is =
@@ -148,15 +150,15 @@ travel_goes_on job (l ∷ ls) old new r s wish aimed v place due ended next p t 
     let g = goes r s (leg_of job old.done h.legs.0 l) (legs_after job (suc old.done) l ls) v ended k.tick.ends on k.tick.next in
     let there : t ≡ millionths l - s.rest = far ∙ ap (λ ys. travelled_of ys s.rest) queue ∙ moving_travelled l ls s.rest h.moves in
     let rate : new.rate ≡ v = ap (λ (x : State). x.rate) is ∙ g.rate in (
-      goes_on job l ls old new r v next due p t xs s.rate has k.at k.within g.less (omega (arith, there, g.rest, g.less, k.at, k.within))
-          (queue ∙ same) g.rate is,
+      goes_on job l ls old new r v next due p t xs s.rate s.last_change has k.at k.within g.less (omega (arith, there, g.rest, g.less, k.at, k.within))
+          (queue ∙ same) g.rate g.last is,
       rw rate has.least,
     )
 
 -- the invariant of the ramp and the ring
 place_on : (job : Job) (ring : List Queued) (old : State) (r s : RampState) (wish aimed v place : ℕ) (due ended : Bool) (next : ℕ) (p : StepPos) →
     IsTravelOn job ring old r s wish aimed v place due ended next p → ended ≡ false →
-    (next ≡ travelled_of ring s.rest / MILLION) × (s.legs ≡ r.legs) × (s.last_change ≡ job.machine.change) × IsRest s.rest s.legs × (s.room ≡ r.room)
+    (next ≡ travelled_of ring s.rest / MILLION) × (s.legs ≡ r.legs) × IsRest s.rest s.legs × (s.room ≡ r.room)
 place_on job [] old r s wish aimed v place due ended next p h on = elim h.moves [ ]
 place_on job (l ∷ ls) old r s wish aimed v place due ended next p h on =
     let k = travel job l ls old r s wish aimed v place due ended next p h in
@@ -166,7 +168,6 @@ place_on job (l ∷ ls) old r s wish aimed v place due ended next p h on =
     let far : min (old.travelled + v) (millionths l) ≡ travelled_of (l ∷ ls) s.rest = omega (arith, there, g.rest, g.less, k.at, k.within) in (
       has.place ∙ ap (λ x. x / MILLION) far,
       g.legs,
-      g.last,
       subst (λ ks. IsRest s.rest ks) (sym (g.legs ∙ k.legs)) (omega (arith, g.rest, g.less), omega (arith, g.rest, k.within)),
       g.room,
     )
@@ -182,11 +183,10 @@ order_goes_on {A = A} job done ring after drive new dwelt panel old s wish v due
     let here : IsInOrder {A = A} job done (record { loaded = ring.loaded; place = after.place; room = ring.room })
     (record { ramp = s; target = new.target; joints = drive.joints; continues_travel = drive.continues_travel }) dwelt panel = record {
       machine = o.machine;
-      last = omega (arith, on.2);
       room = o.room;
-      places = on.4 ∙ o.places;
+      places = on.3 ∙ o.places;
       legs = (o.legs.0, on.1 ∙ o.legs.1);
-      left = on.3;
+      left = on.2;
       slow = λ still. absurd (still h.moves);
       whole = λ still. absurd (still h.moves);
       joints = o.joints;
@@ -201,8 +201,14 @@ order_goes_on {A = A} job done ring after drive new dwelt panel old s wish v due
 
 -- ---- if it ends
 
+-- the change of the head
+abbrev pub IsHeadChange : Job → List Queued → ℕ → Type 0
+IsHeadChange job [] c = ⊥
+IsHeadChange job (l ∷ ls) c = c ≡ change_of job l
+
 pub record EndsOn (job : Job) (done : ℕ) (ring : List Queued) (r s : RampState) (v : ℕ) : Type 0 where
   pub rate : s.rate ≡ v
+  pub last : IsHeadChange job ring s.last_change
   pub all : r.rest ≤ v
   pub left : IsLeft job (suc done) (drop 1 ring) s
   pub travelled : travelled_of (drop 1 ring) s.rest ≡ v - r.rest
@@ -218,18 +224,18 @@ ends_on job (l ∷ ls) old r s wish aimed v place due ended next p h done =
     let afterwards = legs_after job (suc old.done) l ls in
     let e = ends r s (leg_of job old.done h.legs.0 l) afterwards v ended k.tick.ends done k.tick.next in
     let few : v - r.rest < MILLION = omega (arith, has.small, k.some) in
-    let some = h.machine.change.least in
+    let some = change_some job.machine l.command.action (path_steps l) h.machine in
     let b = behind_is job (suc old.done) l ls in
     let rest : s.rest ≡ next_rest (v - r.rest) s.legs = e.rest ∙ ap (λ ks. next_rest (v - r.rest) ks) (sym e.legs) in
-    let slows : (IsMoving ls → ⊥) → (v ≡ r.rest) × (v ≤ job.machine.change) =
+    let slows : (IsMoving ls → ⊥) → (v ≡ r.rest) × (v ≤ change_of job l) =
     λ still. ends_slowly r wish (leg_of job old.done h.legs.0 l) afterwards v some k.tick.may (none_ahead job (suc old.done) l ls still) e.all in
     let none : (IsMoving ls → ⊥) → v - r.rest ≡ 0 = λ still. (let slow = slows still in omega (arith, slow.0)) in
     let far = travelled_over job (suc old.done) b.0 ls s (v - r.rest) (e.legs ∙ b.1) rest few none in
     record {
       rate = e.rate;
+      last = e.last;
       all = e.all;
       left = record {
-        last = omega (arith, e.last);
         places = e.room ∙ h.places;
         legs = (b.0, e.legs ∙ b.1);
         left = subst (λ ks. IsRest s.rest ks) (sym e.legs) (subst (λ n. IsRest n afterwards) (sym e.rest) (behind_left job (suc old.done) l ls (v - r.rest) few));
@@ -242,17 +248,18 @@ ends_on job (l ∷ ls) old r s wish aimed v place due ended next p h done =
     }
 
 pub travel_ends : (job : Job) (ring : List Queued) (old new : State) (r s : RampState) (wish aimed v place : ℕ) (due ended : Bool) (next : ℕ) (p : StepPos)
-    (t : ℕ) (xs : List Queued) (w k d : ℕ) → IsTravelOn job ring old r s wish aimed v place due ended next p →
-    EndsOn job old.done ring r s v → t ≡ v - r.rest → xs ≡ drop 1 ring → ring ≡ old.ring → w ≡ s.rate → k ≡ suc old.done → d ≡ 0 →
-    new ≡ record old { done = k; ring = xs; rate = w; position = p; travelled = t; dwelt = d } →
+    (t : ℕ) (xs : List Queued) (w c k d : ℕ) → IsTravelOn job ring old r s wish aimed v place due ended next p →
+    EndsOn job old.done ring r s v → t ≡ v - r.rest → xs ≡ drop 1 ring → ring ≡ old.ring → w ≡ s.rate →
+    c ≡ s.last_change → k ≡ suc old.done → d ≡ 0 →
+    new ≡ record old { done = k; ring = xs; rate = w; change = c; position = p; travelled = t; dwelt = d } →
     TravelsOn job ring old (Ok (Ticked (then_some due p) (Some (Done old.done)))) new
-travel_ends job [] old new r s wish aimed v place due ended next p t xs w k d h e beyond queue same rate more brief is = elim h.moves [ ]
-travel_ends job (l ∷ ls) old new r s wish aimed v place due ended next p t xs w k d h e beyond queue same rate more brief is =
+travel_ends job [] old new r s wish aimed v place due ended next p t xs w c k d h e beyond queue same rate change more brief is = elim h.moves [ ]
+travel_ends job (l ∷ ls) old new r s wish aimed v place due ended next p t xs w c k d h e beyond queue same rate change more brief is =
     let i = travel job l ls old r s wish aimed v place due ended next p h in
     let has = has_travelled job l ls old r s h.legs.0 wish v place due ended next p i in
     let there : new.rate ≡ v = ap (λ (x : State). x.rate) is ∙ rate ∙ e.rate in (
-      ends_there job l ls old new r v next due p t xs w k d has i.motion i.at i.within e.all beyond (queue ∙ ap (λ ys. drop 1 ys) same)
-          (rate ∙ e.rate) more brief is,
+      ends_there job l ls old new r v next due p t xs w c k d has i.motion i.at i.within e.all beyond (queue ∙ ap (λ ys. drop 1 ys) same)
+          (rate ∙ e.rate) (change ∙ e.last) more brief is,
       rw there has.least,
     )
 
@@ -269,7 +276,7 @@ travels_by job done ring after drive dwelt position tool panel s wish v due ende
   moves = moves;
   legs = o.legs;
   left = o.left;
-  last = o.last;
+  last = refl;
   places = o.places;
   rate = refl;
   at = refl;

@@ -20,7 +20,7 @@ use Rattle.ngc_planner.proofs.BoundLaws.{target_some}
 use Rattle.ngc_events.specs.declared.event.Event.TheVariants.{Tick}
 use Rattle.ngc_events.specs.declared.reply.Ending.TheVariants.{Done}
 use Rattle.ngc_events.specs.declared.reply.Reply.TheVariants.{Ticked}
-use Rattle.ngc_machine_model.specs.State.{Job, Queued, State, path_steps, millionths, place_before, effective}
+use Rattle.ngc_machine_model.specs.State.{Job, Queued, State, path_steps, millionths, change_of, place_before, effective}
 use Rattle.ngc_machine_model.specs.Progress.{TravelsAtLeast, GoesOn, is_free}
 use Rattle.ngc_machine_model.specs.Reach.{leg_of, legs_after}
 use Rattle.ngc_machine_model.specs.Run.{positions}
@@ -50,7 +50,7 @@ pub record IsOnLeg (job : Job) (l : Queued) (ls : List Queued) (s : State) (r : 
   pub runs : s.stopped ≡ false
   pub ring : s.ring ≡ l ∷ ls
   pub legs : r.legs ≡ leg_of job s.done joined l ∷ legs_after job (suc s.done) l ls
-  pub last : r.last_change ≤ job.machine.change
+  pub last : r.last_change ≡ s.change
   pub room : r.room ≡ job.machine.ring
   pub rate : r.rate ≡ s.rate
   pub some : 1 ≤ r.rest
@@ -81,35 +81,40 @@ on_travel job l ls s r q joined wish v due ended h t = record {
 pub travel_step : (job : Job) (l : Queued) (ls : List Queued) (s new : State) (o : Outcome) → Travels job l ls s o new → 1 ≤ path_steps l → s.stopped ≡ false →
     s.ring ≡ l ∷ ls → Step job s Tick o new
 travel_step job l ls s new o travels moves runs ring =
-    let head : HeadTick job l ls s o new = subst (λ b. MatchBool b (Travels job l ls s o new) (MatchBool s.held (Rests job s o new) (Serves job l.command.action s o new)))
+    let head : HeadTick job l ls s o new = subst (λ b. MatchBool b (Travels job l ls s o new) (MatchBool s.held (Rests s o new) (Serves job l.command.action s o new)))
     (sym (lt-ltb 0 (path_steps l) moves)) travels in
     subst (λ b. TickBy job b s.ring s o new) (sym runs) (subst (λ xs. TickBy job false xs s o new) (sym ring) head)
 
 -- the state after it, if the motion continues
-abbrev pub gone : Queued → State → ℕ → Bool → State
-gone l s v due = record s { travelled = s.travelled + v; rate = v; position = point l.path (next_place (place_before s) due) }
+abbrev pub gone : Job → Queued → State → ℕ → Bool → State
+gone job l s v due = record s {
+  travelled = s.travelled + v;
+  rate = v;
+  change = change_of job l;
+  position = point l.path (next_place (place_before s) due);
+}
 
 abbrev pub told : Queued → State → Bool → Outcome
 told l s due = Ok (Ticked (then_some due (point l.path (next_place (place_before s) due))) None)
 
 record HasTicked (job : Job) (l : Queued) (ls : List Queued) (s : State) (q : RampState) (joined : Bool) (wish v : ℕ) (due : Bool) : Type 0 where
-  step : Step job s Tick (told l s due) (gone l s v due)
-  goes_on : GoesOn job s Tick (gone l s v due)
-  on : IsOnLeg job l ls (gone l s v due) q joined wish
-  place : place_before (gone l s v due) ≡ next_place (place_before s) due
+  step : Step job s Tick (told l s due) (gone job l s v due)
+  goes_on : GoesOn job s Tick (gone job l s v due)
+  on : IsOnLeg job l ls (gone job l s v due) q joined wish
+  place : place_before (gone job l s v due) ≡ next_place (place_before s) due
 
 one_tick : (job : Job) (l : Queued) (ls : List Queued) (s : State) (r q : RampState) (joined : Bool) (wish v : ℕ) (due : Bool) → IsOnLeg job l ls s r joined wish →
-    TicksTo r wish (leg_of job s.done joined l) (legs_after job (suc s.done) l ls) v due false q → Goes r q job.machine.change v → HasTicked job l ls s q joined wish v due
+    TicksTo r wish (leg_of job s.done joined l) (legs_after job (suc s.done) l ls) v due false q → Goes r q (change_of job l) v → HasTicked job l ls s q joined wish v due
 one_tick job l ls s r q joined wish v due h t g =
     let next = next_place (place_before s) due in
     let p = point l.path next in
     let k = on_travel job l ls s r q joined wish v due false h t in
     let has = has_travelled job l ls s r q joined wish v (place_before s) due false next p k in
-    let travels : Travels job l ls s (told l s due) (gone l s v due) =
-    goes_on job l ls s (gone l s v due) r v next due p (s.travelled + v) s.ring v has h.at h.within g.less refl refl refl refl in
+    let travels : Travels job l ls s (told l s due) (gone job l s v due) =
+    goes_on job l ls s (gone job l s v due) r v next due p (s.travelled + v) s.ring v (change_of job l) has h.at h.within g.less refl refl refl refl refl in
     let whole : min (s.travelled + v) (millionths l) ≡ s.travelled + v = omega (arith, h.at, h.within, g.less) in
     record {
-      step = travel_step job l ls s (gone l s v due) (told l s due) travels h.moves h.runs h.ring;
+      step = travel_step job l ls s (gone job l s v due) (told l s due) travels h.moves h.runs h.ring;
       goes_on = subst (λ xs. TravelsAtLeast job xs s v) (sym h.ring) has.least;
       on = record {
         machine = h.machine;
@@ -118,7 +123,7 @@ one_tick job l ls s r q joined wish v due h t g =
         runs = h.runs;
         ring = h.ring;
         legs = g.legs ∙ h.legs;
-        last = omega (arith, g.last);
+        last = g.last;
         room = g.room ∙ h.room;
         rate = g.rate;
         some = omega (arith, g.rest, g.less);
@@ -132,7 +137,7 @@ one_tick job l ls s r q joined wish v due h t g =
 -- ---- several ticks
 
 stay_both : (s t u : State) → StaysOnHead s t → StaysOnHead t u → StaysOnHead s u
-stay_both s t u h k = k ∙ ap (λ (x : State). record x { travelled = u.travelled; rate = u.rate; position = u.position }) h
+stay_both s t u h k = k ∙ ap (λ (x : State). record x { travelled = u.travelled; rate = u.rate; change = u.change; position = u.position }) h
 
 all_stay : (s t : State) (xs : List State) → StaysOnHead s t → AllByRecursion (StaysOnHead t) xs → AllByRecursion (StaysOnHead s) xs
 all_stay s t [] h k = tt
@@ -175,7 +180,7 @@ stayed (suc n) job l ls s r q joined wish h t same =
     let g = tick_stays r mid wish v due first.2 leg legs h.legs first.3 (omega (arith, long, ap length same)) in
     let tick : TicksTo r wish leg legs v due false mid = subst (λ b. TicksTo r wish leg legs v due b mid) g.0 first.3 in
     let one = one_tick job l ls s r mid joined wish v due h tick g.1 in
-    let after = gone l s v due in
+    let after = gone job l s v due in
     let more = stayed n job l ls after mid q joined wish one.on t.2 (same ∙ sym g.1.legs) in
     record {
       state = more.state;
@@ -205,10 +210,10 @@ pub record Passes (job : Job) (ring : List Queued) (s : State) (q : RampState) (
   pub left : IsLeft job (suc s.done) (drop 1 ring) q
   pub zero : travelled_of (drop 1 ring) q.rest / MILLION ≡ 0
   pub some : 1 ≤ length ring
-  pub finishes : (head : LoadedData) (new : State) (p : StepPos) (place steps t : ℕ) (xs : List Queued) (w k d : ℕ) → Some head ≡ head_of ring place →
+  pub finishes : (head : LoadedData) (new : State) (p : StepPos) (place steps t : ℕ) (xs : List Queued) (w c k d : ℕ) → Some head ≡ head_of ring place →
       place ≡ place_before s → head.place + steps ≡ path_steps head.queued → p ≡ point head.queued.path (path_steps head.queued) →
-      t ≡ travelled_of xs q.rest → xs ≡ drop 1 ring → w ≡ q.rate → k ≡ suc s.done → d ≡ 0 →
-      new ≡ record s { done = k; ring = xs; rate = w; position = p; travelled = t; dwelt = d } → FinishesMotion n steps job s new
+      t ≡ travelled_of xs q.rest → xs ≡ drop 1 ring → w ≡ q.rate → c ≡ q.last_change → k ≡ suc s.done → d ≡ 0 →
+      new ≡ record s { done = k; ring = xs; rate = w; change = c; position = p; travelled = t; dwelt = d } → FinishesMotion n steps job s new
 
 -- the ramp's last tick
 abbrev aimed_in : Job → Queued → State → ℕ
@@ -246,9 +251,9 @@ pub record IsLast (job : Job) (l : Queued) (ls : List Queued) (s : State) (q : R
   pub place : place_before s + 1 ≡ path_steps l
   pub left : IsLeft job (suc s.done) ls q
   pub zero : travelled_of ls q.rest / MILLION ≡ 0
-  pub ends : (new : State) (p : StepPos) (t : ℕ) (xs : List Queued) (w k d : ℕ) → p ≡ point l.path (path_steps l) →
-      t ≡ travelled_of xs q.rest → xs ≡ ls → w ≡ q.rate → k ≡ suc s.done → d ≡ 0 →
-      new ≡ record s { done = k; ring = xs; rate = w; position = p; travelled = t; dwelt = d } →
+  pub ends : (new : State) (p : StepPos) (t : ℕ) (xs : List Queued) (w c k d : ℕ) → p ≡ point l.path (path_steps l) →
+      t ≡ travelled_of xs q.rest → xs ≡ ls → w ≡ q.rate → c ≡ q.last_change → k ≡ suc s.done → d ≡ 0 →
+      new ≡ record s { done = k; ring = xs; rate = w; change = c; position = p; travelled = t; dwelt = d } →
       Travels job l ls s (Ok (Ticked (Some p) (Some (Done s.done)))) new × TravelsAtLeast job (l ∷ ls) s new.rate
 
 last_tick : (job : Job) (l : Queued) (ls : List Queued) (s : State) (r q : RampState) (joined : Bool) (wish v : ℕ) (due : Bool) → IsOnLeg job l ls s r joined wish →
@@ -270,13 +275,13 @@ last_tick job l ls s r q joined wish v due on t =
       place = sym (ap (λ b. next_place place b) is_due) ∙ reached;
       left = e.left;
       zero = e.place;
-      ends = λ new p t xs w k d at far queue rate more brief is.
+      ends = λ new p t xs w c k d at far queue rate change more brief is.
           (let same : p ≡ point l.path next = at ∙ ap (λ i. point l.path i) (sym reached) in
-          let there : new ≡ record s { done = k; ring = xs; rate = w; position = point l.path next; travelled = t; dwelt = d } =
-          is ∙ ap (λ (x : StepPos). record s { done = k; ring = xs; rate = w; position = x; travelled = t; dwelt = d }) same in
+          let there : new ≡ record s { done = k; ring = xs; rate = w; change = c; position = point l.path next; travelled = t; dwelt = d } =
+          is ∙ ap (λ (x : StepPos). record s { done = k; ring = xs; rate = w; change = c; position = x; travelled = t; dwelt = d }) same in
           let beyond : t ≡ v - r.rest = far ∙ ap (λ ys. travelled_of ys q.rest) queue ∙ e.travelled in
-          let travels = travel_ends job (l ∷ ls) s new r q wish (aimed_in job l s) v place due true next (point l.path next) t xs w k d h e beyond queue (sym on.ring) rate
-          more brief there in
+          let travels = travel_ends job (l ∷ ls) s new r q wish (aimed_in job l s) v place due true next (point l.path next) t xs w c k d h e beyond queue (sym on.ring) rate
+          change more brief there in
           let says : then_some due (point l.path next) ≡ Some p = ap (λ b. then_some b (point l.path next)) is_due ∙ ap (λ x. Some x) (sym same) in
           (subst (λ x. Travels job l ls s (Ok (Ticked x (Some (Done s.done)))) new) says travels.0, travels.1));
     }
@@ -286,14 +291,30 @@ last_tick job l ls s r q joined wish v due on t =
 steps_are : (pulses first last place steps all : ℕ) → place ≡ first → place + steps ≡ all → pulses + first ≡ last → last + 1 ≡ all → steps ≡ suc pulses
 steps_are pulses first last place steps all e f g h = omega (arith, e, f, g, h)
 
-leaves_as : (s new : State) (p : StepPos) (t : ℕ) (xs : List Queued) (w k d : ℕ) → k ≡ suc s.done → xs ≡ drop 1 s.ring → d ≡ 0 →
-    new ≡ record s { done = k; ring = xs; rate = w; position = p; travelled = t; dwelt = d } →
-    new ≡ record s { done = suc s.done; ring = drop 1 s.ring; travelled = new.travelled; dwelt = 0; rate = new.rate; position = new.position }
-leaves_as s new p t xs w k d more queue brief is =
-    subst (λ (x : State). x ≡ record s { done = suc s.done; ring = drop 1 s.ring; travelled = x.travelled; dwelt = 0; rate = x.rate; position = x.position }) (sym is)
-    (ap (λ (x : ℕ). record s { done = x; ring = xs; rate = w; position = p; travelled = t; dwelt = d }) more
-    ∙ ap (λ (ys : List Queued). record s { done = suc s.done; ring = ys; rate = w; position = p; travelled = t; dwelt = d }) queue
-    ∙ ap (λ (x : ℕ). record s { done = suc s.done; ring = drop 1 s.ring; rate = w; position = p; travelled = t; dwelt = x }) brief)
+leaves_as : (s new : State) (p : StepPos) (t : ℕ) (xs : List Queued) (w c k d : ℕ) → k ≡ suc s.done → xs ≡ drop 1 s.ring → d ≡ 0 →
+    new ≡ record s { done = k; ring = xs; rate = w; change = c; position = p; travelled = t; dwelt = d } →
+    new ≡ record s {
+      done = suc s.done;
+      ring = drop 1 s.ring;
+      travelled = new.travelled;
+      dwelt = 0;
+      rate = new.rate;
+      change = new.change;
+      position = new.position;
+    }
+leaves_as s new p t xs w c k d more queue brief is =
+    subst (λ (x : State). x ≡ record s {
+      done = suc s.done;
+      ring = drop 1 s.ring;
+      travelled = x.travelled;
+      dwelt = 0;
+      rate = x.rate;
+      change = x.change;
+      position = x.position;
+    }) (sym is)
+    (ap (λ (x : ℕ). record s { done = x; ring = xs; rate = w; change = c; position = p; travelled = t; dwelt = d }) more
+    ∙ ap (λ (ys : List Queued). record s { done = suc s.done; ring = ys; rate = w; change = c; position = p; travelled = t; dwelt = d }) queue
+    ∙ ap (λ (x : ℕ). record s { done = suc s.done; ring = drop 1 s.ring; rate = w; change = c; position = p; travelled = t; dwelt = x }) brief)
 
 passes_leg : (job : Job) (l : Queued) (ls : List Queued) (s : State) (r q : RampState) (joined : Bool) (wish n : ℕ) → IsOnLeg job l ls s r joined wish →
     EndsLeg n r wish q → Passes job (l ∷ ls) s q n
@@ -309,14 +330,14 @@ passes_leg job l ls s r q joined wish n h e =
       left = subst (λ k. IsLeft job (suc k) ls q) same z.left;
       zero = z.zero;
       some = omega arith;
-      finishes = λ head new p place steps t xs w k d is_head at way end far queue rate more brief is.
+      finishes = λ head new p place steps t xs w c k d is_head at way end far queue rate change more brief is.
           (let last_place = z.place in
           let of : head ≡ record { queued = l; place = place } = cc in
           let there : p ≡ point l.path (path_steps l) = end ∙ ap (λ (x : LoadedData). point x.queued.path (path_steps x.queued)) of in
           let left : place + steps ≡ path_steps l = sym (ap (λ (x : LoadedData). x.place + steps) of) ∙ way ∙ ap (λ (x : LoadedData). path_steps x.queued) of in
-          let onward : new ≡ record mid { done = k; ring = xs; rate = w; position = p; travelled = t; dwelt = d } =
-          is ∙ sym (ap (λ (x : State). record x { done = k; ring = xs; rate = w; position = p; travelled = t; dwelt = d }) st.here) in
-          let done = z.ends new p t xs w k d there far queue rate (more ∙ ap suc (sym same)) brief onward in
+          let onward : new ≡ record mid { done = k; ring = xs; rate = w; change = c; position = p; travelled = t; dwelt = d } =
+          is ∙ sym (ap (λ (x : State). record x { done = k; ring = xs; rate = w; change = c; position = p; travelled = t; dwelt = d }) st.here) in
+          let done = z.ends new p t xs w c k d there far queue rate change (more ∙ ap suc (sym same)) brief onward in
           let position : p ≡ new.position = sym (ap (λ (x : State). x.position) is) in
           let own : drop 1 s.ring ≡ ls = ap (λ ys. drop 1 ys) h.ring in
           let last : Outcome = Ok (Ticked (Some p) (Some (Done mid.done))) in
@@ -332,7 +353,7 @@ passes_leg job l ls s r q joined wish n h e =
             ends = travel_step job l ls mid new last done.0 h.moves st.on.runs st.on.ring;
             goes_on = subst (λ ys. TravelsAtLeast job ys mid new.rate) (sym st.on.ring) done.1;
             steps = steps_are (length (positions st.outcomes)) (place_before s) (place_before mid) place steps (path_steps l) at left st.pulses last_place;
-            leaves = leaves_as s new p t xs w k d more (queue ∙ sym own) brief is;
+            leaves = leaves_as s new p t xs w c k d more (queue ∙ sym own) brief is;
           });
     }
 
@@ -373,7 +394,7 @@ pub record IsReady (job : Job) (ring : List Queued) (s : State) (r : RampState) 
   pub queue : s.ring ≡ ring
   pub legs : (joined : Bool) × (r.legs ≡ legs_of job s.done joined ring)
   pub left : IsRest r.rest r.legs
-  pub last : r.last_change ≤ job.machine.change
+  pub last : r.last_change ≡ s.change
   pub room : r.room ≡ job.machine.ring
   pub rate : r.rate ≡ s.rate
   pub at : s.travelled ≡ travelled_of ring r.rest
@@ -451,7 +472,7 @@ ready job done ring drive dwelt position tool panel head o moves is_head motion 
   queue = refl;
   legs = o.legs;
   left = o.left;
-  last = o.last;
+  last = refl;
   room = o.places;
   rate = refl;
   at = refl;

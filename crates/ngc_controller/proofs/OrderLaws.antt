@@ -29,7 +29,6 @@ use Rattle.ngc_controller.proofs.LegLaws.{travelled_more}
 
 -- the invariant of the ramp
 pub record IsLeft (job : Job) (done : ℕ) (ring : List Queued) (ramp : RampState) : Type 0 where
-  pub last : ramp.last_change ≤ job.machine.change
   pub places : ramp.room ≡ job.machine.ring
   pub legs : (joined : Bool) × (ramp.legs ≡ legs_of job done joined ring)
   pub left : IsRest ramp.rest ramp.legs
@@ -68,7 +67,6 @@ left_order {A = A} job done ring ramp on panel next after new dwelt joints machi
     (record { ramp = ramp; target = new.target; joints = joints; continues_travel = on }) 0 panel =
     record {
       machine = machine;
-      last = o.last;
       room = refl;
       places = o.places;
       legs = o.legs;
@@ -96,15 +94,15 @@ pub served_still : (ring : List Queued) (a : Action) → IsServed ring a → IsM
 served_still [] a served moves = moves
 served_still (l ∷ ls) a served moves = omega (arith, served.1, moves)
 
-remaining_after : (job : Job) (done : ℕ) (ring : List Queued) (ramp : RampState) (a : Action) → IsServed ring a → ramp.last_change ≤ job.machine.change →
+remaining_after : (job : Job) (done : ℕ) (ring : List Queued) (ramp : RampState) (a : Action) → IsServed ring a →
     ramp.room ≡ job.machine.ring →
     (joined : Bool) → ramp.legs ≡ legs_of job done joined ring → IsRest ramp.rest ramp.legs → ramp.rest ≡ next_rest 0 ramp.legs →
     IsLeft job (suc done) (drop 1 ring) (record ramp { rate = 0 }) × (travelled_of (drop 1 ring) ramp.rest ≡ 0)
-remaining_after job done [] ramp a served last places joined legs left whole = elim served [ ]
-remaining_after job done (l ∷ ls) ramp a served last places joined legs left whole =
+remaining_after job done [] ramp a served places joined legs left whole = elim served [ ]
+remaining_after job done (l ∷ ls) ramp a served places joined legs left whole =
     let b = behind_is job (suc done) l ls in
     let are : ramp.legs ≡ legs_of job (suc done) b.0 ls = legs ∙ still_legs job done joined l ls (omega (arith, served.1)) ∙ b.1 in (
-      record { last = last; places = places; legs = (b.0, are); left = left; slow = λ still. omega arith; whole = λ still. whole },
+      record { places = places; legs = (b.0, are); left = left; slow = λ still. omega arith; whole = λ still. whole },
       travelled_over job (suc done) b.0 ls (record ramp { rate = 0 }) 0 are whole (omega arith) (λ still. refl),
     )
 
@@ -113,7 +111,6 @@ pub rests_still : {A : Type 0} (job : Job) (done : ℕ) (ring : RingData) (drive
 rests_still job done ring drive new dwelt n panel o is brief =
     let here : IsInOrder job done ring (record drive { ramp = record drive.ramp { rate = 0 } }) n panel = record {
       machine = o.machine;
-      last = o.last;
       room = o.room;
       places = o.places;
       legs = o.legs;
@@ -134,7 +131,7 @@ pub served_left : {A : Type 0} (job : Job) (done : ℕ) (ring : RingData) (drive
     IsInOrder job done ring drive dwelt panel → IsServed ring.loaded a →
     IsLeft job (suc done) (drop 1 ring.loaded) (record drive.ramp { rate = 0 }) × (travelled_of (drop 1 ring.loaded) drive.ramp.rest ≡ 0)
 served_left job done ring drive dwelt panel a o served =
-    remaining_after job done ring.loaded drive.ramp a served o.last o.places o.legs.0 o.legs.1 o.left (o.whole (served_still ring.loaded a served))
+    remaining_after job done ring.loaded drive.ramp a served o.places o.legs.0 o.legs.1 o.left (o.whole (served_still ring.loaded a served))
 
 pub served_some : (ring : List Queued) (a : Action) → IsServed ring a → 1 ≤ length ring
 served_some [] a served = elim served [ ]
@@ -155,23 +152,23 @@ after_by : (a : Action) (s : State) (tool : Option Tool) (panel : Panel) →
 after_by (Move m) s tool panel = refl
 after_by _ s tool panel = refl
 
-pub finished : (a : Action) (s : State) (tool mounted : Option Tool) (panel set : Panel) (k : ℕ) (xs : List Queued) (w t d : ℕ) →
-    k ≡ suc s.done → xs ≡ drop 1 s.ring → w ≡ 0 → t ≡ 0 → d ≡ 0 → mounted ≡ tool_after a tool → set ≡ panel_after a panel →
-    with_panel (record s { done = k; ring = xs; rate = w; travelled = t; dwelt = d }) mounted set
+pub finished : (a : Action) (s : State) (tool mounted : Option Tool) (panel set : Panel) (k : ℕ) (xs : List Queued) (w c t d : ℕ) →
+    k ≡ suc s.done → xs ≡ drop 1 s.ring → w ≡ 0 → c ≡ s.change → t ≡ 0 → d ≡ 0 → mounted ≡ tool_after a tool → set ≡ panel_after a panel →
+    with_panel (record s { done = k; ring = xs; rate = w; change = c; travelled = t; dwelt = d }) mounted set
     ≡ after a (record (without_head 0 (with_panel s tool panel)) { rate = 0 })
-finished a s tool mounted panel set k xs w t d e1 e2 e3 e4 e5 e6 e7 =
-    let whole : with_panel (record s { done = k; ring = xs; rate = w; travelled = t; dwelt = d }) mounted set
+finished a s tool mounted panel set k xs w c t d e1 e2 e3 same e4 e5 e6 e7 =
+    let whole : with_panel (record s { done = k; ring = xs; rate = w; change = c; travelled = t; dwelt = d }) mounted set
     ≡ with_panel (record s { done = suc s.done; ring = drop 1 s.ring; rate = 0; travelled = 0; dwelt = 0 }) (tool_after a tool) (panel_after a panel) =
     cc in
     whole ∙ after_by a (record s { done = suc s.done; ring = drop 1 s.ring; rate = 0; travelled = 0; dwelt = 0 }) tool panel
 
 pub serves_done : (job : Job) (a : Action) (old new : State) (outcome : Outcome) → nat_lt (suc old.dwelt) (ticks_of job a) ≡ false →
-    Finishes job a old outcome new → Serves job a old outcome new
-serves_done job a old new outcome over h = subst (λ t. MatchBool t (Dwells job old outcome new) (Finishes job a old outcome new)) (sym over) h
+    Finishes a old outcome new → Serves job a old outcome new
+serves_done job a old new outcome over h = subst (λ t. MatchBool t (Dwells old outcome new) (Finishes a old outcome new)) (sym over) h
 
 pub serves_more : (job : Job) (a : Action) (old new : State) (outcome : Outcome) → nat_lt (suc old.dwelt) (ticks_of job a) ≡ true →
-    Dwells job old outcome new → Serves job a old outcome new
-serves_more job a old new outcome more h = subst (λ t. MatchBool t (Dwells job old outcome new) (Finishes job a old outcome new)) (sym more) h
+    Dwells old outcome new → Serves job a old outcome new
+serves_more job a old new outcome more h = subst (λ t. MatchBool t (Dwells old outcome new) (Finishes a old outcome new)) (sym more) h
 
 -- ---- one more command
 
@@ -217,7 +214,6 @@ loaded_order job done ring drive dwelt panel q k after d n o is flows joint targ
     let far = travelled_more job done (done + length ring.loaded) o.legs.0 drive.continues_travel ring.loaded q drive.ramp d.ramp o.legs.1 is in
     let here : IsInOrder job done (record { loaded = all; place = ring.place; room = ring.room }) d dwelt panel = record {
       machine = o.machine;
-      last = omega (arith, has.last, o.last);
       room = o.room;
       places = has.places ∙ o.places;
       legs = (legs.0, ap (λ (x : RampState). x.legs) is ∙ legs.1);
@@ -253,6 +249,7 @@ loads job done ring drive dwelt position tool panel c q k after d n o found room
     ap (λ xs. travelled_of xs d.ramp.rest) queue ∙ travelled_more job done
     (done + length ring.loaded) o.legs.0 drive.continues_travel ring.loaded q drive.ramp d.ramp o.legs.1 is in
     let rate = has.rate in
+    let last = has.last in
     let own : after.loaded ≡ ring.loaded ++ record { command = c; path = q.path } ∷ [] =
     queue ∙ ap (λ x. ring.loaded ++ record { command = x; path = q.path } ∷ []) same in
     let whole : new ≡ record old { ring = ring.loaded ++ record { command = c; path = q.path } ∷ [] } = cc in

@@ -12,7 +12,7 @@ use Rattle.ngc_commands.specs.declared.command.Action.TheVariants as actions
 use Rattle.ngc_planner.specs.Bounds.{IsMotion}
 use Rattle.ngc_fixed_length.specs.Limits.{MILLION}
 use Rattle.ngc_planner.specs.Ramp.{RampState, TicksTo}
-use Rattle.ngc_machine_model.specs.State.{Job, Queued, State, path_steps, millionths}
+use Rattle.ngc_machine_model.specs.State.{Job, Queued, State, path_steps, millionths, change_of}
 use Rattle.ngc_machine_model.specs.Progress.{TravelsAtLeast}
 use Rattle.ngc_machine_model.specs.RateRules.{target, MayTravel}
 use Rattle.ngc_machine_model.specs.Reach.{leg_of, legs_after}
@@ -46,17 +46,17 @@ rate_by : (b : Bool) (s t : State) (v : ℕ) → s.rate ≡ v → t.rate ≡ v �
 rate_by true s t v e f = e
 rate_by false s t v e f = f
 
-rate_moved : (l : Queued) (old : State) (v : ℕ) → (moved_by l old v).rate ≡ v
-rate_moved l old v = rate_by (nat_le (millionths l) (old.travelled + v)) _ _ v refl refl
+rate_moved : (job : Job) (l : Queued) (old : State) (v : ℕ) → (moved_by job l old v).rate ≡ v
+rate_moved job l old v = rate_by (nat_le (millionths l) (old.travelled + v)) _ _ v refl refl
 
-pub travels_to : (job : Job) (l : Queued) (ls : List Queued) (old new : State) (outcome : Outcome) (v : ℕ) → MayTravel job l ls old v → new ≡ moved_by l old v →
+pub travels_to : (job : Job) (l : Queued) (ls : List Queued) (old new : State) (outcome : Outcome) (v : ℕ) → MayTravel job l ls old v → new ≡ moved_by job l old v →
     outcome ≡ Ok (Ticked (pulse l old v) (ends_at l old v)) → Travels job l ls old outcome new
 travels_to job l ls old new outcome v may e says =
-    let rate : new.rate ≡ v = ap (λ (s : State). s.rate) e ∙ rate_moved l old v in
+    let rate : new.rate ≡ v = ap (λ (s : State). s.rate) e ∙ rate_moved job l old v in
     record {
       may = rw rate may;
       says = rw rate says;
-      goes_on = e ∙ ap (λ w. moved_by l old w) (sym rate);
+      goes_on = e ∙ ap (λ w. moved_by job l old w) (sym rate);
     }
 
 -- the end of a motion is `Done`
@@ -81,7 +81,7 @@ pub record IsTravel (job : Job) (l : Queued) (ls : List Queued) (old : State) (r
   pub motion : IsMotion l.command.action
   pub moves : 1 ≤ path_steps l
   pub legs : r.legs ≡ leg_of job old.done joined l ∷ legs_after job (suc old.done) l ls
-  pub last : r.last_change ≤ job.machine.change
+  pub last : r.last_change ≡ old.change
   pub rate : r.rate ≡ old.rate
   pub some : 1 ≤ r.rest
   pub within : r.rest ≤ millionths l
@@ -126,48 +126,48 @@ has_travelled job l ls old r s joined wish v place due ended next p h =
 
 -- the motion continues
 pub goes_on : (job : Job) (l : Queued) (ls : List Queued) (old new : State) (r : RampState) (v next : ℕ) (due : Bool) (p : StepPos) (t : ℕ) (xs : List Queued)
-    (w : ℕ) → HasTravelled job l ls old v next due p →
-    old.travelled ≡ millionths l - r.rest → r.rest ≤ millionths l → v < r.rest → t ≡ old.travelled + v → xs ≡ old.ring → w ≡ v →
-    new ≡ record old { ring = xs; rate = w; position = p; travelled = t } →
+    (w c : ℕ) → HasTravelled job l ls old v next due p →
+    old.travelled ≡ millionths l - r.rest → r.rest ≤ millionths l → v < r.rest → t ≡ old.travelled + v → xs ≡ old.ring → w ≡ v → c ≡ change_of job l →
+    new ≡ record old { ring = xs; rate = w; change = c; position = p; travelled = t } →
     Travels job l ls old (Ok (Ticked (then_some due p) None)) new
-goes_on job l ls old new r v next due p t xs w h at within less far same rate is =
+goes_on job l ls old new r v next due p t xs w c h at within less far same rate change is =
     let on : nat_le (millionths l) (old.travelled + v) ≡ false = grind (arith, nat_tests) in
     let place = point l.path (place_after l old v) in
-    let there : State = record old { rate = v; position = place } in
+    let there : State = record old { rate = v; change = change_of job l; position = place } in
     let by = going (nat_le (millionths l) (old.travelled + v)) (without_head (old.travelled + v - millionths l) there)
     (record there { travelled = old.travelled + v }) (Some (ending l.command.action old)) on in
     let state : new ≡ record there { travelled = old.travelled + v } =
-    is ∙ ap (λ (ys : List Queued). record old { ring = ys; rate = w; position = p; travelled = t }) same
-    ∙ ap (λ (x : ℕ). record old { rate = x; position = p; travelled = t }) rate
-    ∙ ap (λ (q : StepPos). record old { rate = v; position = q; travelled = t }) h.point_at
-    ∙ ap (λ (x : ℕ). record old { rate = v; position = place; travelled = x }) far in
+    is ∙ ap (λ (ys : List Queued). record old { ring = ys; rate = w; change = c; position = p; travelled = t }) same
+    ∙ ap (λ (x : ℕ). record old { rate = x; change = c; position = p; travelled = t }) rate
+    ∙ ap (λ (x : ℕ). record old { rate = v; change = x; position = p; travelled = t }) change
+    ∙ ap (λ (q : StepPos). record old { rate = v; change = change_of job l; position = q; travelled = t }) h.point_at
+    ∙ ap (λ (x : ℕ). record old { rate = v; change = change_of job l; position = place; travelled = x }) far in
     travels_to job l ls old new (Ok (Ticked (then_some due p) None)) v h.may (state ∙ sym by.0) (ap₂ (λ a b. Ok (Ticked a b)) h.says (sym by.1))
 
 -- the motion ends
 pub ends_there : (job : Job) (l : Queued) (ls : List Queued) (old new : State) (r : RampState) (v next : ℕ) (due : Bool) (p : StepPos) (t : ℕ)
-    (xs : List Queued) (w k d : ℕ) → HasTravelled job l ls old v next due p →
+    (xs : List Queued) (w c k d : ℕ) → HasTravelled job l ls old v next due p →
     IsMotion l.command.action → old.travelled ≡ millionths l - r.rest → r.rest ≤ millionths l → r.rest ≤ v → t ≡ v - r.rest → xs ≡ drop 1 old.ring → w ≡ v →
-    k ≡ suc old.done → d ≡ 0 →
-    new ≡ record old { done = k; ring = xs; rate = w; position = p; travelled = t; dwelt = d } →
+    c ≡ change_of job l → k ≡ suc old.done → d ≡ 0 →
+    new ≡ record old { done = k; ring = xs; rate = w; change = c; position = p; travelled = t; dwelt = d } →
     Travels job l ls old (Ok (Ticked (then_some due p) (Some (Done old.done)))) new
-ends_there job l ls old new r v next due p t xs w k d h motion at within ends beyond same rate more brief is =
+ends_there job l ls old new r v next due p t xs w c k d h motion at within ends beyond same rate change more brief is =
     let over : nat_le (millionths l) (old.travelled + v) ≡ true = grind (arith, nat_tests) in
     let place = point l.path (place_after l old v) in
-    let there : State = record old { rate = v; position = place } in
+    let there : State = record old { rate = v; change = change_of job l; position = place } in
     let left : t ≡ old.travelled + v - millionths l = omega arith in
     let by = done_with (nat_le (millionths l) (old.travelled + v)) (without_head (old.travelled + v - millionths l) there)
     (record there { travelled = old.travelled + v }) (Some (ending l.command.action old)) over in
     let state : new ≡ without_head (old.travelled + v - millionths l) there =
-    is ∙ ap (λ (ys : List Queued). record old { done = k; ring = ys; rate = w; position = p; travelled = t; dwelt = d }) same
-    ∙ ap (λ (x : ℕ). record old { done = k; ring = drop 1 old.ring; rate = x; position = p; travelled = t; dwelt = d }) rate
-    ∙ ap (λ (q : StepPos). record old { done = k; ring = drop 1 old.ring; rate = v; position = q; travelled = t; dwelt = d }) h.point_at
-    ∙ ap (λ (x : ℕ). record old { done = k; ring = drop 1 old.ring; rate = v; position = place; travelled = x; dwelt = d }) left
-    ∙ ap (λ (x : ℕ). record old { done = x; ring = drop 1 old.ring; rate = v; position = place; travelled = old.travelled + v - millionths l; dwelt = d }) more
-    ∙ ap (λ (x : ℕ). record old {
+    is ∙ ap (λ (ys : List Queued). record old { done = k; ring = ys; rate = w; change = c; position = p; travelled = t; dwelt = d }) same
+    ∙ ap (λ (x : ℕ). record old { done = k; ring = drop 1 old.ring; rate = x; change = c; position = p; travelled = t; dwelt = d }) rate
+    ∙ ap (λ (x : ℕ). record old { done = k; ring = drop 1 old.ring; rate = v; change = x; position = p; travelled = t; dwelt = d }) change
+    ∙ ap (λ (q : StepPos). record there { done = k; ring = drop 1 old.ring; position = q; travelled = t; dwelt = d }) h.point_at
+    ∙ ap (λ (x : ℕ). record there { done = k; ring = drop 1 old.ring; travelled = x; dwelt = d }) left
+    ∙ ap (λ (x : ℕ). record there { done = x; ring = drop 1 old.ring; travelled = old.travelled + v - millionths l; dwelt = d }) more
+    ∙ ap (λ (x : ℕ). record there {
       done = suc old.done;
       ring = drop 1 old.ring;
-      rate = v;
-      position = place;
       travelled = old.travelled + v - millionths l;
       dwelt = x;
     }) brief in

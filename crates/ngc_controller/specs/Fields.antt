@@ -33,6 +33,7 @@ state_of done ring drive dwelt position tool panel = record {
   dwelt = dwelt;
   position = position;
   rate = drive.ramp.rate;
+  change = drive.ramp.last_change;
   tool = tool;
   percent = panel.percent;
   overrides = panel.overrides;
@@ -51,7 +52,6 @@ DWELL_LIMIT = 2 ^ 100
 pub record IsInOrder {A : Type 0} (job : Job) (done : ℕ) (ring : RingData) (drive : Drive A)
     (dwelt : ℕ) (panel : Panel) : Type 0 where
   pub machine : IsMachine job.machine
-  pub last : drive.ramp.last_change ≤ job.machine.change
   pub room : ring.room ≡ job.machine.ring
   pub places : drive.ramp.room ≡ job.machine.ring
   pub legs : (joined : Bool) × (drive.ramp.legs ≡ legs_of job done joined ring.loaded)

@@ -47,10 +47,15 @@ pub record MayFinish (job : Job) (s : State) : Type 0 where
   pub moves : IsMoving s.ring
   pub steady : is_head_by_place job.machine s.ring ≡ false
 
--- nothing but the distance, the rate and the position has changed
+-- nothing but the distance, the rate, its change and the position has changed
 abbrev pub StaysOnHead : State → State → Type 0
 StaysOnHead old s =
-    s ≡ record old { travelled = s.travelled; rate = s.rate; position = s.position }
+    s ≡ record old {
+      travelled = s.travelled;
+      rate = s.rate;
+      change = s.change;
+      position = s.position;
+    }
 
 -- n ticks on the motion at the head, which ends in the last one. They have this number of pulses; the
 -- last tick has one, which leads to the new position.
@@ -72,5 +77,6 @@ pub record FinishesMotion (n pulses : ℕ) (job : Job) (old new : State) : Type 
     travelled = new.travelled;
     dwelt = 0;
     rate = new.rate;
+    change = new.change;
     position = new.position;
   }

@@ -372,7 +372,7 @@ impl<K: ArcKernel + Drop, A: Allocator + Copy> Controller<K, A> {
         ensures job { self.new.job ≡ self.old.job }
         ensures accepted { self.new.accepted ≡ self.old.accepted }
         ensures recent { self.new.recent ≡ self.old.recent }
-        ensures rests { Rests self.old.job self.old.state (Ok result) self.new.state }
+        ensures rests { Rests self.old.state (Ok result) self.new.state }
     {
         self.progress.drive.halt();
         QUIET

@@ -2,6 +2,7 @@
 ghost use Rattle.std.specs.Prelude.{◌≡◌, ◌≤◌, ◌<◌, ◌+◌, length};
 ghost use Rattle.ngc_machine_files.specs.Machine.{file_of};
 ghost use Rattle.ngc_planner.specs.Bounds.{bound_of};
+ghost use Rattle.ngc_planner.specs.Components.{change_of};
 ghost use Rattle.ngc_planner.specs.Trail.{joints_before};
 ghost use Rattle.ngc_braking.specs.Leg.{IsLeg};
 ghost use Rattle.ngc_machine_model.specs.Headline.{job_of};
@@ -13,7 +14,7 @@ use crate::route::Loaded;
 use ngc_braking::Leg;
 use ngc_commands::{Action, Command};
 use ngc_machine_files::Machine;
-use ngc_planner::{Joints, Ramp, bound_of};
+use ngc_planner::{Joints, Ramp, bound_of, change_of};
 use ngc_step_kernel::ArcKernel;
 use std::alloc::Allocator;
 
@@ -54,7 +55,8 @@ fn leg_between<K: ArcKernel + Drop, A: Allocator>(
     requires exit { 1 ≤ exit }
     ensures value { result ≡ record {
       millionths = millionths loaded.now.queued;
-      change = (file_of machine.now).change;
+      change = change_of (file_of machine.now) loaded.now.queued.command.action
+          (path_steps loaded.now.queued);
       bound = bound_of (file_of machine.now) loaded.now.queued.command.action
           (path_steps loaded.now.queued);
       entry = entry;
@@ -67,7 +69,7 @@ fn leg_between<K: ArcKernel + Drop, A: Allocator>(
     let steps = loaded.path_steps();
     Leg {
         millionths: steps * 1_000_000,
-        change: u64::from(machine.change),
+        change: u64::from(change_of(&command.action, steps, machine)),
         bound: bound_of(&command.action, steps, machine),
         entry,
         exit,

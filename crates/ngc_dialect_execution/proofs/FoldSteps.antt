@@ -1,5 +1,5 @@
 -- One plain line after another.
-use Rattle.std.proofs.Common.{◌≡◌, ℕ, ℤ, suc, ◌+◌, ◌<◌, ◌≤◌, true, false, List, [], ◌∷◌, ◌++◌, length, drop, get_or, Result, Ok, Err, refl, ap, sym, ◌∙◌, arith}
+use Rattle.std.proofs.Common.{◌≡◌, ℕ, ℤ, suc, ◌+◌, ◌<◌, ◌≤◌, true, false, List, [], ◌∷◌, ◌++◌, length, drop, get_or, Option, Result, Ok, Err, refl, ap, sym, subst, ◌∙◌, arith}
 use Rattle.std.proofs.Math.Seq.{drop-cons}
 use Rattle.std.proofs.Math.ListN.{drop_of_length-le}
 use Rattle.std.proofs.lemmas.List.{length-append, map-append}
@@ -7,7 +7,9 @@ use Rattle.ngc_line_reader.specs.declared.letter.Letter.{Letter}
 use Rattle.ngc_line_reader.specs.declared.word.Word.{Word}
 use Rattle.ngc_line_reader.specs.Words.{pair_of, pairs_of}
 use Rattle.ngc_canonical.specs.declared.fault.Fault.{Fault}
-use Rattle.ngc_canonical.specs.State.{Setup}
+use Rattle.ngc_canonical.specs.State.{Setup, State}
+use Rattle.ngc_canonical.specs.declared.fault.ProgramFault.TheVariants.{At}
+use Rattle.ngc_canonical.specs.Meaning.{at_line}
 use Rattle.ngc_canonical.specs.Steps.{◌>>=◌}
 use Rattle.ngc_dialect_rules.specs.declared.plain.Plain.{Plain}
 use Rattle.ngc_dialect_rules.specs.declared.plain.Plain.TheVariants as plain
@@ -15,11 +17,42 @@ use Rattle.ngc_dialect_execution.specs.declared.fault.Cause.{Cause}
 use Rattle.ngc_dialect_execution.specs.declared.fault.Cause.TheVariants as causes
 use Rattle.ngc_dialect_execution.specs.declared.fault.Refusal.{Refusal}
 use Rattle.ngc_dialect_execution.specs.declared.fault.Refusal.TheVariants.{Because, Memory}
-use Rattle.ngc_dialect_execution.specs.Executed.{PlainLine, Run, line_run, lines_from, run}
+use Rattle.ngc_dialect_execution.specs.Executed.{PlainLine, Run, execute_plain, kept_with, line_run, lines_from, run}
 use Rattle.ngc_dialect_execution.specs.Faults.{Says, caused}
 
 abbrev pub plain_line : ℕ → List Word → PlainLine
 plain_line line words = record { line = line; words = pairs_of words }
+
+-- ---- one plain line, by what its words do
+
+abbrev pub run_with : State → Option (List PlainLine) → Run
+run_with s kept = record { state = s; kept = kept }
+
+done_by : (x : Result State Fault) (at : ℕ) (more kept : Option (List PlainLine)) (s : State) → at_line at x ≡ Ok s → kept ≡ more
+    → caused causes.Plain (x >>= λ (t : State). Ok (run_with t more)) ≡ Ok (run_with s kept)
+done_by (Ok t) at more kept s is keeps = cc
+done_by (Err e) at more kept s is keeps = cc
+
+pub line_ran : (setup : Setup) (line : ℕ) (ws vs : List Word) (r : Run) (s : State) (kept : Option (List PlainLine)) → ws ≡ vs
+    → at_line line (execute_plain setup (plain_line line ws) r.state) ≡ Ok s → kept ≡ kept_with (plain_line line ws) r.kept
+    → caused causes.Plain (line_run setup (plain_line line vs) r) ≡ Ok (run_with s kept)
+line_ran setup line ws vs r s kept same is keeps =
+    subst (λ (us : List Word). caused causes.Plain (line_run setup (plain_line line us) r) ≡ Ok (run_with s kept)) same
+    (done_by (execute_plain setup (plain_line line ws) r.state) line (kept_with (plain_line line ws) r.kept) kept s is keeps)
+
+broken_by : (x : Result State Fault) (at line : ℕ) (e : Fault) (more : Option (List PlainLine)) → at_line at x ≡ Err (At line e)
+    → caused causes.Plain (x >>= λ (t : State). Ok (run_with t more)) ≡ Err (causes.Plain e)
+broken_by (Ok t) at line e more is = cc
+broken_by (Err d) at line e more is = cc
+
+pub line_stopped : (setup : Setup) (line number : ℕ) (ws vs : List Word) (r : Run) (e : Fault) → ws ≡ vs
+    → at_line line (execute_plain setup (plain_line line ws) r.state) ≡ Err (At number e)
+    → caused causes.Plain (line_run setup (plain_line line vs) r) ≡ Err (causes.Plain e)
+line_stopped setup line number ws vs r e same is =
+    subst (λ (us : List Word). caused causes.Plain (line_run setup (plain_line line us) r) ≡ Err (causes.Plain e)) same
+    (broken_by (execute_plain setup (plain_line line ws) r.state) line number e (kept_with (plain_line line ws) r.kept) is)
+
+-- ---- the parts that are left
 
 -- executing the parts from an index on, where some words are begun
 abbrev pub left : Setup → ℕ → List Plain → ℕ → List Word → Run → Result Run Fault

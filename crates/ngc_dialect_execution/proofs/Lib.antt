@@ -8,6 +8,8 @@ pub mod LineSteps
 pub mod FirstLine
 -- What a program's plain lines lead to.
 pub mod Reaching
+-- Frames that are the same make the same changes.
+pub mod FrameSteps
 -- One line of a text after another.
 pub mod TextSteps
 -- What steps return, passed on; the moves of a cycle, one after another.

@@ -24,6 +24,11 @@ use Rattle.ngc_dialect_execution.specs.Executed.{Run, lines_at, run}
 use Rattle.ngc_dialect_execution.specs.Faults.{◌>>=◌, caused, Says}
 use Rattle.ngc_dialect_repeats.specs.declared.polar.PolarLine.{PolarLine}
 use Rattle.ngc_dialect_repeats.specs.declared.turns.Turning.{Turning}
+use Rattle.ngc_dialect_path.specs.declared.step.PathStep.{PathStep}
+use Rattle.ngc_dialect_path.specs.Steps.{Written}
+use Rattle.ngc_dialect_execution.specs.declared.beside.StepLines.{StepLines}
+use Rattle.ngc_dialect_execution.specs.declared.beside.WaitingLine.{WaitingLine}
+use Rattle.ngc_dialect_execution.specs.Taken.{put_off, step_carried, step_taken, with_step}
 use Rattle.ngc_dialect_execution.specs.Taken.{polar_step_taken, polar_steps_taken, turn_taken, turns_taken}
 use Rattle.ngc_dialect_execution.specs.Taken.{Between, known_of, run_of, with_run, with_series, plain_taken, move_taken, moves_taken, start_taken, cycle_taken, made_or_path, made_taken, path_taken, plain_words_taken}
 
@@ -44,6 +49,38 @@ stops view seen f Memory says e = tt
 pub follows : {X Y Z : Type 0} (seen : X → Z) (f : Y → Result Z Cause) (r : Result X Refusal) (says : Result Y Cause) (y : Y) →
     says ≡ Ok y → Says seen r (f y) → Says seen r (says >>= f)
 follows seen f r says y e h = subst (λ s. Says seen r s) (sym (ap (λ s. s >>= f) e)) h
+
+-- ---- a step beside a path
+
+-- what waits after a step whose plain lines were executed
+abbrev then_waits : StepLines → PathStep → Written → Between → Run → Result Between Cause
+then_waits at step w b r = put_off at.own step w.own b.waiting >>= λ (us : List WaitingLine). Ok (with_step b step r us)
+
+pub step_stops : {V W : Type 0} (view : V → Run) (seen : W → Between) (setup : Setup) (at : StepLines) (step : PathStep) (w : Written) (b : Between)
+    (ws : List WaitingLine) (refusal : Refusal) → ws ≡ b.waiting →
+    Says view (Err refusal) (step_taken setup at step w ws (run_of b)) → Says seen (Err refusal) (step_carried setup at step w b)
+unfolding step_carried
+step_stops view seen setup at step w b ws refusal same e =
+    stops view seen (then_waits at step w b) refusal (step_taken setup at step w b.waiting (run_of b))
+    (subst (λ (us : List WaitingLine). Says view (Err refusal) (step_taken setup at step w us (run_of b))) same e)
+
+taken_here : (setup : Setup) (at : StepLines) (step : PathStep) (w : Written) (b : Between) (ws : List WaitingLine) (r : Run) → ws ≡ b.waiting →
+    step_taken setup at step w ws (run_of b) ≡ Ok r → step_carried setup at step w b ≡ then_waits at step w b r
+unfolding step_carried
+taken_here setup at step w b ws r same e =
+    ap (λ (x : Result Run Cause). x >>= then_waits at step w b) (subst (λ (us : List WaitingLine). step_taken setup at step w us (run_of b) ≡ Ok r) same e)
+
+pub wait_stops : {V W : Type 0} (view : V → List WaitingLine) (seen : W → Between) (setup : Setup) (at : StepLines) (step : PathStep) (w : Written)
+    (b : Between) (ws : List WaitingLine) (r : Run) (refusal : Refusal) → ws ≡ b.waiting → step_taken setup at step w ws (run_of b) ≡ Ok r →
+    Says view (Err refusal) (put_off at.own step w.own b.waiting) → Says seen (Err refusal) (step_carried setup at step w b)
+wait_stops view seen setup at step w b ws r refusal same taken e =
+    subst (λ (x : Result Between Cause). Says seen (Err refusal) x) (sym (taken_here setup at step w b ws r same taken))
+    (stops view seen (λ (us : List WaitingLine). Ok (with_step b step r us)) refusal (put_off at.own step w.own b.waiting) e)
+
+pub step_done : (setup : Setup) (at : StepLines) (step : PathStep) (w : Written) (b : Between) (ws us : List WaitingLine) (r : Run) → ws ≡ b.waiting →
+    step_taken setup at step w ws (run_of b) ≡ Ok r → put_off at.own step w.own b.waiting ≡ Ok us → step_carried setup at step w b ≡ Ok (with_step b step r us)
+step_done setup at step w b ws us r same taken waits =
+    taken_here setup at step w b ws r same taken ∙ ap (λ (x : Result (List WaitingLine) Cause). x >>= λ (vs : List WaitingLine). Ok (with_step b step r vs)) waits
 
 -- ---- plain lines, and moves
 

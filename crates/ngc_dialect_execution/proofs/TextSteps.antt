@@ -8,6 +8,7 @@ use Rattle.ngc_dialect_names.specs.declared.dialect.Dialect.{Dialect}
 use Rattle.ngc_canonical.specs.State.{Setup}
 use Rattle.ngc_frames.specs.Changes.{change_at, frame_of}
 use Rattle.ngc_frames.specs.declared.change.FrameChange.{FrameChange}
+use Rattle.ngc_frames.specs.Frame.{is_same_frame}
 use Rattle.ngc_frames.specs.declared.frame.Frame.{Frame}
 use Rattle.ngc_dialect_execution.specs.declared.fault.Cause.{Cause}
 use Rattle.ngc_dialect_execution.specs.declared.fault.Cause.TheVariants as causes
@@ -24,7 +25,8 @@ use Rattle.ngc_dialect_execution.specs.Faults.{◌>>=◌, FailsBy, ProgramSays, 
 use Rattle.ngc_dialect_execution.specs.Flow.{flow_from}
 use Rattle.ngc_dialect_execution.specs.Program.{go_from, go_on, lines_taken, marked_taken}
 use Rattle.ngc_dialect_execution.specs.Taken.{Between, Progress, ended_at}
-use Rattle.ngc_dialect_execution.specs.Text.{ProgramLines, first_byte, is_end, lines_after, mark_of, number_of}
+use Rattle.ngc_dialect_execution.specs.Text.{ProgramLines, first_byte, is_end, lines_after, mark_of, no_lines, number_of}
+use Rattle.ngc_dialect_execution.proofs.FrameSteps.{change_test}
 
 yes : {A : Type 0} (b : Bool) (x y : A) → b ≡ true → (if b then x else y) ≡ x
 yes true x y e = refl
@@ -80,10 +82,12 @@ taken setup block_delete program before now mark bytes line rest p cs x h on e =
 
 -- the changes after a line, in the words of a call
 pub noted : (line count : ℕ) (frame : Frame) (p q : Progress) (cs more : List FrameChange) → count ≡ length p.between.state.commands
-    → frame ≡ frame_of p.between.state → more ≡ cs ++ change_at line count frame (frame_of q.between.state) → more ≡ cs ++ changed_by line p q
+    → is_same_frame frame (frame_of p.between.state) ≡ true → more ≡ cs ++ change_at line count frame (frame_of q.between.state)
+    → more ≡ cs ++ changed_by line p q
 noted line count frame p q cs more counted was is =
     is ∙ ap (λ (n : ℕ). cs ++ change_at line n frame (frame_of q.between.state)) counted
-    ∙ ap (λ (f : Frame). cs ++ change_at line (length p.between.state.commands) f (frame_of q.between.state)) was
+    ∙ ap (λ (made : List FrameChange). cs ++ made)
+    (change_test line (length p.between.state.commands) frame (frame_of p.between.state) (frame_of q.between.state) was)
 
 -- the program goes on
 pub goes_on : (setup : Setup) (block_delete : Bool) (program : ProgramLines) (before now : LinesBefore) (mark : Mark) (bytes : List ℕ) (line : ℕ)
@@ -172,6 +176,13 @@ pub passes : (before now : LinesBefore) (d e : Dialect) (mark : Mark) (bytes : L
     → Passes before now e mark bytes line
 passes before now d e mark bytes line is same after number =
     record { is = is ∙ ap (λ (x : Dialect). mark_of before x (first_byte bytes)) same; after = after; number = number }
+
+pub none_before : (setup : Setup) (block_delete : Bool) (program : ProgramLines) (before : LinesBefore) (lines : List (List ℕ)) (p : Progress)
+    (cs : List FrameChange) → before ≡ no_lines → cs ≡ []
+    → lines_taken setup block_delete program before lines p cs ≡ lines_taken setup block_delete program no_lines lines p []
+none_before setup block_delete program before lines p cs none empty =
+    ap (λ (b : LinesBefore). lines_taken setup block_delete program b lines p cs) none
+    ∙ ap (λ (l : List FrameChange). lines_taken setup block_delete program no_lines lines p l) empty
 
 pub first_left : (setup : Setup) (block_delete : Bool) (program : ProgramLines) (before : LinesBefore) (lines rest : List (List ℕ)) (bytes : List ℕ)
     (p : Progress) (cs : List FrameChange) (whole : Outcome) → lines ≡ bytes ∷ rest → lines_taken setup block_delete program before lines p cs ≡ whole

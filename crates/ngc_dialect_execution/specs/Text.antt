@@ -1,6 +1,6 @@
 -- The percent signs that begin and end a program (LinuxCNC's documentation, "Overview of a G-code
 -- program"; the other controls' likewise).
-use Rattle.std.specs.Prelude.{ℕ, ◌+◌, ◌==◌, min, not, ◌&&◌, ◌||◌, List, [], ◌∷◌, find, Bool, true, false}
+use Rattle.std.specs.Prelude.{ℕ, ◌+◌, ◌==◌, max, min, not, ◌&&◌, ◌||◌, List, [], ◌∷◌, find, Bool, true, false}
 use Rattle.std.specs.Prelude.{Option, Some, None, if◌then◌else◌}
 use Rattle.std.specs.List.{list_any}
 use Rattle.ngc_line_reader.specs.Program.{split_lines}
@@ -54,9 +54,10 @@ mark_of before d (Some byte) = if byte == 37 then percent_mark before d else IsL
 abbrev pub counted : ℕ → ℕ
 counted count = min (count + 1) 18446744073709551615
 
--- the number of the last of `count` lines; the numbers of lines end at 4,294,967,295
+-- the number of the last of `count` lines; the numbers of lines are from 1 to 4,294,967,295, and a text
+-- without a line ends in line 1
 abbrev pub number_of : ℕ → ℕ
-number_of count = min count 4294967295
+number_of count = max 1 (min count 4294967295)
 
 -- what the lines up to this one are, by its first byte
 abbrev pub lines_after : LinesBefore → Option ℕ → LinesBefore

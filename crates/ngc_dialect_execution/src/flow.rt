@@ -83,6 +83,7 @@ fn run_lines<A: Allocator + Copy>(
         (flow_of state).fuel (record { progress = progress_in interpreter; flow = flow_of state })
         changes.items) }
 {
+    let mut recorded = interpreter.frame();
     while state.line() < lines.len() {
         let index = state.line();
         let bytes = lines[index];
@@ -93,7 +94,6 @@ fn run_lines<A: Allocator + Copy>(
                 cause: Cause::Flow(TooManyLines),
             });
         }
-        let frame = interpreter.frame();
         let count = interpreter.command_count();
         let effect = match interpreter.take_flow_line(
             machine,
@@ -107,7 +107,7 @@ fn run_lines<A: Allocator + Copy>(
             Ok(effect) => effect,
             Err(refusal) => return Err(at_line(line, refusal)),
         };
-        match add_change(&mut changes, &interpreter, line, count, &frame) {
+        match add_change(&mut changes, &interpreter, line, count, &mut recorded) {
             Ok(()) => {}
             Err(_) => return Err(DialectFault::Memory),
         }

@@ -1,7 +1,8 @@
 //! The frames by which commands are executed.
-ghost use Rattle.std.specs.Prelude.{◌≡◌, ◌++◌, OnOk, Result};
+ghost use Rattle.std.specs.Ordering.{int_eq};
+ghost use Rattle.std.specs.Prelude.{◌≡◌, ◌++◌, true, OnOk, Result};
 ghost use Rattle.ngc_frames.specs.Changes.{change_at, frame_of};
-ghost use Rattle.ngc_frames.specs.Frame.{are_same_points, is_same_frame, is_same_point};
+ghost use Rattle.ngc_frames.specs.Frame.{are_same_points, is_same_frame, is_same_point, is_same_unit};
 ghost use Rattle.ngc_dialect_execution.specs.declared.fault.DialectFault.{DialectFault as Fault};
 ghost use Rattle.ngc_dialect_execution.specs.Ending.{framed_by as framed, with_changes};
 ghost use Rattle.ngc_dialect_execution.specs.Faults.{ProgramSays};
@@ -14,8 +15,9 @@ use crate::run::KeptLine;
 use crate::words::Collected;
 use ngc_commands::Command;
 use ngc_dialect_notes::Notes;
-use ngc_fixed_length::Point3;
-use ngc_frames::{Frame, FrameChange, FramePart, is_same_part};
+use ngc_fixed_length::{Point3, Units};
+use ngc_frames::{Frame, FrameChange, index_of};
+use ngc_offsets::Frames;
 use std::alloc::{AllocError, Allocator};
 
 /// The commands of a program, each change of the frame by which they are executed, and what was
@@ -83,38 +85,68 @@ fn are_same_points(ps: &[Point3], qs: &[Point3]) -> bool
     }
 }
 
-fn is_same_frame(a: &Frame, b: &Frame) -> bool
-    ensures { result ≡ is_same_frame a.now b.now }
+fn is_same_unit(a: Units, b: Units) -> bool
+    ensures { result ≡ is_same_unit a b }
 {
-    is_same_part(FramePart::Selection, a, b)
-        && are_same_points(&a.frames.origins, &b.frames.origins)
-        && is_same_part(FramePart::AxisOffset, a, b)
-        && is_same_part(FramePart::ToolLength, a, b)
-        && is_same_part(FramePart::Unit, a, b)
+    match (a, b) {
+        (Units::Millimetres, Units::Millimetres) => true,
+        (Units::Inches, Units::Inches) => true,
+        _ => false,
+    }
+}
+
+fn is_same_length(frame: &Frame, frames: &Frames) -> bool
+    ensures { result ≡ int_eq frame.now.frames.length frames.now.length }
+{
+    frame.frames.length.nanometres() == frames.length.nanometres()
+}
+
+// Returns whether a frame has these coordinates and this unit. They come by reference, since a copy of
+// them takes longer than the test.
+fn is_frame_of(frame: &Frame, frames: &Frames, unit: Units) -> bool
+    ensures { result ≡ is_same_frame frame.now (record { frames = frames.now; unit = unit }) }
+{
+    index_of(frame.frames.active) == index_of(frames.active)
+        && are_same_points(&frame.frames.origins, &frames.origins)
+        && is_same_point(&frame.frames.axis_offset, &frames.axis_offset)
+        && is_same_length(frame, frames)
+        && is_same_unit(frame.unit, unit)
+}
+
+// Returns whether a frame is the one in force.
+fn is_in_force<A: Allocator + Copy>(frame: &Frame, interpreter: &DialectInterpreter<A>) -> bool
+    ensures { result ≡ is_same_frame frame.now (frame_of (progress_in interpreter.now).between.state) }
+{
+    let own = &interpreter.execution.words.run.interpreter;
+    is_frame_of(frame, own.frames(), own.length_unit())
 }
 
 /// Adds the change of the frame that a line made, if it made one. `command` is the number of commands
-/// that were executed before the line, and `old` the frame then.
+/// that were executed before the line. `recorded` has the parts of the frame then, and afterwards those
+/// of the frame in force.
 pub(crate) fn add_change<A: Allocator + Copy>(
     changes: &mut Vec<FrameChange, A>,
     interpreter: &DialectInterpreter<A>,
     line: u32,
     command: usize,
-    old: &Frame,
+    recorded: &mut Frame,
 ) -> Result<(), AllocError>
-    ensures { OnOk result (changes.new.items ≡ changes.old.items
-        ++ change_at line command old.now (frame_of (progress_in interpreter.now).between.state)) }
+    ensures added { OnOk result (changes.new.items ≡ changes.old.items
+        ++ change_at line command recorded.old (frame_of (progress_in interpreter.now).between.state)) }
+    ensures recorded { OnOk result
+        (is_same_frame recorded.new (frame_of (progress_in interpreter.now).between.state) ≡ true) }
 {
-    let frame = interpreter.frame();
-    if is_same_frame(old, &frame) {
+    if is_in_force(recorded, interpreter) {
         return Ok(());
     }
     match changes.push(FrameChange {
         line,
         command,
-        frame,
+        frame: interpreter.frame(),
     }) {
-        Ok(()) => Ok(()),
-        Err(_) => Err(AllocError),
+        Ok(()) => {}
+        Err(_) => return Err(AllocError),
     }
+    *recorded = interpreter.frame();
+    Ok(())
 }

@@ -90,6 +90,7 @@ fn take_lines<A: Allocator + Copy>(
         (split_lines text.now) (progress_in interpreter) []) }
 {
     let mut changes = Vec::new(alloc);
+    let mut recorded = interpreter.frame();
     let mut lines = LinesBefore::none();
     let mut rest = text;
     while !rest.is_empty() {
@@ -100,7 +101,6 @@ fn take_lines<A: Allocator + Copy>(
         if mark.is_end() {
             return framed(finish(interpreter, machine, tools, line), changes);
         }
-        let frame = interpreter.frame();
         let count = interpreter.command_count();
         match take_marked(
             &mut interpreter,
@@ -127,7 +127,7 @@ fn take_lines<A: Allocator + Copy>(
             }
             Err(refusal) => return Err(at_line(line, refusal)),
         }
-        match add_change(&mut changes, &interpreter, line, count, &frame) {
+        match add_change(&mut changes, &interpreter, line, count, &mut recorded) {
             Ok(()) => {}
             Err(_) => return Err(DialectFault::Memory),
         }

@@ -1,6 +1,6 @@
 //! Lines that are executed as lines of other words: polar words become X and Y, and a repeated polar
 //! hole and an arc of several turns become several lines.
-ghost use Rattle.std.specs.Prelude.{◌≡◌};
+ghost use Rattle.std.specs.Prelude.{◌≡◌, false, None};
 ghost use Rattle.ngc_canonical.specs.Interpreter.{setup_of};
 ghost use Rattle.ngc_dialect_execution.specs.Faults.{Says, polar_caused};
 ghost use Rattle.ngc_dialect_execution.specs.Taken as spec;
@@ -105,9 +105,17 @@ fn turning_in<A: Allocator + Copy>(
     }
 }
 
-// Executes a line without polar words.
-#[inline(always)]
-fn take_turned<A: Allocator + Copy>(
+// Returns whether a line may have turns: cutter compensation is off, and its P names a number of
+// turns. Other lines make no `Option<Turning>`, which takes longer than the rest of this test.
+fn may_turn<A: Allocator + Copy>(interpreter: &WordInterpreter<A>, words: &[Word]) -> bool
+    ensures { result ≡ false → spec.turning_in words.now (between_of interpreter.now) ≡ None }
+{
+    interpreter.path.is_none() && count_in(interpreter.before.dialect, words).is_some()
+}
+
+// Executes a line without polar words that may have turns.
+#[inline(never)]
+fn take_turning<A: Allocator + Copy>(
     interpreter: &mut WordInterpreter<A>,
     space: &mut Vec<Word, A>,
     machine: &Machine<A>,
@@ -124,6 +132,26 @@ fn take_turned<A: Allocator + Copy>(
             interpreter.note(line, Kind::SeveralTurns);
             take_turns(interpreter, space, machine, tools, line, &turning, words)
         }
+    }
+}
+
+// Executes a line without polar words.
+#[inline(always)]
+fn take_turned<A: Allocator + Copy>(
+    interpreter: &mut WordInterpreter<A>,
+    space: &mut Vec<Word, A>,
+    machine: &Machine<A>,
+    tools: &Tools<A>,
+    line: u32,
+    words: &[Word],
+) -> Result<(), Refusal>
+    ensures { Says (λ _. between_of interpreter.new) result (spec.turned_taken
+        (setup_of machine.now tools.now) line words.now (between_of interpreter.old)) }
+{
+    if may_turn(interpreter, words) {
+        take_turning(interpreter, space, machine, tools, line, words)
+    } else {
+        interpreter.take_words(machine, tools, line, words)
     }
 }
 

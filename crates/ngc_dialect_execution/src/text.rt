@@ -151,11 +151,13 @@ impl LinesBefore {
     }
 }
 
-/// Returns the number of the last of `count` lines.
+/// Returns the number of the last of `count` lines, 1 if there is none.
 pub(crate) fn number_of(count: usize) -> u32
     ensures { result ≡ spec.number_of count }
 {
-    if count < 4_294_967_295 {
+    if count == 0 {
+        1
+    } else if count < 4_294_967_295 {
         count as u32
     } else {
         u32::MAX

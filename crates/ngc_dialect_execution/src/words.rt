@@ -484,15 +484,23 @@ impl<A: Allocator + Copy> WordInterpreter<A> {
 
     // Notes a line by what its words are read by.
     #[inline(never)]
-    fn note_words(&mut self, line: u32, words: &[Word])
+    fn note_read(&mut self, line: u32, words: &[Word])
         ensures { between_of self.new ≡ spec.words_noted line words.now (between_of self.old) }
     {
-        if self.notes.is_none() {
-            return;
-        }
         let known = self.programmed();
         if let Some(notes) = &mut self.notes {
             notes.add(line, &known, words);
+        }
+    }
+
+    // Notes a line by what its words are read by, where notes are wanted. Where they aren't, a line pays
+    // for this test alone, and not for a call.
+    #[inline(always)]
+    fn note_words(&mut self, line: u32, words: &[Word])
+        ensures { between_of self.new ≡ spec.words_noted line words.now (between_of self.old) }
+    {
+        if self.notes.is_some() {
+            self.note_read(line, words);
         }
     }
 

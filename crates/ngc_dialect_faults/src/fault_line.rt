@@ -1,5 +1,5 @@
 //! The line that reports a fault.
-ghost use Rattle.std.specs.Prelude.{◌≡◌, OnOk, OnErr};
+ghost use Rattle.std.specs.Prelude.{◌≡◌, ◌++◌, OnOk, OnErr};
 ghost use Rattle.std.specs.Io.KnownBytes.{Appends};
 ghost use Rattle.ngc_text.specs.Failures.{CountsFailure};
 ghost use Rattle.ngc_text.specs.Written.{AppendsPrefix};
@@ -158,5 +158,39 @@ pub fn write_dialect_fault<W: Sink>(
     let mut page = Page::new();
     say!(page, output; Part::Text(beginning(setting)));
     say_fault(line, cause, &mut page, output);
+    page.finish(output)
+}
+
+fn say_between<W: Sink>(before: &[u8], cause: &Cause, after: &[u8], page: &mut Page, output: &mut W)
+    ensures { Says (W.written output.old) (W.written output.new)
+        (W.failures output.old) (W.failures output.new) page.old page.new
+        (before.now ++ (cause_text cause.now ++ after.now)) }
+{
+    say!(page, output; Part::Text(before));
+    say_cause(cause, page, output);
+    say!(page, output; Part::Text(after));
+}
+
+/// Writes what is wrong, as in the line that reports a fault, between two texts: `nothing uses the word,
+/// at P`.
+///
+/// The function allocates no memory. After a fault (902, only if the sink failed) a prefix of the
+/// text is written.
+pub fn write_cause<W: Sink>(
+    before: &[u8],
+    cause: &Cause,
+    after: &[u8],
+    output: &mut W,
+) -> Result<(), WriteFault>
+    ensures ok { OnOk result
+        (Appends (W.written output.old) (W.written output.new)
+        (before.now ++ (cause_text cause.now ++ after.now))) }
+    ensures fault { OnErr result
+        (AppendsPrefix (W.written output.old) (W.written output.new)
+        (before.now ++ (cause_text cause.now ++ after.now))) }
+    ensures counts { CountsFailure (W.failures output.old) (W.failures output.new) result }
+{
+    let mut page = Page::new();
+    say_between(before, cause, after, &mut page, output);
     page.finish(output)
 }

@@ -8,4 +8,4 @@ mod plain;
 mod reading;
 mod rules;
 
-pub use fault_line::write_dialect_fault;
+pub use fault_line::{write_cause, write_dialect_fault};

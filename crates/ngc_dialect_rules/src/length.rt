@@ -1,5 +1,6 @@
 //! Lengths of a line's words, and how they are written again.
 ghost use Rattle.std.specs.Prelude.{◌≡◌, pos, ◌+ℤ◌};
+ghost use Rattle.ngc_fixed_length.specs.declared.units.Units.TheVariants as units;
 ghost use Rattle.ngc_dialect_rules.specs.Lengths as spec;
 
 use crate::fault::{Cause, Fault, about_letter};
@@ -128,12 +129,25 @@ fn is_exact_length(units: Units, length: Option<Nm>) -> bool
     }
 }
 
-/// Returns whether a unit can write the lengths.
+// Returns whether inches can write the lengths. This is a function of its own, so that lengths in
+// millimetres take no call.
+#[inline(never)]
 #[tactic(auto, unfolding(crate::specs::Lengths::is_exact))]
+fn is_exact_in_inches(axes: &AxisLengths) -> bool
+    ensures { result ≡ spec.is_exact units.Inches axes.now }
+{
+    is_exact_length(Units::Inches, axes.x)
+        && is_exact_length(Units::Inches, axes.y)
+        && is_exact_length(Units::Inches, axes.z)
+}
+
+/// Returns whether a unit can write the lengths. Millimetres can write all.
+#[tactic(auto, using(crate::proofs::ExactLengths::exact_in_millimetres))]
 pub fn is_exact(units: Units, axes: &AxisLengths) -> bool
     ensures { result ≡ spec.is_exact units axes.now }
 {
-    is_exact_length(units, axes.x)
-        && is_exact_length(units, axes.y)
-        && is_exact_length(units, axes.z)
+    match units {
+        Units::Millimetres => true,
+        Units::Inches => is_exact_in_inches(axes),
+    }
 }

@@ -1,7 +1,7 @@
 -- The words that a job file adds to a call. The call with a job file is the call with these words. Our
 -- own.
 use Rattle.std.specs.Prelude.{ℕ, ◌+◌, List, [], ◌∷◌, ◌++◌, map, codes}
-use Rattle.std.specs.Prelude.{Option, Some, None, option_map, is_some, Bool, not, ◌&&◌, if◌then◌else◌}
+use Rattle.std.specs.Prelude.{Option, Some, None, option_map, is_some, unwrap_or, Bool, not, ◌&&◌, if◌then◌else◌}
 use Rattle.std.specs.List.{list_any}
 use Rattle.ngc_dialect_names.specs.Names.{name_of as dialect_name}
 use Rattle.ngc_dialect_names.specs.declared.dialect.Dialect.{Dialect}
@@ -17,7 +17,7 @@ use Rattle.ngc_job_files.specs.declared.job.JobHead.{JobHead}
 use Rattle.ngc_job_words.specs.Commands.{Text, family_of, has_option, name_of}
 use Rattle.ngc_job_words.specs.Folders.{path_in}
 use Rattle.ngc_job_words.specs.Texts.{system_code, origin_text, fixture_text, stock_text}
-use Rattle.ngc_job_words.specs.Words.{has, value_in, values_of}
+use Rattle.ngc_job_words.specs.Words.{after, has, value_in, values_of}
 use Rattle.ngc_job_words.specs.declared.command.JobOption.{JobOption}
 use Rattle.ngc_job_words.specs.declared.command.JobOption.TheVariants as options
 
@@ -48,9 +48,13 @@ dialect_words words dialect =
 
 -- ---- origins: one for each system that has none by the words
 
+-- the code in a value may begin with a G
+abbrev pub without_g : Text → Text
+without_g value = unwrap_or (after (codes "G") value) (unwrap_or (after (codes "g") value) value)
+
 -- the value of the option is for the system with this code
 abbrev pub begins_code : Text → Text → Bool
-begins_code code value = is_some (value_in code value)
+begins_code code value = is_some (value_in code (without_g value))
 
 abbrev pub has_system : List Text → ℕ → Bool
 has_system values system = list_any (begins_code (system_code system)) values

@@ -13,7 +13,7 @@ use crate::command::{JobOption, family_of};
 use crate::folder::path_in;
 use crate::text::{fixture_text, millimetres, origin_text, stock_text, system_code};
 use crate::values::values_of;
-use crate::word::{has, value_in};
+use crate::word::{has, after, value_in};
 use ngc_dialect_names::Dialect;
 use ngc_job_files::{JobFixture, JobHead, JobPaths, JobSheet};
 use ngc_machine_figures::{Length, StockSheet};
@@ -160,10 +160,20 @@ fn add_dialect(
     add_option(added, alloc, words, JobOption::From, from)
 }
 
+// Returns the value of `--origin` without the G that its code may begin with.
+fn without_g(value: &str) -> &str
+    ensures { result.now ≡ spec.without_g value.now }
+{
+    match after("G", value) {
+        Some(rest) => rest,
+        None => after("g", value).unwrap_or(value),
+    }
+}
+
 fn begins_code(code: &str, value: &str) -> bool
     ensures { result ≡ spec.begins_code code.now value.now }
 {
-    value_in(code, value).is_some()
+    value_in(code, without_g(value)).is_some()
 }
 
 fn has_system_in(code: &str, values: &[&str]) -> bool

@@ -3,7 +3,8 @@ ghost use Rattle.std.specs.Prelude.{◌≡◌, map, option_map};
 ghost use Rattle.std.specs.List.{list_any};
 ghost use Rattle.ngc_job_words.specs.Words as spec;
 
-fn after<'a>(prefix: &str, word: &'a str) -> Option<&'a str>
+/// Returns what is after a prefix.
+pub(crate) fn after<'a>(prefix: &str, word: &'a str) -> Option<&'a str>
     ensures { option_map (λ v. v.now) result ≡ spec.after prefix.now word.entry.now }
 {
     match word.strip_prefix(prefix) {

@@ -29,7 +29,7 @@ there None x f h = cc
 pub values_read : (d : Data) (numbers : MachineNumbers) (options : MachineOptions) (rates : Coordinates) (points : MachinePoints) (origins : List Coordinates) (fixtures : List Corners)
     → Some numbers ≡ machine_numbers d → has_only (machine_keys numbers.version) d ≡ true → Some options ≡ machine_options d → Some rates ≡ machine_axis_rates numbers.version d
     → Some points ≡ machine_points d → Some origins ≡ machine_origins d → Some fixtures ≡ machine_fixtures numbers.version d
-    → Some (record { numbers = numbers; options = options; motor_steps = grid_steps numbers.step; axis_rates = rates; points = points; origins = origins; fixtures = fixtures }) ≡ machine_values d
+    → Some (record { numbers = numbers; options = options; motor_steps = grid_steps numbers.step; axis_rates = rates; own = None; points = points; origins = origins; fixtures = fixtures }) ≡ machine_values d
 values_read d numbers options rates points origins fixtures n k t r p o f =
     sym (
     there (machine_numbers d) numbers _ n

@@ -15,14 +15,15 @@ use Rattle.ngc_motors.specs.declared.step.MotorSteps.{MotorSteps}
 use Rattle.ngc_machine_files.specs.Ranges.{PLACE_LIMIT, TRAVEL_LIMIT, BLOCK_LIMIT, place_limit, travel_limit, CORNER_LIMIT, IsFrom, IsSized, IsAtMost, IsBelow, IsOnGrid, IsTravel, IsFixture}
 use Rattle.ngc_machine_files.specs.Numbers.{from_to}
 use Rattle.ngc_machine_files.specs.Refusals.{◌>>◌, refuse_unless}
-use Rattle.ngc_machine_files.specs.MachineText.{MachineValues, is_sized, is_at_most, is_below, is_multiple, is_on_grid, is_rate, good_axis_rates, good_jump, good_ring, good_arc_feed, good_changer, good_margin, good_limits, good_motors, good_axis_ends, good_rates, good_travel, good_version}
-use Rattle.ngc_machine_files.specs.MachineText.{good_fixture, good_fixtures, machine_ranges, place_of, fixture_of, good_block, good_stock, AreFrom, IsBlock, IsGood}
+use Rattle.ngc_machine_files.specs.MachineText.{MachineValues, is_sized, is_at_most, is_below, is_multiple, is_on_grid, is_rate, good_axis_rates, good_jump, good_ring, good_arc_feed, good_changer, good_turn, good_axis_turns, good_own, good_numbers, good_margin, good_limits, good_motors, good_axis_ends, good_rates, good_travel, good_version}
+use Rattle.ngc_machine_files.specs.MachineText.{good_fixture, good_fixtures, machine_ranges, place_of, fixture_of, good_block, good_stock, AreFrom, AreOwn, IsBlock, IsGood}
 use Rattle.ngc_machine_files.specs.ToolText.{ToolNumbers, TableValues, good_part, good_parts, good_tool, good_tools, table_ranges, IsPartEntry, ArePartEntries}
 use Rattle.ngc_machine_files.specs.ToolText.{IsEntry, AreEntries}
 use Rattle.ngc_machine_files.specs.declared.fault.FileFault.{FileFault}
 use Rattle.ngc_machine_files.specs.declared.tool_contents.PartEntry.{PartEntry}
 use Rattle.ngc_machine_files.specs.declared.machine_contents.Coordinates.{Coordinates}
 use Rattle.ngc_machine_files.specs.declared.machine_contents.Corners.{Corners}
+use Rattle.ngc_machine_files.specs.declared.machine_contents.LimitNumbers.{LimitNumbers}
 use Rattle.ngc_machine_files.specs.declared.machine_contents.MachinePoints.{MachinePoints}
 use Rattle.ngc_machine_files.specs.declared.machine_contents.StockNumbers.{StockNumbers}
 
@@ -119,6 +120,17 @@ axis_rates p h =
     let (x, y, z) = three (is_rate p.x) (is_rate p.y) (is_rate p.z) h in
     record { x = a_rate _ x; y = a_rate _ y; z = a_rate _ z }
 
+axis_turns : (p : Coordinates) → good_axis_turns p ≡ true → AreFrom (pos 1) (pos 1000000000000) p
+axis_turns p h =
+    let (x, y, z) = three (good_turn p.x) (good_turn p.y) (good_turn p.z) h in
+    record { x = from _ _ _ x; y = from _ _ _ y; z = from _ _ _ z }
+
+an_own : (own : Option LimitNumbers) → good_own own ≡ true → IfSome own AreOwn
+an_own None h = tt
+an_own (Some limits) h =
+    let (changes, turns) = and_parts (good_axis_rates limits.changes) (good_axis_turns limits.turns) h in
+    record { changes = axis_rates limits.changes changes; turns = axis_turns limits.turns turns }
+
 a_fixture : (f : Corners) → good_fixture f ≡ true → IsFixture (fixture_of f)
 a_fixture f h =
     let (corners, _) = and_parts _ (is_some f.name) h in
@@ -154,7 +166,7 @@ some_motors step motors is h =
     record { grid = is; x = x; y = y; z = z }
 
 pub IsGood-from_ranges : (m : MachineValues) → machine_ranges m ≡ Ok tt → IsGood m
-unfolding good_travel
+unfolding good_travel good_numbers
 IsGood-from_ranges m h =
     let (_, h7) = passes _ _ _ h in
     let (step, h8) = passes _ _ _ h7 in
@@ -169,12 +181,13 @@ IsGood-from_ranges m h =
     (good_axis_ends m.numbers.step m.motor_steps m.points) travels in
     let in_step = from (pos 500) (pos 50000) m.numbers.step step in
     let is_step : IsStep m.numbers.step = record { least = in_step.least; greatest = in_step.greatest } in
-    let (rates8, _) = and_parts _ (good_changer m.numbers.optional.changer) rates in
+    let (rates9, own) = and_parts _ (good_own m.own) rates in
+    let (rates8, _) = and_parts _ (good_changer m.numbers.optional.changer) rates9 in
     let (rates7, _) = and_parts _ (good_arc_feed m.numbers.optional.arc_feed) rates8 in
     let (rates6, ring) = and_parts _ (good_ring m.numbers.optional.ring) rates7 in
     let (rates5, jump) = and_parts _ (good_jump m.numbers.optional.jump) rates6 in
     let (rates4, axes) = and_parts _ (good_axis_rates m.axis_rates) rates5 in
-    let (rates3, turn) = and_parts _ (from_to (pos 1) (pos 1000000000000) m.numbers.turn) rates4 in
+    let (rates3, turn) = and_parts _ (good_turn m.numbers.turn) rates4 in
     let (max_rate, change, corner) = three (is_rate m.numbers.max_rate) (is_rate m.numbers.change) (is_rate m.numbers.corner) rates3 in
     let far = m.points.far in
     let (home28, home30, origins) = three (is_sized (place_limit far) m.points.home28) (is_sized (place_limit far) m.points.home30)
@@ -190,6 +203,7 @@ IsGood-from_ranges m h =
       change = a_rate _ change;
       corner = a_rate _ corner;
       turn = from _ _ _ turn;
+      own = an_own m.own own;
       ring = from _ _ _ ring;
       travel = travel m.numbers.step m.points limits;
       home28 = placed far _ home28;

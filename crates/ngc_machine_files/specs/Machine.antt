@@ -5,6 +5,7 @@ use Rattle.ngc_fixed_length.specs.Places.{zero_point}
 use Rattle.ngc_fixed_length.specs.declared.points.Point3.{Point3}
 use Rattle.ngc_machine_files.specs.declared.machine.ArcFeed.{ArcFeed}
 use Rattle.ngc_machine_files.specs.declared.machine.ArcFeed.TheVariants.{Off}
+use Rattle.ngc_machine_files.specs.declared.machine.AxisLimits.{AxisLimits}
 use Rattle.ngc_machine_files.specs.declared.machine.AxisRates.{AxisRates}
 use Rattle.ngc_machine_files.specs.declared.machine.Fixture.{Fixture}
 use Rattle.ngc_machine_files.specs.declared.machine.Machine.{Machine}
@@ -27,6 +28,8 @@ pub record MachineFile : Type 0 where
   pub corner : ℕ
   pub jump : ℕ
   pub turn : ℕ
+  -- the limits of each axis, if they are known
+  pub own : Option AxisLimits
   pub ring : ℕ
   pub arc_feed : ArcFeed
   pub changer : Bool
@@ -54,6 +57,7 @@ file_of m = record {
   corner = m.corner;
   jump = m.jump;
   turn = m.turn;
+  own = m.own;
   ring = m.ring;
   arc_feed = m.arc_feed;
   changer = m.changer;
@@ -86,6 +90,7 @@ built_in_machine = record {
   corner = 50000;
   jump = 0;
   turn = 1000000000;
+  own = None;
   ring = 16;
   arc_feed = Off;
   changer = false;

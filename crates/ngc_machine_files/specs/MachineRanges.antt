@@ -1,11 +1,11 @@
 -- The ranges that hold for every machine that is read, and which machines are far. Our own.
-use Rattle.std.specs.Prelude.{Bool, ◌&&◌, ◌||◌, not}
+use Rattle.std.specs.Prelude.{Bool, ◌&&◌, ◌||◌, not, IfSome}
 use Rattle.ngc_fixed_length.specs.Length.{IsStep}
 use Rattle.ngc_fixed_length.specs.declared.points.Point3.{Point3}
 use Rattle.ngc_motors.specs.Counts.{AreMotors}
 use Rattle.ngc_machine_files.specs.Machine.{MachineFile, motors_of}
 use Rattle.ngc_machine_files.specs.Ranges.{IsRate, IsJump, IsRing, AreRates, IsArcBound, IsTravel, AreFixtures, AreMargins}
-use Rattle.ngc_machine_files.specs.Ranges.{is_near}
+use Rattle.ngc_machine_files.specs.Ranges.{AreLimits, is_near}
 
 pub record IsMachine (m : MachineFile) : Type 0 where
   pub step : IsStep m.step
@@ -17,6 +17,7 @@ pub record IsMachine (m : MachineFile) : Type 0 where
   pub corner : IsRate m.corner
   pub jump : IsJump m.jump
   pub turn : IsArcBound m.turn
+  pub own : IfSome m.own AreLimits
   pub ring : IsRing m.ring
   pub travel : IsTravel m.step m.low m.high m.start
   pub fixtures : AreFixtures m.fixtures

@@ -12,11 +12,14 @@ use Rattle.ngc_motors.specs.declared.step.MotorStep.{MotorStep}
 use Rattle.ngc_motors.specs.declared.step.MotorSteps.{MotorSteps}
 use Rattle.ngc_machine_files.specs.declared.machine.ArcFeed.{ArcFeed}
 use Rattle.ngc_machine_files.specs.declared.machine.ArcFeed.TheVariants.{Off, Feed, FeedAndTurn}
+use Rattle.ngc_machine_files.specs.declared.machine.AxisLimits.{AxisLimits}
 use Rattle.ngc_machine_files.specs.declared.machine.AxisRates.{AxisRates}
+use Rattle.ngc_machine_files.specs.declared.machine.AxisTurns.{AxisTurns}
 use Rattle.ngc_machine_files.specs.declared.machine.Margins.{Margins}
 use Rattle.ngc_machine_files.specs.declared.machine.Fixture.{Fixture}
 use Rattle.ngc_machine_files.specs.declared.machine_contents.Coordinates.{Coordinates}
 use Rattle.ngc_machine_files.specs.declared.machine_contents.Corners.{Corners}
+use Rattle.ngc_machine_files.specs.declared.machine_contents.LimitNumbers.{LimitNumbers}
 use Rattle.ngc_machine_files.specs.declared.machine_contents.MachineNumbers.{MachineNumbers}
 use Rattle.ngc_machine_files.specs.declared.machine_contents.OptionalNumbers.{OptionalNumbers}
 use Rattle.ngc_machine_files.specs.declared.machine_contents.MachinePoints.{MachinePoints}
@@ -46,6 +49,7 @@ pub record MachineValues : Type 0 where
   pub options : MachineOptions
   pub motor_steps : MotorSteps
   pub axis_rates : Coordinates
+  pub own : Option LimitNumbers
   pub points : MachinePoints
   pub origins : List Coordinates
   pub fixtures : List Corners
@@ -57,6 +61,7 @@ values_of c =
       options = c.options;
       motor_steps = c.motor_steps;
       axis_rates = c.axis_rates;
+      own = c.own;
       points = c.points;
       origins = c.origins;
       fixtures = c.fixtures.items;
@@ -91,7 +96,7 @@ machine_axis_rates version tree =
     then coordinates_at (codes "axis_rate") tree
     else Some (record { x = pos 1000000; y = pos 1000000; z = pos 1000000 })
 
--- in these versions each motor has the step of the grid
+-- in these versions each motor has the step of the grid, and no axis has limits of its own
 abbrev pub grid_steps : ℤ → MotorSteps
 grid_steps step = equal_steps (unsigned_abs step)
 
@@ -221,6 +226,7 @@ machine_values root = do
     options = options;
     motor_steps = grid_steps numbers.step;
     axis_rates = axis_rates;
+    own = None;
     points = points;
     origins = origins;
     fixtures = fixtures;
@@ -267,15 +273,28 @@ good_changer z = from_to (pos 0) (pos 1) z
 abbrev pub good_axis_rates : Coordinates → Bool
 good_axis_rates rates = is_rate rates.x && is_rate rates.y && is_rate rates.z
 
+abbrev pub good_turn : ℤ → Bool
+good_turn z = from_to (pos 1) (pos 1000000000000) z
+
+abbrev pub good_axis_turns : Coordinates → Bool
+good_axis_turns turns = good_turn turns.x && good_turn turns.y && good_turn turns.z
+
+abbrev pub good_own : Option LimitNumbers → Bool
+good_own None = true
+good_own (Some limits) = good_axis_rates limits.changes && good_axis_turns limits.turns
+
 abbrev pub good_bounds : MachineValues → Bool
 good_bounds m =
     is_rate m.numbers.max_rate && is_rate m.numbers.change && is_rate m.numbers.corner &&
-    from_to (pos 1) (pos 1000000000000) m.numbers.turn && good_axis_rates m.axis_rates
+    good_turn m.numbers.turn && good_axis_rates m.axis_rates
 
-abbrev pub good_rates : MachineValues → Bool
-good_rates m =
+unfoldable pub good_numbers : MachineValues → Bool
+good_numbers m =
     good_bounds m && good_jump m.numbers.optional.jump && good_ring m.numbers.optional.ring
     && good_arc_feed m.numbers.optional.arc_feed && good_changer m.numbers.optional.changer
+
+abbrev pub good_rates : MachineValues → Bool
+good_rates m = good_numbers m && good_own m.own
 
 abbrev pub good_margin : ℤ → Bool
 good_margin z = from_to (pos 0) MARGIN_LIMIT z
@@ -346,6 +365,12 @@ place_of p = record { x = p.x; y = p.y; z = p.z }
 abbrev pub axis_rates_of : Coordinates → AxisRates
 axis_rates_of p = record { x = unsigned_abs p.x; y = unsigned_abs p.y; z = unsigned_abs p.z }
 
+abbrev pub axis_turns_of : Coordinates → AxisTurns
+axis_turns_of p = record { x = unsigned_abs p.x; y = unsigned_abs p.y; z = unsigned_abs p.z }
+
+abbrev pub limits_of : LimitNumbers → AxisLimits
+limits_of n = record { changes = axis_rates_of n.changes; turns = axis_turns_of n.turns }
+
 abbrev pub fixture_of : Corners → Fixture
 fixture_of f =
     record { low = place_of f.low; high = place_of f.high; name = name_from f.name }
@@ -375,6 +400,7 @@ machine_from m = record {
   corner = unsigned_abs m.numbers.corner;
   jump = unsigned_abs m.numbers.optional.jump;
   turn = unsigned_abs m.numbers.turn;
+  own = option_map limits_of m.own;
   ring = unsigned_abs m.numbers.optional.ring;
   arc_feed = arc_feed_of m.numbers.optional.arc_feed;
   changer = has_changer m.numbers.optional.changer;
@@ -397,6 +423,10 @@ pub record AreFrom (low high : ℤ) (p : Coordinates) : Type 0 where
   pub y : IsFrom low high p.y
   pub z : IsFrom low high p.z
 
+pub record AreOwn (limits : LimitNumbers) : Type 0 where
+  pub changes : AreFrom (pos 1) (pos 1000000) limits.changes
+  pub turns : AreFrom (pos 1) (pos 1000000000000) limits.turns
+
 pub record IsBlock (s : StockNumbers) : Type 0 where
   pub system : IsFrom (pos 0) (pos 9) s.system
   pub stock : IsStock (stock_of s)
@@ -412,6 +442,7 @@ pub record IsGood (m : MachineValues) : Type 0 where
   pub change : IsFrom (pos 1) (pos 1000000) m.numbers.change
   pub corner : IsFrom (pos 1) (pos 1000000) m.numbers.corner
   pub turn : IsFrom (pos 1) (pos 1000000000000) m.numbers.turn
+  pub own : IfSome m.own AreOwn
   pub ring : IsFrom (pos 16) (pos 1024) m.numbers.optional.ring
   pub travel : IsTravel m.numbers.step (place_of m.points.low) (place_of m.points.high)
       (place_of m.points.start)

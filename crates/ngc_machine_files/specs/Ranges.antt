@@ -4,7 +4,9 @@ use Rattle.std.specs.Prelude.{length, map, Bool, ◌&&◌, if◌then◌else◌}
 use Rattle.std.specs.List.{All}
 use Rattle.ngc_fixed_length.specs.Signed.{is_within}
 use Rattle.ngc_fixed_length.specs.declared.points.Point3.{Point3}
+use Rattle.ngc_machine_files.specs.declared.machine.AxisLimits.{AxisLimits}
 use Rattle.ngc_machine_files.specs.declared.machine.AxisRates.{AxisRates}
+use Rattle.ngc_machine_files.specs.declared.machine.AxisTurns.{AxisTurns}
 use Rattle.ngc_machine_files.specs.declared.machine.Fixture.{Fixture}
 use Rattle.ngc_machine_files.specs.declared.machine.Margins.{Margins}
 use Rattle.ngc_machine_files.specs.declared.machine.StockBox.{StockBox}
@@ -76,6 +78,17 @@ pub record AreRates (rates : AxisRates) : Type 0 where
 pub record IsArcBound (turn : ℕ) : Type 0 where
   pub least : 1 ≤ turn
   pub greatest : turn ≤ 1000000000000
+
+-- and that of each axis
+pub record AreArcBounds (turns : AxisTurns) : Type 0 where
+  pub x : IsArcBound turns.x
+  pub y : IsArcBound turns.y
+  pub z : IsArcBound turns.z
+
+-- how fast each axis may change its rate, and how sharply it may turn
+pub record AreLimits (limits : AxisLimits) : Type 0 where
+  pub changes : AreRates limits.changes
+  pub turns : AreArcBounds limits.turns
 
 -- each coordinate is at most the limit in size
 pub record IsSized (limit : ℕ) (p : Point3) : Type 0 where

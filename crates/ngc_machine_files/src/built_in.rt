@@ -48,6 +48,7 @@ pub fn built_in_machine<A: Allocator>(alloc: A) -> Machine<A>
         corner: 50_000,
         jump: 0,
         turn: 1_000_000_000,
+        own: None,
         ring: 16,
         arc_feed: ArcFeed::Off,
         changer: false,

@@ -19,10 +19,12 @@ mod tree;
 
 pub use built_in::built_in_machine;
 pub use fault::FileFault;
-pub use machine::{ArcFeed, AxisRates, Fixture, Machine, Margins, Rapids, StockBox};
+pub use machine::{
+    ArcFeed, AxisLimits, AxisRates, AxisTurns, Fixture, Machine, Margins, Rapids, StockBox,
+};
 pub use machine_contents::{
-    Coordinates, Corners, MACHINE_KEYS, MachineContents, MachineNumbers, MachineOptions,
-    MachinePoints, OptionalNumbers, StockNumbers,
+    Coordinates, Corners, LimitNumbers, MACHINE_KEYS, MachineContents, MachineNumbers,
+    MachineOptions, MachinePoints, OptionalNumbers, StockNumbers,
 };
 pub use name::Name;
 pub use part_length::PartLength;

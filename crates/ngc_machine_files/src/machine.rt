@@ -5,6 +5,7 @@ ghost use Rattle.ngc_fixed_length.specs.Length.{IsStep};
 ghost use Rattle.ngc_motors.specs.Counts.{AreMotors};
 ghost use Rattle.ngc_machine_files.specs.Ranges.{PLACE_LIMIT, IsRate, IsJump, AreRates, IsArcBound, IsTravel};
 ghost use Rattle.ngc_machine_files.specs.Ranges.{IsSized, IsRing, AreFixtures, AreMargins, IsStock, is_near};
+ghost use Rattle.ngc_machine_files.specs.Ranges.{AreLimits};
 
 use crate::name::Name;
 use ngc_dialect_names::Dialect;
@@ -27,6 +28,23 @@ pub struct AxisRates {
     pub x: u32,
     pub y: u32,
     pub z: u32,
+}
+
+/// The bound of rates on arcs for each axis, 1 to 10^12 each.
+#[derive(Clone, Copy)]
+pub struct AxisTurns {
+    pub x: u64,
+    pub y: u64,
+    pub z: u64,
+}
+
+/// How fast each axis may change its rate, and how sharply it may turn.
+#[derive(Clone, Copy)]
+pub struct AxisLimits {
+    /// The greatest change of each axis' rate per tick, 1 to 1,000,000.
+    pub changes: AxisRates,
+    /// The bound of rates on arcs for each axis.
+    pub turns: AxisTurns,
 }
 
 /// What holds on an arc at each point of it, by the distance of that point from the arc's centre.
@@ -79,7 +97,8 @@ pub struct Machine<A: Allocator> {
     pub ticks_per_second: u32,
     /// The greatest rate, 1 to 1,000,000.
     pub max_rate: u32,
-    /// The greatest rate, for each axis, of motions that move this axis, 1 to 1,000,000.
+    /// The greatest rate, for each axis, of motions that move this axis, 1 to 1,000,000. On a machine
+    /// with limits of each axis it is the greatest rate of the axis itself.
     pub axis_rates: AxisRates,
     /// The greatest change of the rate per tick, 1 to 1,000,000.
     pub change: u32,
@@ -90,6 +109,8 @@ pub struct Machine<A: Allocator> {
     pub jump: u32,
     /// The bound of rates on arcs, 1 to 10^12.
     pub turn: u64,
+    /// The limits of each axis, if they are known: they hold on top of `change` and `turn`.
+    pub own: Option<AxisLimits>,
     /// The most commands that may be loaded and not done, 16 to 1,024.
     pub ring: u32,
     /// What holds on an arc at each point of it.
@@ -130,6 +151,7 @@ pub struct Machine<A: Allocator> {
     ghost corner_in_range: { IsRate corner },
     ghost jump_in_range: { IsJump jump },
     ghost turn_in_range: { IsArcBound turn },
+    ghost own_in_range: { IfSome own AreLimits } by { Prim.hlevel props },
     ghost ring_in_range: { IsRing ring },
     ghost travel_in_range: { IsTravel step low high start },
     ghost home28_in_range: { IsSized PLACE_LIMIT home28 },
@@ -180,6 +202,7 @@ impl<A: Allocator> Machine<A> {
             corner: self.corner,
             jump: self.jump,
             turn: self.turn,
+            own: self.own,
             ring: self.ring,
             arc_feed: self.arc_feed,
             changer: self.changer,

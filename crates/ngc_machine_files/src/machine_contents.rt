@@ -92,6 +92,13 @@ pub struct MachineOptions {
     pub stock: Option<StockNumbers>,
 }
 
+/// The limits of each axis, with numbers of any size.
+#[derive(Clone, Copy)]
+pub struct LimitNumbers {
+    pub changes: Coordinates,
+    pub turns: Coordinates,
+}
+
 /// The contents of a machine file, with numbers of any size.
 #[derive(Drop)]
 pub struct MachineContents {
@@ -100,6 +107,8 @@ pub struct MachineContents {
     /// The step of each motor.
     pub motor_steps: MotorSteps,
     pub axis_rates: Coordinates,
+    /// The limits of each axis, if they are known.
+    pub own: Option<LimitNumbers>,
     pub points: MachinePoints,
     pub origins: [Coordinates; 9],
     pub fixtures: Vec<Corners>,
@@ -332,6 +341,7 @@ impl MachineContents {
                 options,
                 motor_steps: grid_steps(&numbers),
                 axis_rates,
+                own: None,
                 points,
                 origins,
                 fixtures,

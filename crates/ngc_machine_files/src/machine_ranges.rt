@@ -8,10 +8,11 @@ ghost use Rattle.ngc_machine_files.specs.Numbers.{from_to};
 ghost use Rattle.ngc_machine_files.specs.Ranges.{CORNER_LIMIT, IsFrom, IsRate, IsJump, IsRing, AreRates};
 ghost use Rattle.ngc_machine_files.specs.Ranges.{IsArcBound, IsSized, IsFixture, IsStock, PLACE_LIMIT};
 ghost use Rattle.ngc_machine_files.specs.Ranges.{place_limit, travel_limit};
-ghost use Rattle.ngc_machine_files.specs.Ranges.{MARGIN_LIMIT, AreMargins};
+ghost use Rattle.ngc_machine_files.specs.Ranges.{MARGIN_LIMIT, AreMargins, AreArcBounds, AreLimits};
 ghost use Rattle.ngc_machine_files.specs.MachineText.{values_of, is_sized, is_at_most, is_below};
 ghost use Rattle.ngc_machine_files.specs.MachineText.{is_multiple, is_on_grid, good_version, is_rate};
 ghost use Rattle.ngc_machine_files.specs.MachineText.{good_axis_rates, good_bounds, good_rates, good_travel};
+ghost use Rattle.ngc_machine_files.specs.MachineText.{good_turn, good_axis_turns, good_own, good_numbers, axis_turns_of, limits_of, AreOwn};
 ghost use Rattle.ngc_machine_files.specs.MachineText.{good_axis_ends, good_ends, good_motors};
 ghost use Rattle.ngc_machine_files.specs.MachineText.{good_places, good_fixture, good_fixtures};
 ghost use Rattle.ngc_machine_files.specs.MachineText.{machine_ranges, machine_from, place_of};
@@ -19,10 +20,12 @@ ghost use Rattle.ngc_machine_files.specs.MachineText.{axis_rates_of, fixture_of,
 ghost use Rattle.ngc_machine_files.specs.MachineText.{good_block, good_limits, good_margin, good_stock, margins_of, stock_of};
 
 use crate::fault::FileFault;
-use crate::machine::{ArcFeed, AxisRates, Fixture, Machine, Margins, StockBox};
+use crate::machine::{
+    ArcFeed, AxisLimits, AxisRates, AxisTurns, Fixture, Machine, Margins, StockBox,
+};
 use crate::machine_contents::{
-    Coordinates, Corners, MachineContents, MachineNumbers, MachinePoints, OptionalNumbers,
-    StockNumbers,
+    Coordinates, Corners, LimitNumbers, MachineContents, MachineNumbers, MachinePoints,
+    OptionalNumbers, StockNumbers,
 };
 use crate::name::name_from;
 use crate::numbers::{is_from_to, length};
@@ -138,24 +141,52 @@ fn are_axis_rates_good(rates: &Coordinates) -> bool
     is_rate(rates.x) && is_rate(rates.y) && is_rate(rates.z)
 }
 
+fn is_turn_good(turn: i64) -> bool
+    ensures { result ≡ good_turn turn }
+{
+    is_from_to(1, 1_000_000_000_000, turn)
+}
+
+fn are_axis_turns_good(turns: &Coordinates) -> bool
+    ensures { result ≡ good_axis_turns turns.now }
+{
+    is_turn_good(turns.x) && is_turn_good(turns.y) && is_turn_good(turns.z)
+}
+
+fn are_own_good(own: &Option<LimitNumbers>) -> bool
+    ensures { result ≡ good_own own.now }
+{
+    match own {
+        None => true,
+        Some(limits) => are_axis_rates_good(&limits.changes) && are_axis_turns_good(&limits.turns),
+    }
+}
+
 fn are_bounds_good(contents: &MachineContents) -> bool
     ensures { result ≡ good_bounds (values_of contents.now) }
 {
     is_rate(contents.numbers.max_rate)
         && is_rate(contents.numbers.change)
         && is_rate(contents.numbers.corner)
-        && is_from_to(1, 1_000_000_000_000, contents.numbers.turn)
+        && is_turn_good(contents.numbers.turn)
         && are_axis_rates_good(&contents.axis_rates)
 }
 
-fn are_rates_good(contents: &MachineContents) -> bool
-    ensures { result ≡ good_rates (values_of contents.now) }
+#[tactic(auto, unfolding(crate::specs::MachineText::good_numbers))]
+fn are_numbers_good(contents: &MachineContents) -> bool
+    ensures { result ≡ good_numbers (values_of contents.now) }
 {
     are_bounds_good(contents)
         && is_from_to(0, 1_000_000, contents.numbers.optional.jump)
         && is_from_to(16, 1_024, contents.numbers.optional.ring)
         && is_from_to(0, 2, contents.numbers.optional.arc_feed)
         && is_from_to(0, 1, contents.numbers.optional.changer)
+}
+
+fn are_rates_good(contents: &MachineContents) -> bool
+    ensures { result ≡ good_rates (values_of contents.now) }
+{
+    are_numbers_good(contents) && are_own_good(&contents.own)
 }
 
 fn is_margin_good(margin: i64) -> bool
@@ -354,6 +385,40 @@ fn arc_bound(value: i64) -> u64
     value as u64
 }
 
+fn axis_turns(turns: &Coordinates) -> AxisTurns
+    requires { AreFrom (pos 1) (pos 1000000000000) turns.now }
+    ensures value { result ≡ axis_turns_of turns.now }
+    ensures range { AreArcBounds result }
+{
+    AxisTurns {
+        x: arc_bound(turns.x),
+        y: arc_bound(turns.y),
+        z: arc_bound(turns.z),
+    }
+}
+
+fn limits(numbers: &LimitNumbers) -> AxisLimits
+    requires { AreOwn numbers.now }
+    ensures value { result ≡ limits_of numbers.now }
+    ensures range { AreLimits result }
+{
+    AxisLimits {
+        changes: axis_rates(&numbers.changes),
+        turns: axis_turns(&numbers.turns),
+    }
+}
+
+fn own(numbers: &Option<LimitNumbers>) -> Option<AxisLimits>
+    requires { IfSome numbers.now AreOwn }
+    ensures value { result ≡ option_map limits_of numbers.now }
+    ensures range { IfSome result AreLimits }
+{
+    match numbers {
+        None => None,
+        Some(numbers) => Some(limits(numbers)),
+    }
+}
+
 fn place(point: &Coordinates) -> Point3
     requires { IsSized CORNER_LIMIT (place_of point.now) }
     ensures { result ≡ place_of point.now }
@@ -479,6 +544,7 @@ impl MachineContents {
             corner: rate(self.numbers.corner),
             jump: jump(self.numbers.optional.jump),
             turn: arc_bound(self.numbers.turn),
+            own: own(&self.own),
             ring: ring(self.numbers.optional.ring),
             arc_feed: arc_feed(&self.numbers.optional),
             changer: has_changer(&self.numbers.optional),

@@ -2,10 +2,7 @@
 use Rattle.std.specs.Prelude.{ℕ, List, [], ◌++◌, codes, Option, Some, None, Result, Ok, Err}
 use Rattle.std.specs.Prelude.{if◌then◌else◌, Bool, ◌&&◌, is_some, is_none}
 use Rattle.toml.specs.Data.{Data, get}
-use Rattle.ngc_machine_figures.specs.declared.key.Key.TheVariants.{Version}
 use Rattle.ngc_machine_figures.specs.Version.{is_written}
-use Rattle.ngc_machine_figures.specs.declared.refusal.FileRefusal.{FileRefusal}
-use Rattle.ngc_machine_figures.specs.declared.refusal.Wrong.TheVariants.{Missing}
 use Rattle.ngc_machine_files.specs.Machine.{MachineFile}
 use Rattle.ngc_machine_files.specs.Tree.{tree_of}
 use Rattle.ngc_machine_files.specs.declared.fault.FileFault.{FileFault}
@@ -32,17 +29,10 @@ third_text name bytes (Err refusal) = refusal_text name bytes refusal
 unfoldable pub forgets_version : Data → Bool
 forgets_version tree = is_none (get (codes "version") tree) && is_some (get (codes "axis") tree)
 
--- the key `version` is missing
-unfoldable pub forgotten : FileRefusal
-forgotten = record { key = Version; wrong = Missing }
-
-abbrev pub forgotten_text : List ℕ → List ℕ → List ℕ
-forgotten_text name bytes = keys.refusal_text name bytes forgotten
-
 abbrev pub tree_text : List ℕ → List ℕ → FileFault → Data → List ℕ
 tree_text name bytes fault tree =
     if is_written tree then third_text name bytes (written_machine tree) else (
-    if forgets_version tree then forgotten_text name bytes else machine_mistake_text bytes fault)
+    if forgets_version tree then keys.forgotten_text name bytes else machine_mistake_text bytes fault)
 
 abbrev pub text_in : List ℕ → List ℕ → FileFault → Option Data → List ℕ
 text_in name bytes fault None = machine_mistake_text bytes fault

@@ -9,9 +9,9 @@ ghost use Rattle.ngc_machine_mistakes.specs.Mistakes as spec;
 ghost use Rattle.ngc_written_machines.specs.Machines.{written_machine as machine_of};
 
 use crate::sentence::say_figures;
-use ngc_machine_figures::{FileRefusal, Key, Wrong, is_written};
+use ngc_machine_figures::is_written;
 use ngc_machine_files::{FileFault, read_tree};
-use ngc_refused_files::write_refusal;
+use ngc_refused_files::{write_forgotten, write_refusal};
 use ngc_sentences::{Page, Part, say};
 use ngc_setup_sheet::write_machine_mistake;
 use ngc_text::{Sink, WriteFault};
@@ -96,28 +96,6 @@ fn forgets_version(tree: &Value) -> bool
     ensures { result ≡ spec.forgets_version (view tree.now) }
 {
     tree.get("version").is_none() && tree.get("axis").is_some()
-}
-
-// Returns that the version is missing.
-#[tactic(auto, unfolding(crate::specs::Mistakes::forgotten))]
-fn forgotten() -> FileRefusal
-    ensures { result ≡ spec.forgotten }
-{
-    FileRefusal {
-        key: Key::Version,
-        wrong: Wrong::Missing,
-    }
-}
-
-fn write_forgotten<W: Sink>(name: &[u8], bytes: &[u8], sink: &mut W) -> Result<(), WriteFault>
-    ensures ok { OnOk result (Appends (W.written sink.old) (W.written sink.new)
-        (spec.forgotten_text name.now bytes.now)) }
-    ensures fault { OnErr result (AppendsPrefix (W.written sink.old) (W.written sink.new)
-        (spec.forgotten_text name.now bytes.now)) }
-    ensures counts { CountsFailure (W.failures sink.old) (W.failures sink.new) result }
-{
-    let refusal = forgotten();
-    write_refusal(name, bytes, &refusal, sink)
 }
 
 // Writes the mistake of a file that is a document.

@@ -26,7 +26,7 @@ use Rattle.ngc_machine_model.proofs.TestCases.{match_with}
 use Rattle.ngc_machine_model.proofs.SafeRun.{RingFits}
 use Rattle.ngc_machine_model.proofs.RatesOfRun.{Fits, after_stays, event_keeps, goes_over, over_small}
 use Rattle.ngc_machine_model.proofs.Travel.{moved}
-use Rattle.ngc_machine_model.proofs.PulseRules.{Advances, IsOnHead, WalksIn, head_path, opening_walks, rate_bounds, still_axis, tick_both, waits}
+use Rattle.ngc_machine_model.proofs.PulseRules.{Advances, IsOnHead, WalksIn, head_path, opening_walks, rate_most, still_axis, tick_both, waits}
 use Rattle.ngc_machine_model.proofs.StillAxes.{Axis, X, Y, Z, on, IsStill}
 use Rattle.ngc_machine_model.proofs.AxisTravel.{AreSlow, slow_window}
 
@@ -213,12 +213,12 @@ head_grows : (job : Job) (axis : Axis) (moves : Action → Bool) (most : ℕ) �
     Grows axis moves most old new
 head_grows job axis moves most b l ls old o new e f small walks advances t =
     elim (match_with (nat_lt 0 (path_steps l)) (Travels job l ls old o new)
-    (MatchBool old.held (Rests job old o new) (Serves job l.command.action old o new)) t) [
+    (MatchBool old.held (Rests old o new) (Serves job l.command.action old o new)) t) [
       | inl u ↦ travel_grows job axis moves most b l ls old o new e f small (let b = u.0 in grind (arith, nat_tests)) walks advances u.1
-      | inr u ↦ elim (match_with old.held (Rests job old o new) (Serves job l.command.action old o new) u.1) [
+      | inr u ↦ elim (match_with old.held (Rests old o new) (Serves job l.command.action old o new) u.1) [
         | inl r ↦ rest_grows axis moves most old new r.1.stands
-        | inr r ↦ elim (match_with (nat_lt (suc old.dwelt) (ticks_of job l.command.action)) (Dwells job old o new)
-            (Finishes job l.command.action old o new) r.1) [
+        | inr r ↦ elim (match_with (nat_lt (suc old.dwelt) (ticks_of job l.command.action)) (Dwells old o new)
+            (Finishes l.command.action old o new) r.1) [
               | inl d ↦ subst (Grows axis moves most old) (sym d.1.counts)
                   (stands axis moves most old (record old { rate = 0; dwelt = suc old.dwelt }) refl refl)
               | inr d ↦ finish_grows axis moves most l old new f (let b = u.0 in grind (arith, nat_tests)) d.1.goes_on
@@ -288,7 +288,7 @@ run_slow job axis moves most b q old (e ∷ es) os [] m f w r = tt
 run_slow job axis moves most b q old (e ∷ es) [] (new ∷ states) m f w r = absurd r
 run_slow job axis moves most b q old (Tick ∷ es) (o ∷ os) (new ∷ states) m f w r =
     let k = event_keeps job old Tick o new m f r.0 in
-    let greatest = (rate_bounds job old.ring old new.rate k.0).0 in
+    let greatest = rate_most job old.ring old new.rate k.0 in
     let small : new.rate ≤ MILLION = omega (arith, greatest, m) in
     let t = tick_both job old.stopped old.ring old o new refl f small w r.0 in
     let g = tick_grows job axis moves most b old.stopped old.ring old o new refl f small w t.0 r.0 in

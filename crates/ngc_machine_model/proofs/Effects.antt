@@ -16,7 +16,7 @@ use Rattle.ngc_events.specs.declared.event.Event.TheVariants.{Load, Tick, Hold, 
 use Rattle.ngc_events.specs.declared.reply.Ending.{Ending}
 use Rattle.ngc_events.specs.declared.reply.Ending.TheVariants.{Done, Stopped, End}
 use Rattle.ngc_events.specs.declared.reply.Reply.TheVariants.{Loaded, Ticked, Held, Resumed, Overridden, Switched, Started}
-use Rattle.ngc_machine_model.specs.State.{Job, Queued, State, loaded, command_at, path_steps, millionths, place_before}
+use Rattle.ngc_machine_model.specs.State.{Job, Queued, State, loaded, command_at, path_steps, millionths, change_of, place_before}
 use Rattle.ngc_machine_model.specs.Step.{Outcome, Step, LoadCommand, MayTake, Rests, Finishes, Dwells, Serves, Travels, HeadTick, TickBy, without_head, after}
 use Rattle.ngc_machine_model.specs.Step.{ending, ends_at, pulse, place_after, ticks_of}
 use Rattle.ngc_machine_model.specs.Run.{position_in}
@@ -161,8 +161,8 @@ on_way job l ls old o new m e some f t =
     let slow : v ≤ MILLION = travel_small job l ls old o new m.max_rate.greatest t in
     let over = t0 + v - millionths l in
     let was : spot old ≡ spot_of old.done (l ∷ ls) t0 old.position = ap (λ r. spot_of old.done r t0 old.position) e in
-    let done = without_head over (record old { rate = v; position = point l.path (place_after l old v) }) in
-    let on : State = record old { rate = v; position = point l.path (place_after l old v); travelled = t0 + v } in
+    let done = without_head over (record old { rate = v; change = change_of job l; position = point l.path (place_after l old v) }) in
+    let on : State = record old { rate = v; change = change_of job l; position = point l.path (place_after l old v); travelled = t0 + v } in
     let says = ap position_in t.says ∙ said_position (nat_lt (place_before old) (place_after l old v)) (point l.path (place_after l old v)) (ends_at l old v) in
     two_cases (nat_le (millionths l) (t0 + v)) (Effect job (spot old) (spot new) o)
     (λ b.
@@ -212,11 +212,11 @@ same_spot : (a : Action) (s : State) → spot (after a s) ≡ spot s
 same_spot (actions.Move m) s = refl
 same_spot _ s = refl
 
-resting : (job : Job) (old : State) (o : Outcome) (new : State) → Rests job old o new → Effect job (spot old) (spot new) o
+resting : (job : Job) (old : State) (o : Outcome) (new : State) → Rests old o new → Effect job (spot old) (spot new) o
 resting job old o new r = stands (record { same = ap spot r.stands; silent = ap position_in r.quiet; no_end = ap tells_end r.quiet })
 
 finished : (job : Job) (l : Queued) (ls : List Queued) (old : State) (o : Outcome) (new : State) → old.ring ≡ l ∷ ls → path_steps l ≡ 0 →
-    Finishes job l.command.action old o new → Effect job (spot old) (spot new) o
+    Finishes l.command.action old o new → Effect job (spot old) (spot new) o
 finished job l ls old o new e z f = passes (record {
   head = l;
   others = ls;
@@ -231,12 +231,12 @@ on_head : (job : Job) (l : Queued) (ls : List Queued) (old : State) (o : Outcome
     old.travelled ≤ millionths l - 1 → HeadTick job l ls old o new → Effect job (spot old) (spot new) o
 on_head job l ls old o new m e f t =
     elim (match_with (nat_lt 0 (path_steps l)) (Travels job l ls old o new)
-    (MatchBool old.held (Rests job old o new) (Serves job l.command.action old o new)) t) [
+    (MatchBool old.held (Rests old o new) (Serves job l.command.action old o new)) t) [
       | inl u ↦ on_way job l ls old o new m e (let b = u.0 in grind (arith, nat_tests)) f u.1
-      | inr u ↦ elim (match_with old.held (Rests job old o new) (Serves job l.command.action old o new) u.1) [
+      | inr u ↦ elim (match_with old.held (Rests old o new) (Serves job l.command.action old o new) u.1) [
         | inl r ↦ resting job old o new r.1
-        | inr r ↦ elim (match_with (nat_lt (suc old.dwelt) (ticks_of job l.command.action)) (Dwells job old o new)
-            (Finishes job l.command.action old o new) r.1) [
+        | inr r ↦ elim (match_with (nat_lt (suc old.dwelt) (ticks_of job l.command.action)) (Dwells old o new)
+            (Finishes l.command.action old o new) r.1) [
               | inl d ↦ stands (record { same = ap spot d.1.counts; silent = ap position_in d.1.quiet; no_end = ap tells_end d.1.quiet })
               | inr d ↦ finished job l ls old o new e (let b = u.0 in grind (arith, nat_tests)) d.1
             ]

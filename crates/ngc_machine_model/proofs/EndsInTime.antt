@@ -70,12 +70,12 @@ finish_ahead l old new n =
 head_ahead : (job : Job) (l : Queued) (ls : List Queued) (old : State) (o : Outcome) (new : State) → HeadTick job l ls old o new → GoesAhead old new
 head_ahead job l ls old o new t =
     elim (match_with (nat_lt 0 (path_steps l)) (Travels job l ls old o new)
-    (MatchBool old.held (Rests job old o new) (Serves job l.command.action old o new)) t) [
+    (MatchBool old.held (Rests old o new) (Serves job l.command.action old o new)) t) [
       | inl u ↦ travel_ahead job l ls old o new u.1
-      | inr u ↦ elim (match_with old.held (Rests job old o new) (Serves job l.command.action old o new) u.1) [
+      | inr u ↦ elim (match_with old.held (Rests old o new) (Serves job l.command.action old o new) u.1) [
         | inl r ↦ subst (GoesAhead old) (sym r.1.stands) (same_ahead old)
-        | inr r ↦ elim (match_with (nat_lt (suc old.dwelt) (ticks_of job l.command.action)) (Dwells job old o new)
-            (Finishes job l.command.action old o new) r.1) [
+        | inr r ↦ elim (match_with (nat_lt (suc old.dwelt) (ticks_of job l.command.action)) (Dwells old o new)
+            (Finishes l.command.action old o new) r.1) [
               | inl d ↦ subst (GoesAhead old) (sym d.1.counts) (same_ahead old)
               | inr d ↦ finish_ahead l old new d.1.goes_on
             ]
@@ -144,7 +144,7 @@ head_counts : (job : Job) (k : ℕ) (l : Queued) (ls : List Queued) (old : State
     HeadTick job l ls old o new → Counts k (millionths l) (least_rate job l) old new
 head_counts job k l ls old o new f some head free g t =
     elim (match_with (nat_lt 0 (path_steps l)) (Travels job l ls old o new)
-    (MatchBool old.held (Rests job old o new) (Serves job l.command.action old o new)) t) [
+    (MatchBool old.held (Rests old o new) (Serves job l.command.action old o new)) t) [
       | inl u ↦ travel_counts job k l ls old o new f some head (g free (omega (arith, some))) u.1
       | inr u ↦ absurd (let z : path_steps l ≡ 0 = let b = u.0 in grind (arith, nat_tests) in omega (arith, z, some))
     ]

@@ -11,6 +11,8 @@ pub mod SafePositions
 pub mod Settings
 -- A tick of a ramp whose legs are the ring's motions, as a tick of the machine.
 pub mod RampFit
+-- The shares of the axes on the path of a line.
+pub mod ShareLaws
 -- Every tick of a run keeps the rules of rates.
 pub mod RatesOfRun
 -- The state after a tick that travels.

@@ -22,7 +22,7 @@ use Rattle.ngc_machine_model.specs.State.{Job, Queued, State, opening, loaded, c
 use Rattle.ngc_machine_model.specs.Step.{Outcome, Step, LoadCommand, MayTake, Rests, Finishes, Dwells, Serves, Travels, HeadTick, TickBy, without_head, after}
 use Rattle.ngc_machine_model.specs.Step.{place_after, ticks_of}
 use Rattle.ngc_machine_model.specs.Run.{Run, step_to, pulses}
-use Rattle.ngc_machine_model.specs.Safety.{TickKeeps}
+use Rattle.ngc_machine_model.specs.Safety.{TickKeeps, KeepRates}
 use Rattle.ngc_machine_model.specs.Progress.{is_tick}
 use Rattle.ngc_machine_model.proofs.TestCases.{match_with}
 use Rattle.ngc_machine_model.proofs.SafeRun.{RingFits, one_more}
@@ -282,16 +282,16 @@ head_both : (job : Job) (l : Queued) (ls : List Queued) (old : State) (o : Outco
     WalksIn job old → HeadTick job l ls old o new → Both job old new
 head_both job l ls old o new e f small walks t =
     elim (match_with (nat_lt 0 (path_steps l)) (Travels job l ls old o new)
-    (MatchBool old.held (Rests job old o new) (Serves job l.command.action old o new)) t) [
+    (MatchBool old.held (Rests old o new) (Serves job l.command.action old o new)) t) [
       | inl u ↦
           let p : 0 < path_steps l = let b = u.0 in grind (arith, nat_tests) in (
             travel_advances job l ls old o new e f small p walks u.1,
             travel_walks job l ls old o new e f small p walks.left walks.place walks.at walks.joined (subst (RingFits job walks.left) e walks.fits) u.1,
           )
-      | inr u ↦ elim (match_with old.held (Rests job old o new) (Serves job l.command.action old o new) u.1) [
+      | inr u ↦ elim (match_with old.held (Rests old o new) (Serves job l.command.action old o new) u.1) [
         | inl r ↦ rest_both job old new walks r.1.stands
-        | inr r ↦ elim (match_with (nat_lt (suc old.dwelt) (ticks_of job l.command.action)) (Dwells job old o new)
-            (Finishes job l.command.action old o new) r.1) [
+        | inr r ↦ elim (match_with (nat_lt (suc old.dwelt) (ticks_of job l.command.action)) (Dwells old o new)
+            (Finishes l.command.action old o new) r.1) [
               | inl d ↦ subst (Both job old) (sym d.1.counts) (still_advances old (record old { rate = 0; dwelt = suc old.dwelt }) refl refl refl, walks)
               | inr d ↦ finish_both job l ls old new e f (let b = u.0 in grind (arith, nat_tests)) walks d.1.goes_on
             ]
@@ -334,11 +334,10 @@ load_walks job old (Some c) o new e walks t =
 
 -- ---- runs
 
--- the bounds on a tick's rate
-pub rate_bounds : (job : Job) (ring : List Queued) (old : State) (v : ℕ) → TickKeeps job ring old v →
-    (v ≤ job.machine.max_rate) × (v ≤ old.rate + job.machine.change) × (old.rate ≤ v + job.machine.change)
-rate_bounds job [] old v k = let z = k.0 in let s = k.1 in (omega (arith, z), omega (arith, z), omega (arith, s))
-rate_bounds job (l ∷ ls) old v k = (k.within.greatest, k.faster, k.slower)
+-- the greatest rate of a tick
+pub rate_most : (job : Job) (ring : List Queued) (old : State) (v : ℕ) → TickKeeps job ring old v → v ≤ job.machine.max_rate
+rate_most job [] old v k = let z = k.0 in omega (arith, z)
+rate_most job (l ∷ ls) old v k = k.within.greatest
 
 -- the rates at which a list of ticks continues from a state
 abbrev pub Goes : Job → ℕ → State → List StepPos → Type 0
@@ -380,41 +379,42 @@ waits job old (Override n) o new z walks t = elim (match_with (nat_le n 200) _ _
 
 pub run_goes : (job : Job) (q : ℕ) (old : State) (es : List Event) (os : List Outcome) (states : List State) → job.machine.max_rate ≤ MILLION →
     Fits old.ring old.travelled →
-    WalksIn job old → Run job old es os states → Goes job q old (pulses old.position es states)
-run_goes job q old [] os states m f w r = ([], tt)
-run_goes job q old (e ∷ es) os [] m f w r = ([], tt)
-run_goes job q old (e ∷ es) [] (new ∷ states) m f w r = absurd r
-run_goes job q old (Tick ∷ es) (o ∷ os) (new ∷ states) m f w r =
+    WalksIn job old → KeepRates job old es states → Run job old es os states → Goes job q old (pulses old.position es states)
+run_goes job q old [] os states m f w keeps r = ([], tt)
+run_goes job q old (e ∷ es) os [] m f w keeps r = ([], tt)
+run_goes job q old (e ∷ es) [] (new ∷ states) m f w keeps r = absurd r
+run_goes job q old (Tick ∷ es) (o ∷ os) (new ∷ states) m f w keeps r =
     let k = event_keeps job old Tick o new m f r.0 in
-    let b = rate_bounds job old.ring old new.rate k.0 in let most = b.0 in
+    let most = rate_most job old.ring old new.rate k.0 in
+    let near = keeps.1 in
     let t = tick_both job old.stopped old.ring old o new refl f (omega (arith, most, m)) w r.0 in
     let c = t.0.counts in let g = t.0.goes_on in
-    let i = run_goes job (q + t.0.whole) new es os states m k.1 t.1 r.1 in
+    let i = run_goes job (q + t.0.whole) new es os states m k.1 t.1 keeps.2 r.1 in
     let s : (q + t.0.whole) * MILLION + new.travelled ≡ q * MILLION + old.travelled + new.rate = omega (arith, g) in (
       new.rate ∷ i.0,
       (
-        record { faster = b.1; slower = b.2; counts = omega (arith, c) },
+        record { faster = near.faster; slower = near.slower; counts = omega (arith, c) },
         subst (λ x. ArePaced is_path_step job.machine.change x new.rate i.0 (pulses new.position es states)) s i.1,
       ),
     )
-run_goes job q old (Load ∷ es) (o ∷ os) (new ∷ states) m f w r =
+run_goes job q old (Load ∷ es) (o ∷ os) (new ∷ states) m f w keeps r =
     let n = waits job old Load o new refl w r.0 in let k = event_keeps job old Load o new m f r.0 in
-    goes_on_from job q old new (pulses new.position es states) n (run_goes job q new es os states m k.1 n.0 r.1)
-run_goes job q old (Hold ∷ es) (o ∷ os) (new ∷ states) m f w r =
+    goes_on_from job q old new (pulses new.position es states) n (run_goes job q new es os states m k.1 n.0 keeps.2 r.1)
+run_goes job q old (Hold ∷ es) (o ∷ os) (new ∷ states) m f w keeps r =
     let n = waits job old Hold o new refl w r.0 in let k = event_keeps job old Hold o new m f r.0 in
-    goes_on_from job q old new (pulses new.position es states) n (run_goes job q new es os states m k.1 n.0 r.1)
-run_goes job q old (Resume ∷ es) (o ∷ os) (new ∷ states) m f w r =
+    goes_on_from job q old new (pulses new.position es states) n (run_goes job q new es os states m k.1 n.0 keeps.2 r.1)
+run_goes job q old (Resume ∷ es) (o ∷ os) (new ∷ states) m f w keeps r =
     let n = waits job old Resume o new refl w r.0 in let k = event_keeps job old Resume o new m f r.0 in
-    goes_on_from job q old new (pulses new.position es states) n (run_goes job q new es os states m k.1 n.0 r.1)
-run_goes job q old (Start ∷ es) (o ∷ os) (new ∷ states) m f w r =
+    goes_on_from job q old new (pulses new.position es states) n (run_goes job q new es os states m k.1 n.0 keeps.2 r.1)
+run_goes job q old (Start ∷ es) (o ∷ os) (new ∷ states) m f w keeps r =
     let n = waits job old Start o new refl w r.0 in let k = event_keeps job old Start o new m f r.0 in
-    goes_on_from job q old new (pulses new.position es states) n (run_goes job q new es os states m k.1 n.0 r.1)
-run_goes job q old (StopSwitch on ∷ es) (o ∷ os) (new ∷ states) m f w r =
+    goes_on_from job q old new (pulses new.position es states) n (run_goes job q new es os states m k.1 n.0 keeps.2 r.1)
+run_goes job q old (StopSwitch on ∷ es) (o ∷ os) (new ∷ states) m f w keeps r =
     let n = waits job old (StopSwitch on) o new refl w r.0 in let k = event_keeps job old (StopSwitch on) o new m f r.0 in
-    goes_on_from job q old new (pulses new.position es states) n (run_goes job q new es os states m k.1 n.0 r.1)
-run_goes job q old (Override p ∷ es) (o ∷ os) (new ∷ states) m f w r =
+    goes_on_from job q old new (pulses new.position es states) n (run_goes job q new es os states m k.1 n.0 keeps.2 r.1)
+run_goes job q old (Override p ∷ es) (o ∷ os) (new ∷ states) m f w keeps r =
     let n = waits job old (Override p) o new refl w r.0 in let k = event_keeps job old (Override p) o new m f r.0 in
-    goes_on_from job q old new (pulses new.position es states) n (run_goes job q new es os states m k.1 n.0 r.1)
+    goes_on_from job q old new (pulses new.position es states) n (run_goes job q new es os states m k.1 n.0 keeps.2 r.1)
 
 pub opening_walks : (job : Job) → AreJoined job.machine.start (ways_of (actions_of job.commands)) → WalksIn job (opening job.machine)
 opening_walks job joined = record {

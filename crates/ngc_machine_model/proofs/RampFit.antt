@@ -1,6 +1,6 @@
 -- A tick of a ramp whose legs are the ring's motions, as a tick of the machine.
 use Rattle.std.proofs.Common.{◌≡◌, ◌⊎◌, inl, inr, ℕ, suc, ◌+◌, ◌-◌, ◌*◌, ◌<◌, ◌≤◌, ◌==◌, min, ap, subst, sym, ◌∙◌, arith, refl, List, [], ◌∷◌, ◌++◌, length}
-use Rattle.std.proofs.Common.{Bool, true, false, cond}
+use Rattle.std.proofs.Common.{Bool, true, false, cond, None}
 use Rattle.std.specs.Prelude.{nat_lt, not, ◌&&◌}
 use Rattle.std.proofs.lemmas.Bool.{lt-ltb, le-ltb, true≢false, false≢true}
 use Rattle.std.proofs.lemmas.Bool.Decides.{nat_tests}
@@ -13,9 +13,9 @@ use Rattle.ngc_machine_files.specs.MachineRanges.{IsMachine}
 use Rattle.ngc_braking.specs.declared.leg.Leg.{Leg}
 use Rattle.ngc_braking.specs.Braking.{braking}
 use Rattle.ngc_braking.specs.Leg.{tick_bound}
-use Rattle.ngc_braking.specs.Work.{can_brake, work_ahead}
+use Rattle.ngc_braking.specs.Work.{work, can_brake, work_ahead}
 use Rattle.ngc_braking.specs.OneChange.{HasChange, IsLong}
-use Rattle.ngc_braking.specs.Reach.{ahead, reach as ramp_reach, free as ramp_free}
+use Rattle.ngc_braking.specs.Reach.{ahead, reach as ramp_reach}
 use Rattle.ngc_braking.proofs.OneChangeLaws.{brakes_where_free, same_work_ahead}
 use Rattle.ngc_planner.specs.ArcFeed.{target_on}
 use Rattle.ngc_fixed_length.specs.Limits.{MILLION}
@@ -24,10 +24,11 @@ use Rattle.ngc_planner.specs.Joints.{joint_before}
 use Rattle.ngc_planner.specs.Ramp.{RampState, MayTick, pace as ramp_pace, PassesInto as GoesOnLeg}
 use Rattle.ngc_planner.proofs.ArcFeedLaws.{no_less_by_place}
 use Rattle.ngc_planner.proofs.BoundLaws.{greatest_bound, may_travel_least}
+use Rattle.ngc_planner.proofs.ComponentLaws.{one_change}
 use Rattle.ngc_planner.proofs.RampLaws.{tick_bound_greatest}
-use Rattle.ngc_machine_model.specs.State.{Job, Queued, State, path_steps, millionths, place_before, effective}
-use Rattle.ngc_machine_model.specs.Reach.{stops, continues_into, leg_of, legs_after, rest, free}
-use Rattle.ngc_machine_model.specs.RateRules.{PassesInto, MayTravel, target, head_bound, pace}
+use Rattle.ngc_machine_model.specs.State.{Job, Queued, State, path_steps, millionths, change_of, place_before, effective}
+use Rattle.ngc_machine_model.specs.Reach.{stops, continues_into, leg_of, legs_after, rest, can_brake as can_brake_on}
+use Rattle.ngc_machine_model.specs.RateRules.{PassesInto, MayTravel, AllBrakeByDistance, target, head_bound, pace}
 use Rattle.ngc_machine_model.specs.Progress.{TravelsAtLeast}
 
 -- ---- after a command that continues into nothing
@@ -113,16 +114,18 @@ entered bound entry r m v false test all h = absurd (grind (arith, nat_tests))
 same_pace : (r a w b s c x d : ℕ) → r ≡ s → a ≡ c → w ≡ x → b ≡ d → min (min (r + a) w) b ≡ min (min (s + c) x) d
 same_pace r a w b s c x d e f g h = cc
 
--- ---- the ring's motions all have the machine's change, and at least one path step
+-- ---- on a machine without limits of each axis the ring's motions all have its change; and each has at
+-- least one path step
 
 all_by : (P : Leg → Type 0) (b : Bool) (x : Leg) (xs : List Leg) → (b ≡ true → P x) → All P xs → All P (cond b (x ∷ xs) xs)
 all_by P true x xs first others = All-cons P x xs (first refl) others
 all_by P false x xs first others = others
 
-all_change : (job : Job) (k : ℕ) (l : Queued) (ls : List Queued) → All (HasChange job.machine.change) (legs_after job k l ls)
-all_change job k l [] = All-nil (HasChange job.machine.change)
-all_change job k l (m ∷ ms) = all_by (HasChange job.machine.change) (nat_lt 0 (path_steps m)) (leg_of job k (continues_into l m) m) (legs_after job (suc k) m ms)
-    (λ some. refl) (all_change job (suc k) m ms)
+all_change : (job : Job) (k : ℕ) (l : Queued) (ls : List Queued) → job.machine.own ≡ None → All (HasChange job.machine.change) (legs_after job k l ls)
+all_change job k l [] none = All-nil (HasChange job.machine.change)
+all_change job k l (m ∷ ms) none =
+    all_by (HasChange job.machine.change) (nat_lt 0 (path_steps m)) (leg_of job k (continues_into l m) m) (legs_after job (suc k) m ms)
+    (λ some. one_change job.machine m.command.action (path_steps m) none) (all_change job (suc k) m ms none)
 
 long : (n : ℕ) → nat_lt 0 n ≡ true → MILLION ≤ n * MILLION
 long n h = let some : 0 < n = grind (arith, nat_tests) in omega (arith, some)
@@ -140,21 +143,25 @@ brakes_within a v d e ls some all short =
     let sum : a * braking v a ≤ a * (d + ahead ls) = omega (arith, short, is) in
     le_of_mul-le-mul_left {k = a} sum (omega (arith, some))
 
--- a rate whose path is free can brake, so the ramp is at least as fast
-paced : (job : Job) (l : Queued) (ls : List Queued) (s : State) (d p q v : ℕ) (joined : Bool) → 1 ≤ job.machine.change → p ≡ q → p ≤ MILLION → 1 ≤ d →
-    (can_brake q d (leg_of job s.done joined l) (legs_after job (suc s.done) l ls) ≡ true → q ≤ v) →
-    braking p job.machine.change < ramp_free p d (leg_of job s.done joined l) (legs_after job (suc s.done) l ls) → p ≤ v
-paced job l ls s d p q v joined some same small left keeps short =
-    let leg = leg_of job s.done joined l in
+-- whether a rate can brake doesn't depend on how the head was reached
+any_joint : (w rest : ℕ) (job : Job) (k : ℕ) (joined : Bool) (l : Queued) (ls : List Leg) →
+    can_brake w rest (leg_of job k false l) ls ≡ can_brake w rest (leg_of job k joined l) ls
+any_joint w rest job k joined l [] = refl
+any_joint w rest job k joined l (m ∷ ms) = refl
+
+-- a rate that can brake on the motions can brake on the legs
+brakes_on_legs : (job : Job) (l : Queued) (ls : List Queued) (s : State) (d p q : ℕ) (joined : Bool) → d ≡ rest l s → p ≡ q →
+    can_brake_on job p l ls s ≡ true → can_brake q d (leg_of job s.done joined l) (legs_after job (suc s.done) l ls) ≡ true
+brakes_on_legs job l ls s d p q joined left same can =
     let legs = legs_after job (suc s.done) l ls in
-    let can = brakes_where_free p job.machine.change d leg legs small some left refl (all_change job (suc s.done) l ls) (all_long job (suc s.done) l ls) short in
-    let fast = keeps (subst (λ n. can_brake n d leg legs ≡ true) same can) in
-    omega (arith, same, fast)
+    subst (λ n. can_brake n d (leg_of job s.done joined l) legs ≡ true) same
+    (subst (λ n. can_brake p n (leg_of job s.done joined l) legs ≡ true) (sym left)
+    (sym (any_joint p (rest l s) job s.done joined l legs) ∙ can))
 
 -- a ramp with the ring's motions as its legs travels at rates that the machine allows
 pub may_travel : (job : Job) (l : Queued) (ls : List Queued) (s : State) (r : RampState) (joined : Bool) (wish v : ℕ) → IsMachine job.machine →
     1 ≤ path_steps l →
-    r.last_change ≤ job.machine.change → r.rate ≡ s.rate → r.rest ≡ rest l s → 1 ≤ r.rest → s.travelled ≤ millionths l → wish ≡ target job l s →
+    r.last_change ≡ s.change → r.rate ≡ s.rate → r.rest ≡ rest l s → 1 ≤ r.rest → s.travelled ≤ millionths l → wish ≡ target job l s →
     MayTick r wish (leg_of job s.done joined l) (legs_after job (suc s.done) l ls) v → MayTravel job l ls s v
 may_travel job l ls s r joined wish v machine some last rate left part within aim may =
     let leg = leg_of job s.done joined l in
@@ -162,12 +169,8 @@ may_travel job l ls s r joined wish v machine some last rate left part within ai
     let bound : head_bound job l s ≡ tick_bound leg r.rest = same_bound job joined l s r.rest left within in
     let low = tick_bound_greatest leg r.rest in
     let same : pace job l s ≡ ramp_pace r wish leg =
-    same_pace s.rate job.machine.change (target job l s) (head_bound job l s) r.rate job.machine.change wish (tick_bound leg r.rest)
+    same_pace s.rate (change_of job l) (target job l s) (head_bound job l s) r.rate (change_of job l) wish (tick_bound leg r.rest)
     (sym rate) refl (sym aim) bound in
-    let most : bound_of job.machine l.command.action (path_steps l) ≤ MILLION = (
-    let own = (greatest_bound job.machine l.command.action (path_steps l) (bound_of job.machine l.command.action (path_steps l)) machine).0 (omega arith) in
-    omega (arith, own.greatest, machine.max_rate.greatest)) in
-    let small : pace job l s ≤ MILLION = omega (arith, bound, low, most) in
     record {
       rules = record {
         faster = omega (arith, may.faster, rate);
@@ -177,11 +180,40 @@ may_travel job l ls s r joined wish v machine some last rate left part within ai
         leaves = λ ends. may.leaves (omega (arith, ends, left));
         goes_on = λ over. goes_into job (suc s.done) v l ls machine (may.goes_on (omega (arith, over, left)));
       };
-      brakes = subst (λ n. braking v job.machine.change ≤ ramp_reach n legs) left
-          (brakes_within job.machine.change v r.rest leg.exit legs machine.change.least (all_change job (suc s.done) l ls) may.brakes);
+      brakes = subst (λ n. work v (change_of job l) ≤ change_of job l * n + work_ahead (change_of job l) leg.exit legs) left may.brakes;
       aims = omega (arith, may.aims, rate, aim, last);
-      keeps_pace = λ short. paced job l ls s r.rest (pace job l s) (ramp_pace r wish leg) v joined machine.change.least same small part may.keeps_pace
-          (subst (λ n. braking (pace job l s) job.machine.change < ramp_free (pace job l s) n leg legs) (sym left) short);
+      keeps_pace = λ can. (
+          let fast = may.keeps_pace (brakes_on_legs job l ls s r.rest (pace job l s) (ramp_pace r wish leg) joined left same can) in
+          omega (arith, same, fast));
+    }
+
+-- ---- machines without limits of each axis
+
+bounded : (b : Bool) (x y : ℕ) → cond b (min x y) x ≤ x
+bounded true x y = omega arith
+bounded false x y = omega arith
+
+pace_small : (job : Job) (l : Queued) (s : State) → IsMachine job.machine → pace job l s ≤ MILLION
+pace_small job l s machine =
+    let bound = bound_of job.machine l.command.action (path_steps l) in
+    let low : head_bound job l s ≤ bound = bounded (s.travelled == 0) bound (joint_before job.machine job.commands s.done) in
+    let own = (greatest_bound job.machine l.command.action (path_steps l) bound machine).0 (omega arith) in
+    omega (arith, low, own.greatest, machine.max_rate.greatest)
+
+-- all motions have the machine's change there
+pub all_by_distance : AllBrakeByDistance
+all_by_distance job l ls s v machine none part may =
+    let a = job.machine.change in
+    let legs = legs_after job (suc s.done) l ls in
+    let leg = leg_of job s.done false l in
+    let same : change_of job l ≡ a = one_change job.machine l.command.action (path_steps l) none in
+    let all = all_change job (suc s.done) l ls none in
+    record {
+      brakes = brakes_within a v (rest l s) leg.exit legs machine.change.least all
+          (subst (λ c. work v c ≤ c * rest l s + work_ahead c leg.exit legs) same may.brakes);
+      keeps_pace = λ short. may.keeps_pace
+          (brakes_where_free (pace job l s) a (rest l s) leg legs (pace_small job l s machine) machine.change.least (omega (arith, part)) same all
+          (all_long job (suc s.done) l ls) short);
     }
 
 -- ---- the least distance of a tick
@@ -199,7 +231,6 @@ travels_at_least job l ls s r joined wish v machine moves steps rate left within
     let n = path_steps l in
     let least = least_travel m c.action n in
     let own = may_travel_least m c.action job.commands s.done n (effective s) machine moves in
-    let small : least ≤ MILLION = omega (arith, own.change, machine.change.greatest) in
     let more = no_less_by_place m c.action n (effective s) (point l.path (place_before s)) in
     let aimed : least ≤ target_on m c.action n (effective s) (point l.path (place_before s)) = (
     let low = own.target free.some_override in no_greater least _ _ low more) in

@@ -7,7 +7,7 @@ use Rattle.ngc_commands.specs.declared.command.Action.{Action}
 use Rattle.ngc_commands.specs.declared.command.Command.{Command}
 use Rattle.ngc_events.specs.declared.event.Event.{Event}
 use Rattle.ngc_events.specs.declared.event.Event.TheVariants.{Load, Tick, Hold, Resume, Override, StopSwitch, Start}
-use Rattle.ngc_machine_model.specs.State.{Job, Queued, State, loaded, command_at, path_steps, millionths}
+use Rattle.ngc_machine_model.specs.State.{Job, Queued, State, loaded, command_at, path_steps, millionths, change_of}
 use Rattle.ngc_machine_model.specs.Step.{Outcome, Step, LoadCommand, MayTake, Rests, Finishes, Dwells, Serves, Travels, HeadTick, TickBy, without_head, place_after}
 use Rattle.ngc_machine_model.specs.Step.{ticks_of}
 use Rattle.ngc_machine_model.proofs.TestCases.{match_with}
@@ -36,12 +36,12 @@ by_test P false x y p q = q
 
 travel_ring : (job : Job) (l : Queued) (ls : List Queued) (old : State) (o : Outcome) (new : State) → Travels job l ls old o new → RingAfter job old new
 travel_ring job l ls old o new t =
-    let there : State = record old { rate = new.rate; position = point l.path (place_after l old new.rate) } in
+    let there : State = record old { rate = new.rate; change = change_of job l; position = point l.path (place_after l old new.rate) } in
     subst (RingAfter job old) (sym t.goes_on)
     (by_test (RingAfter job old) (nat_le (millionths l) (old.travelled + new.rate)) (without_head (old.travelled + new.rate - millionths l) there)
     (record there { travelled = old.travelled + new.rate }) (shrinks (refl, refl)) (stays (refl, refl)))
 
-finish_ring : (job : Job) (a : Action) (old : State) (o : Outcome) (new : State) → Finishes job a old o new → RingAfter job old new
+finish_ring : (job : Job) (a : Action) (old : State) (o : Outcome) (new : State) → Finishes a old o new → RingAfter job old new
 finish_ring job a old o new f =
     let kept = after_stays a (record (without_head 0 old) { rate = 0 }) in
     shrinks (ap (λ (s : State). s.done) f.goes_on ∙ kept.0, ap (λ (s : State). s.ring) f.goes_on ∙ kept.1)
@@ -49,12 +49,12 @@ finish_ring job a old o new f =
 head_ring : (job : Job) (l : Queued) (ls : List Queued) (old : State) (o : Outcome) (new : State) → HeadTick job l ls old o new → RingAfter job old new
 head_ring job l ls old o new t =
     elim (match_with (nat_lt 0 (path_steps l)) (Travels job l ls old o new)
-    (MatchBool old.held (Rests job old o new) (Serves job l.command.action old o new)) t) [
+    (MatchBool old.held (Rests old o new) (Serves job l.command.action old o new)) t) [
       | inl u ↦ travel_ring job l ls old o new u.1
-      | inr u ↦ elim (match_with old.held (Rests job old o new) (Serves job l.command.action old o new) u.1) [
+      | inr u ↦ elim (match_with old.held (Rests old o new) (Serves job l.command.action old o new) u.1) [
         | inl r ↦ still job old new _ r.1.stands refl refl
-        | inr r ↦ elim (match_with (nat_lt (suc old.dwelt) (ticks_of job l.command.action)) (Dwells job old o new)
-            (Finishes job l.command.action old o new) r.1) [
+        | inr r ↦ elim (match_with (nat_lt (suc old.dwelt) (ticks_of job l.command.action)) (Dwells old o new)
+            (Finishes l.command.action old o new) r.1) [
               | inl d ↦ still job old new _ d.1.counts refl refl
               | inr d ↦ finish_ring job l.command.action old o new d.1
             ]

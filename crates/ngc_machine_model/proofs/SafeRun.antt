@@ -22,7 +22,7 @@ use Rattle.ngc_certificate.specs.Valid.{AreClearFrom}
 use Rattle.ngc_certificate.proofs.SafeOnPath.{safe_on_path}
 use Rattle.ngc_events.specs.declared.event.Event.{Event}
 use Rattle.ngc_events.specs.declared.event.Event.TheVariants.{Load, Tick, Hold, Resume, Override, StopSwitch, Start}
-use Rattle.ngc_machine_model.specs.State.{Job, Queued, State, loaded, command_at, path_steps, millionths}
+use Rattle.ngc_machine_model.specs.State.{Job, Queued, State, loaded, command_at, path_steps, millionths, change_of}
 use Rattle.ngc_machine_model.specs.Step.{Outcome, Step, LoadCommand, MayTake, Rests, Finishes, Dwells, Serves, Travels, HeadTick, TickBy, without_head, after}
 use Rattle.ngc_machine_model.specs.Step.{place_after, ticks_of}
 use Rattle.ngc_machine_model.specs.Run.{Run}
@@ -182,13 +182,19 @@ on_head : (job : Job) (l : Queued) (ls : List Queued) (old : State) (o : Outcome
 on_head job l ls old o new e s whole [] entries place at clear joined even fits stands t = absurd fits
 on_head job l ls old o new e s whole (c ∷ cs) entries place at clear joined even fits stands t =
     elim (match_with (nat_lt 0 (path_steps l)) (Travels job l ls old o new)
-    (MatchBool old.held (Rests job old o new) (Serves job l.command.action old o new)) t) [
+    (MatchBool old.held (Rests old o new) (Serves job l.command.action old o new)) t) [
       | inl u ↦
           let p : 0 < path_steps l = let b = u.0 in grind (arith, nat_tests) in
           subst (HoldsIn job) (sym u.1.goes_on)
           (if_holds (HoldsIn job) (nat_le (millionths l) (old.travelled + new.rate))
-          (without_head (old.travelled + new.rate - millionths l) (record old { rate = new.rate; position = point l.path (place_after l old new.rate) }))
-          (record old { rate = new.rate; position = point l.path (place_after l old new.rate); travelled = old.travelled + new.rate })
+          (without_head (old.travelled + new.rate - millionths l)
+          (record old { rate = new.rate; change = change_of job l; position = point l.path (place_after l old new.rate) }))
+          (record old {
+            rate = new.rate;
+            change = change_of job l;
+            position = point l.path (place_after l old new.rate);
+            travelled = old.travelled + new.rate;
+          })
           (λ b. subst (λ k. Holds job (suc old.done) (drop 1 old.ring) (point l.path k) old.tool) (sym (whole_way l old new.rate b))
           (subst (λ ring. Holds job (suc old.done) (drop 1 ring) (point l.path (path_steps l)) old.tool) (sym e)
           (arrived job old.done l ls old.tool c.action cs entries place s (next_at job old.done c cs at) clear joined even fits.1 fits.2 p)))
@@ -204,10 +210,10 @@ on_head job l ls old o new e s whole (c ∷ cs) entries place at clear joined ev
             safe = on_way job l old.tool place c.action (actions_of cs) entries (place_after l old new.rate) s clear even fits.1 p (part_way l old new.rate);
             stands = λ n. absurd (let z = subst NoSteps e n in omega (arith, z, p));
           }))
-      | inr u ↦ elim (match_with old.held (Rests job old o new) (Serves job l.command.action old o new) u.1) [
+      | inr u ↦ elim (match_with old.held (Rests old o new) (Serves job l.command.action old o new) u.1) [
         | inl r ↦ subst (HoldsIn job) (sym r.1.stands) whole
-        | inr r ↦ elim (match_with (nat_lt (suc old.dwelt) (ticks_of job l.command.action)) (Dwells job old o new)
-            (Finishes job l.command.action old o new) r.1) [
+        | inr r ↦ elim (match_with (nat_lt (suc old.dwelt) (ticks_of job l.command.action)) (Dwells old o new)
+            (Finishes l.command.action old o new) r.1) [
               | inl d ↦ subst (HoldsIn job) (sym d.1.counts) whole
               | inr d ↦
                   let z : path_steps l ≡ 0 = let b = u.0 in grind (arith, nat_tests) in

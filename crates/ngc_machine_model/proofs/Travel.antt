@@ -3,7 +3,7 @@ use Rattle.std.proofs.Common.{◌≡◌, ◌⊎◌, inl, inr, ℕ, suc, ◌+◌,
 use Rattle.std.specs.Prelude.{nat_le, if◌then◌else◌}
 use Rattle.std.proofs.lemmas.Bool.Decides.{nat_tests}
 use Rattle.ngc_fixed_length.specs.LinePath.{point}
-use Rattle.ngc_machine_model.specs.State.{Job, Queued, State, millionths}
+use Rattle.ngc_machine_model.specs.State.{Job, Queued, State, millionths, change_of}
 use Rattle.ngc_machine_model.specs.Step.{Outcome, Travels, without_head, place_after}
 
 -- the state after a tick of rate v that travels: the head is done, with the rest travelled on the
@@ -20,7 +20,7 @@ by_test P false x y f g = g refl
 
 pub moved : (job : Job) (l : Queued) (ls : List Queued) (old : State) (o : Outcome) (new : State) → Travels job l ls old o new → Moved l old new.rate new
 moved job l ls old o new t =
-    let there : State = record old { rate = new.rate; position = point l.path (place_after l old new.rate) } in
+    let there : State = record old { rate = new.rate; change = change_of job l; position = point l.path (place_after l old new.rate) } in
     subst (Moved l old new.rate) (sym t.goes_on)
     (by_test (Moved l old new.rate) (nat_le (millionths l) (old.travelled + new.rate))
     (without_head (old.travelled + new.rate - millionths l) there)

@@ -99,7 +99,7 @@ sums_near test a s r (suc k) n (v ∷ vs) (x ∷ xs) p l =
 
 -- ---- windows
 
-abbrev AreClose : ℕ → ℕ → ℕ → Type 0
+abbrev pub AreClose : ℕ → ℕ → ℕ → Type 0
 AreClose d x y = (x ≤ y + up_to_whole d + 1) × (y ≤ x + up_to_whole d + 1)
 
 first_two : {X : Type 0} (test : X → Bool) (a s r n : ℕ) (vs : List ℕ) (xs : List X) → ArePaced test a s r vs xs → n + n ≤ length xs →

@@ -6,4 +6,5 @@ pub mod Run
 pub mod Safety
 pub mod Progress
 pub mod Stretch
+pub mod Shares
 pub mod Headline

@@ -1,5 +1,5 @@
 -- The definition of a safe run of the machine. Our own.
-use Rattle.std.specs.Prelude.{◌≡◌, ℕ, ◌≤◌, List, [], ◌∷◌, ◌++◌, Some, None, Ok, Contains}
+use Rattle.std.specs.Prelude.{◌≡◌, ℕ, ◌+◌, ◌≤◌, List, [], ◌∷◌, ◌++◌, Some, None, Ok, Contains}
 use Rattle.ngc_fixed_length.specs.declared.points.StepPos.{StepPos}
 use Rattle.ngc_fixed_length.specs.Grid.{grid}
 use Rattle.ngc_machine_files.specs.Machine.{MachineFile}
@@ -25,7 +25,7 @@ AreSafe machine (s ∷ states) = IsSafe machine s.tool s.position × AreSafe mac
 
 -- a tick's rate: on the head it keeps the rules, and without one it is 0
 abbrev pub TickKeeps : Job → List Queued → State → ℕ → Type 0
-TickKeeps job [] old v = (v ≡ 0) × (old.rate ≤ job.machine.change)
+TickKeeps job [] old v = (v ≡ 0) × (old.rate ≤ old.change)
 TickKeeps job (l ∷ ls) old v = KeepsRateRules job l ls old v
 
 -- each tick keeps the rules of rates, and no other event changes the rate
@@ -38,10 +38,16 @@ EventKeeps job old (Override n) new = new.rate ≡ old.rate
 EventKeeps job old (StopSwitch on) new = new.rate ≡ old.rate
 EventKeeps job old Start new = new.rate ≡ old.rate
 
+-- and none changes the rate by more than the machine's change
+pub record IsNear (machine : MachineFile) (old new : ℕ) : Type 0 where
+  pub faster : new ≤ old + machine.change
+  pub slower : old ≤ new + machine.change
+
 abbrev pub KeepRates : Job → State → List Event → List State → Type 0
 KeepRates job old [] states = Unit {0}
 KeepRates job old (e ∷ es) [] = Unit {0}
-KeepRates job old (e ∷ es) (new ∷ states) = EventKeeps job old e new × KeepRates job new es states
+KeepRates job old (e ∷ es) (new ∷ states) =
+    EventKeeps job old e new × IsNear job.machine old.rate new.rate × KeepRates job new es states
 
 abbrev pub start_of_job : Job → StepPos
 start_of_job job = grid job.machine.step job.machine.start

@@ -6,6 +6,7 @@ use Rattle.ngc_fixed_length.specs.Grid.{grid}
 use Rattle.ngc_commands.specs.declared.command.Command.{Command}
 use Rattle.ngc_machine_files.specs.declared.tools.Tool.{Tool}
 use Rattle.ngc_machine_files.specs.Machine.{MachineFile}
+use Rattle.ngc_planner.specs.Components as planner
 use Rattle.ngc_fixed_length.specs.Limits.{MILLION}
 
 -- what the machine runs: a machine file, and the commands of a setting
@@ -30,6 +31,8 @@ pub record State : Type 0 where
   pub position : StepPos
   -- the rate of the last tick
   pub rate : ℕ
+  -- the change of the motion on which the last tick that travelled began; 0 before the first
+  pub change : ℕ
   pub tool : Option Tool
   -- the override in percent, and whether it is on
   pub percent : ℕ
@@ -46,6 +49,7 @@ opening machine = record {
   dwelt = 0;
   position = grid machine.step machine.start;
   rate = 0;
+  change = 0;
   tool = None;
   percent = 100;
   overrides = true;
@@ -67,6 +71,14 @@ path_steps l = length l.path - 1
 
 abbrev pub millionths : Queued → ℕ
 millionths l = path_steps l * MILLION
+
+-- the change of its rate per tick
+abbrev pub change_of : Job → Queued → ℕ
+change_of job l = planner.change_of job.machine l.command.action (path_steps l)
+
+-- no motion has less
+abbrev pub least_change : Job → ℕ
+least_change job = planner.least_change job.machine
 
 -- the position on the head's path
 abbrev pub place_before : State → ℕ

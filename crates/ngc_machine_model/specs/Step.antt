@@ -22,7 +22,7 @@ use Rattle.ngc_events.specs.declared.event_fault.EventFault.{EventFault}
 use Rattle.ngc_events.specs.declared.event_fault.EventFault.TheVariants.{OverrideTooLarge, RingFull}
 use Rattle.ngc_events.specs.declared.event_fault.EventFault.TheVariants.{AllLoaded}
 use Rattle.ngc_machine_model.specs.State.{Job, State, Queued, loaded, command_at, path_steps}
-use Rattle.ngc_machine_model.specs.State.{millionths, place_before}
+use Rattle.ngc_machine_model.specs.State.{millionths, change_of, place_before}
 use Rattle.ngc_machine_model.specs.RateRules.{MayTravel}
 
 -- a reply, or why the event was refused
@@ -47,8 +47,8 @@ LoadCommand job old (Some c) outcome new =
 -- ---- a tick
 
 -- nothing travels, and nothing is done
-pub record Rests (job : Job) (old : State) (outcome : Outcome) (new : State) : Type 0 where
-  pub slow : old.rate ≤ job.machine.change
+pub record Rests (old : State) (outcome : Outcome) (new : State) : Type 0 where
+  pub slow : old.rate ≤ old.change
   pub quiet : outcome ≡ Ok (Ticked None None)
   pub stands : new ≡ record old { rate = 0 }
 
@@ -78,21 +78,20 @@ without_head over s =
     record s { done = suc s.done; ring = drop 1 s.ring; travelled = over; dwelt = 0 }
 
 -- an action without travel is done, or continues to dwell
-pub record Finishes (job : Job) (action : Action) (old : State) (outcome : Outcome) (new : State) :
-    Type 0 where
-  pub slow : old.rate ≤ job.machine.change
+pub record Finishes (action : Action) (old : State) (outcome : Outcome) (new : State) : Type 0 where
+  pub slow : old.rate ≤ old.change
   pub says : outcome ≡ Ok (Ticked None (Some (ending action old)))
   pub goes_on : new ≡ after action (record (without_head 0 old) { rate = 0 })
 
-pub record Dwells (job : Job) (old : State) (outcome : Outcome) (new : State) : Type 0 where
-  pub slow : old.rate ≤ job.machine.change
+pub record Dwells (old : State) (outcome : Outcome) (new : State) : Type 0 where
+  pub slow : old.rate ≤ old.change
   pub quiet : outcome ≡ Ok (Ticked None None)
   pub counts : new ≡ record old { rate = 0; dwelt = suc old.dwelt }
 
 abbrev pub Serves : Job → Action → State → Outcome → State → Type 0
 Serves job action old outcome new =
-    MatchBool (nat_lt (suc old.dwelt) (ticks_of job action)) (Dwells job old outcome new)
-    (Finishes job action old outcome new)
+    MatchBool (nat_lt (suc old.dwelt) (ticks_of job action)) (Dwells old outcome new)
+    (Finishes action old outcome new)
 
 -- the position on the head's path after v more millionths
 abbrev pub place_after : Queued → State → ℕ → ℕ
@@ -107,8 +106,13 @@ abbrev pub ends_at : Queued → State → ℕ → Option Ending
 ends_at l s v =
     if nat_le (millionths l) (s.travelled + v) then Some (ending l.command.action s) else None
 
-abbrev pub moved_by : Queued → State → ℕ → State
-moved_by l s v = let there = record s { rate = v; position = point l.path (place_after l s v) } in
+abbrev pub moved_by : Job → Queued → State → ℕ → State
+moved_by job l s v =
+    let there = record s {
+      rate = v;
+      change = change_of job l;
+      position = point l.path (place_after l s v);
+    } in
     if nat_le (millionths l) (s.travelled + v)
     then without_head (s.travelled + v - millionths l) there
     else record there { travelled = s.travelled + v }
@@ -117,16 +121,16 @@ pub record Travels (job : Job) (l : Queued) (ls : List Queued) (old : State) (ou
     (new : State) : Type 0 where
   pub may : MayTravel job l ls old new.rate
   pub says : outcome ≡ Ok (Ticked (pulse l old new.rate) (ends_at l old new.rate))
-  pub goes_on : new ≡ moved_by l old new.rate
+  pub goes_on : new ≡ moved_by job l old new.rate
 
 abbrev pub HeadTick : Job → Queued → List Queued → State → Outcome → State → Type 0
 HeadTick job l ls old outcome new =
     MatchBool (nat_lt 0 (path_steps l)) (Travels job l ls old outcome new)
-    (MatchBool old.held (Rests job old outcome new) (Serves job l.command.action old outcome new))
+    (MatchBool old.held (Rests old outcome new) (Serves job l.command.action old outcome new))
 
 abbrev pub TickBy : Job → Bool → List Queued → State → Outcome → State → Type 0
-TickBy job true ring old outcome new = Rests job old outcome new
-TickBy job false [] old outcome new = Rests job old outcome new
+TickBy job true ring old outcome new = Rests old outcome new
+TickBy job false [] old outcome new = Rests old outcome new
 TickBy job false (l ∷ ls) old outcome new = HeadTick job l ls old outcome new
 
 -- ---- all events

@@ -1,6 +1,8 @@
 //! Laws about the definitions only.
 ghost use Rattle.ngc_machine_model.specs.Headline.{AcceptedRunsSafely, EndsInTime, Headline, KeepPaths};
 ghost use Rattle.ngc_machine_model.specs.Headline.{KeepRatesAlways, MachinesRunInTime};
+ghost use Rattle.ngc_machine_model.specs.RateRules.{AllBrakeByDistance};
+ghost use Rattle.ngc_machine_model.specs.Shares.{LinesKeepShares};
 
 /// States that if the checker refuses nothing, every run of the machine is safe, at either setting
 /// of block delete and for every list of events. Each position is within travel, and the tool
@@ -19,6 +21,18 @@ pub fn accepted_runs_safely()
 /// also if nothing was accepted.
 pub fn rates()
     ensures { KeepRatesAlways }
+{}
+
+/// States that on a machine without limits of each axis a rate that the machine may have brakes on the
+/// loaded path by the machine's change, and is at least the pace if the path is free for it.
+pub fn brake_by_distance()
+    ensures { AllBrakeByDistance }
+{}
+
+/// States that on a machine with limits of each axis, on the path of a line, the share of each axis in
+/// the rate is at most the axis' own rate, and its share in the change is at most its own change.
+pub fn lines_keep_shares()
+    ensures { LinesKeepShares }
 {}
 
 /// States that in every run a command has the same path whenever it is at the head, and that the

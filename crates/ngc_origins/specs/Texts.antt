@@ -1,8 +1,8 @@
 -- An origin as an option writes it: a coordinate system and a place in millimetres, as
--- 54=60,40,-140. Our own.
-use Rattle.std.specs.Prelude.{ℕ, ℤ, pos, ◌-ℤ◌, ◌==◌, Bool, true, false, not, nat_le, List, []}
+-- 54=60,40,-140, or with a unit, as G54=2.5, 1, -3 in. Our own.
+use Rattle.std.specs.Prelude.{ℕ, ℤ, pos, ◌-ℤ◌, ◌==◌, ◌||◌, Bool, true, false, not, nat_le, List, []}
 use Rattle.std.specs.Prelude.{◌∷◌, codes, fold, take, drop, slice_get, slice_set, Option}
-use Rattle.std.specs.Prelude.{Some, None, Result, Ok, Err, replicate, if◌then◌else◌}
+use Rattle.std.specs.Prelude.{Some, None, Result, Ok, Err, replicate, if◌then◌else◌, unsigned_abs}
 use Rattle.std.specs.List.{prefix_len}
 use Rattle.std.specs.Str.{bytes_eq}
 use Rattle.ngc_fixed_length.specs.declared.modes.System.{System}
@@ -10,6 +10,9 @@ use Rattle.ngc_fixed_length.specs.declared.modes.System.TheVariants as systems
 use Rattle.ngc_fixed_length.specs.declared.points.Point3.{Point3}
 use Rattle.ngc_machine_files.specs.Ranges.{NEAR_LIMIT}
 use Rattle.ngc_machine_maker.specs.Decimals.{number_in, three_texts}
+use Rattle.ngc_quantities.specs.Ranges.{place_of as written_in}
+use Rattle.ngc_quantities.specs.declared.fault.Fault.{Fault}
+use Rattle.ngc_quantities.specs.declared.range.Place.{Place}
 use Rattle.ngc_origins.specs.declared.reading.OriginMistake.{OriginMistake}
 use Rattle.ngc_origins.specs.declared.reading.OriginMistake.TheVariants.{NoSystem, NoPlace, Twice}
 
@@ -47,16 +50,46 @@ abbrev pub place_of : Option ℤ → Option ℤ → Option ℤ → Option Point3
 place_of (Some x) (Some y) (Some z) = Some (record { x = x; y = y; z = z })
 place_of _ _ _ = None
 
--- three coordinates, separated by commas
-abbrev pub place_in : List ℕ → Option Point3
-place_in text = place_of (coordinate_in (three_texts text).x) (coordinate_in (three_texts text).y)
+-- three coordinates in millimetres, separated by commas
+abbrev pub plain_place : List ℕ → Option Point3
+plain_place text = place_of (coordinate_in (three_texts text).x) (coordinate_in (three_texts text).y)
     (coordinate_in (three_texts text).z)
+
+-- a length of at most 1000 mm either way
+abbrev pub near : ℤ → Option ℤ
+near z = if nat_le (unsigned_abs z) NEAR_LIMIT then Some z else None
+
+abbrev pub near_place : Place → Option Point3
+near_place p = place_of (near p.x) (near p.y) (near p.z)
+
+abbrev pub near_found : Result Place Fault → Option Point3
+near_found (Ok p) = near_place p
+near_found (Err fault) = None
+
+-- three lengths as a machine file of version 3 has them
+abbrev pub written_place : List ℕ → Option Point3
+written_place text = near_found (written_in text)
+
+abbrev pub or_place : Option Point3 → Option Point3 → Option Point3
+or_place (Some p) other = Some p
+or_place None other = other
+
+abbrev pub place_in : List ℕ → Option Point3
+place_in text = or_place (plain_place text) (written_place text)
 
 -- ---- a coordinate system
 
--- the position of a system among the nine of a machine file, by its code without the G
-abbrev pub system_in : List ℕ → Option ℕ
-system_in code =
+-- a code without the G that it may begin with
+abbrev pub begins_g : List ℕ → Bool
+begins_g [] = false
+begins_g (b ∷ bs) = (b == 71) || (b == 103)
+
+abbrev pub number_of : List ℕ → List ℕ
+number_of code = if begins_g code then drop 1 code else code
+
+-- the position of a system among the nine of a machine file, by the number of its code
+abbrev pub numbered : List ℕ → Option ℕ
+numbered code =
     if bytes_eq code (codes "54") then Some 0 else
     if bytes_eq code (codes "55") then Some 1 else
     if bytes_eq code (codes "56") then Some 2 else
@@ -66,6 +99,9 @@ system_in code =
     if bytes_eq code (codes "59.1") then Some 6 else
     if bytes_eq code (codes "59.2") then Some 7 else
     if bytes_eq code (codes "59.3") then Some 8 else None
+
+abbrev pub system_in : List ℕ → Option ℕ
+system_in code = numbered (number_of code)
 
 -- ---- the texts of all options
 

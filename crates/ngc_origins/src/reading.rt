@@ -12,7 +12,8 @@ use ngc_fixed_length::Point3;
 pub enum OriginMistake {
     /// No coordinate system has the code.
     NoSystem,
-    /// The place isn't three lengths from -1000 to 1000 mm with at most six decimals.
+    /// The place isn't three lengths from -1000 to 1000 mm: numbers with at most six decimals, or
+    /// with a unit.
     NoPlace,
     /// An earlier text has an origin of the same system.
     Twice,
@@ -57,10 +58,18 @@ fn split_equals(text: &[u8]) -> (&[u8], &[u8])
     (before, without_first(rest))
 }
 
-/// Returns the position of a coordinate system among the nine of a machine file, 0 to 8, by its code
-/// without the G: `54` to `59`, `59.1`, `59.2` or `59.3`.
-pub fn system_in(code: &[u8]) -> Option<usize>
-    ensures value { result ≡ spec.system_in code.now }
+// Returns a code without the G that it may begin with.
+fn number_of(code: &[u8]) -> &[u8]
+    ensures { result.now ≡ spec.number_of code.now }
+{
+    match code {
+        [b'G' | b'g', number @ ..] => number,
+        _ => code,
+    }
+}
+
+fn numbered(code: &[u8]) -> Option<usize>
+    ensures value { result ≡ spec.numbered code.now }
     ensures nine { IfSome result (λ system. system < 9) }
 {
     match code {
@@ -75,6 +84,15 @@ pub fn system_in(code: &[u8]) -> Option<usize>
         b"59.3" => Some(8),
         _ => None,
     }
+}
+
+/// Returns the position of a coordinate system among the nine of a machine file, 0 to 8, by its code,
+/// with the G or without: `54` to `59`, `59.1`, `59.2` or `59.3`.
+pub fn system_in(code: &[u8]) -> Option<usize>
+    ensures value { result ≡ spec.system_in code.now }
+    ensures nine { IfSome result (λ system. system < 9) }
+{
+    numbered(number_of(code))
 }
 
 fn with_text(origins: Origins, text: &[u8]) -> Result<Origins, OriginMistake>
@@ -94,7 +112,7 @@ fn with_text(origins: Origins, text: &[u8]) -> Result<Origins, OriginMistake>
 }
 
 /// Returns the origins that these texts write, each for a system of its own, as `54=60,40,-140` in
-/// millimetres; or the first text that is no such origin.
+/// millimetres, or as `G54=2.5, 1, -3 in`; or the first text that is no such origin.
 pub fn read_origins<'a>(list: &[&'a str]) -> Result<Origins, Refused<'a>>
     ensures { MatchResult result
         (λ origins. spec.parsed_origins (map (λ t. t.now) list.now) ≡ Ok origins)

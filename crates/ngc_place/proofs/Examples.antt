@@ -38,6 +38,7 @@ mill = record {
   corner = built_in_machine.corner;
   jump = built_in_machine.jump;
   turn = built_in_machine.turn;
+  own = built_in_machine.own;
   ring = built_in_machine.ring;
   arc_feed = built_in_machine.arc_feed;
   changer = built_in_machine.changer;

@@ -29,7 +29,7 @@ use Rattle.ngc_commands.specs.declared.movement.Way.{Way}
 use Rattle.ngc_commands.specs.declared.movement.Way.TheVariants.{Line, Arc}
 use Rattle.ngc_planner.specs.Headings.{is_level}
 use Rattle.ngc_planner.specs.Caps.{STEPS_LIMIT, cap_of}
-use Rattle.ngc_planner.specs.Bounds.{IsMotion, turn_rate, is_turn_by_place, diagonal_rate, steady_turn_on, steady_turn, aimed_at}
+use Rattle.ngc_planner.specs.Bounds.{IsMotion, arc_turn, turn_rate, is_turn_by_place, diagonal_rate, steady_turn_on, steady_turn, aimed_at}
 use Rattle.ngc_planner.proofs.BoundLaws.{target_some, step_within, turn_kept}
 use Rattle.ngc_planner.specs.ArcFeed.{axis_distance, place_cap, rise, sloped_length, sloped_cap, feed_cap_at, arc_cap_at, way_cap_at, cap_at, target_on}
 use Rattle.ngc_planner.specs.ArcFeed.{is_feed_by_place, place_turn, turn_radius, arc_turn_at, way_turn_at, turn_at}
@@ -295,7 +295,7 @@ arcs_keep_turn machine motion a n percent p v ranges is way by_place two low =
     ∙ ap (λ f. cond (is_turn_by_place f) (arc_turn_at machine a p) (turn_rate machine (Arc a))) by_place in
     let most : v ≤ way_turn_at machine motion.way p = omega (arith, low) in
     let within = inner_within a is in
-    keeps_turn machine.turn step (max (inner_radius a) step) (turn_radius machine a) (axis_distance machine.step a p) (turn_rate machine (Arc a)) v
+    keeps_turn (arc_turn machine a) step (max (inner_radius a) step) (turn_radius machine a) (axis_distance machine.step a p) (turn_rate machine (Arc a)) v
     (omega (arith, some.0)) (omega (arith, within)) (turn_kept machine a ranges) two (omega (arith, most, here))
 
 -- ---- no less
@@ -304,9 +304,9 @@ more_by : (none : Bool) (cap more percent : ℕ) → cap ≤ more → cond none 
 more_by true cap more percent h = omega arith
 more_by false cap more percent h = let p = mul-le cap percent more percent h (omega arith) in omega (arith, p)
 
-aimed_more : (m : MachineFile) (a : Action) (cap more turn wide percent : ℕ) → cap ≤ more → turn ≤ wide →
-    aimed_at m a cap turn percent ≤ aimed_at m a more wide percent
-aimed_more m a cap more turn wide percent h k = let p = more_by (percent == 0) cap more percent h in omega (arith, p, k)
+aimed_more : (m : MachineFile) (a : Action) (n cap more turn wide percent : ℕ) → cap ≤ more → turn ≤ wide →
+    aimed_at m a n cap turn percent ≤ aimed_at m a n more wide percent
+aimed_more m a n cap more turn wide percent h k = let p = more_by (percent == 0) cap more percent h in omega (arith, p, k)
 
 wider_by : (by_place : Bool) (diagonal place rate : ℕ) → cond by_place diagonal rate ≤ cond by_place (max diagonal place) rate
 wider_by true diagonal place rate = omega arith
@@ -324,7 +324,7 @@ wider m _ p = omega arith
 
 pub no_less_by_place : IsNoLessByPlace
 no_less_by_place m a n percent p =
-    aimed_more m a (cap_of a n m) (max (cap_of a n m) (cap_at m a n p)) (steady_turn m a) (turn_at m a p) percent (omega arith) (wider m a p)
+    aimed_more m a n (cap_of a n m) (max (cap_of a n m) (cap_at m a n p)) (steady_turn m a) (turn_at m a p) percent (omega arith) (wider m a p)
 
 -- a target is at least 1 on a motion at each place, unless the override is 0
 pub target_on_some : (a : Action) (n percent : ℕ) (p : StepPos) (m : MachineFile) → IsMachine m → IsMotion a → 1 ≤ percent →
@@ -385,4 +385,4 @@ pub same_elsewhere : IsSameElsewhere
 same_elsewhere m a n percent p h =
     let none = none_at m a n p h in
     let same : max (cap_of a n m) (cap_at m a n p) ≡ cap_of a n m = omega (arith, none) in
-    ap₂ (λ cap turn. aimed_at m a cap turn percent) same (same_turn m a p h)
+    ap₂ (λ cap turn. aimed_at m a n cap turn percent) same (same_turn m a p h)

@@ -118,6 +118,7 @@ jumping jump = record {
   corner = 5000;
   jump = jump;
   turn = 1000000000;
+  own = built_in_machine.own;
   ring = 16;
   arc_feed = built_in_machine.arc_feed;
   changer = false;

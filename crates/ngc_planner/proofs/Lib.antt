@@ -2,12 +2,16 @@
 pub mod ArcFeedLaws
 -- The greatest rate of a motion, and its least travel.
 pub mod BoundLaws
+-- The axes' limits on a motion: the greatest rate and the greatest change that keep them.
+pub mod ComponentLaws
 -- Rounding a cap down.
 pub mod CapLaws
 -- Ticks without reports.
 pub mod CoastLaws
 -- A coordinate of a displacement fits in 64 bits.
 pub mod CoordinateLaws
+-- Rates and changes by axis on worked motions, by evaluating the definitions.
+pub mod ComponentExamples
 -- Caps, bounds, joints and rates on worked motions, by evaluating the definitions.
 pub mod Examples
 -- The size of the coordinates of headings, and their distance from the vector's.

@@ -18,7 +18,8 @@ use Rattle.ngc_commands.specs.declared.movement.Motion.{Motion}
 use Rattle.ngc_commands.specs.declared.movement.Way.{Way}
 use Rattle.ngc_commands.specs.declared.movement.Way.TheVariants.{Line, Arc}
 use Rattle.ngc_planner.proofs.WindowLaws.{less_times, rate_law, difference_small, heading_is}
-use Rattle.ngc_planner.specs.Bounds.{MayTurnOn}
+use Rattle.ngc_planner.specs.Bounds.{MayTurnOn, arc_turn}
+use Rattle.ngc_planner.proofs.BoundLaws.{arc_turn_range}
 use Rattle.ngc_planner.specs.Headings.{IsHeading, difference_of, difference_between, is_below_half, turned_on, start_vector, end_vector, start_heading, end_heading}
 use Rattle.ngc_planner.specs.Joints.{rate_from_all}
 use Rattle.ngc_planner.specs.Smooth.{LeadsTo, LeadSmoothlyTo, IsFreeWhereSmooth}
@@ -70,7 +71,9 @@ turn_allowed m a v ranges most turns =
     let some : 0 < g = omega (arith, ints, ranges.step.least) in
     let r = max (inner_radius a) g in
     let n = turned_on a in
-    let round = round_way v g m.turn r n (way_round m a n) some turns (div_ceil_times (n * r) g some).0 in
+    let less = mul-le (arc_turn m a) r m.turn r (arc_turn_range m a ranges).1 (omega arith) in
+    let wide : v * v * g ≤ m.turn * r = omega (arith, turns, less) in
+    let round = round_way v g m.turn r n (way_round m a n) some wide (div_ceil_times (n * r) g some).0 in
     let greatest = greatest_way v m.max_rate n m.turn (way_at_greatest m n) most (div_ceil_times (n * (m.max_rate * m.max_rate)) m.turn (omega (arith, ranges.turn.least))).0 in
     either_way (v * v * n) m.turn (way_round m a n) (way_at_greatest m n) round greatest (which (way_round m a n) (way_at_greatest m n))
 

@@ -23,8 +23,8 @@ use Rattle.ngc_commands.specs.declared.movement.Pace.{Pace}
 use Rattle.ngc_commands.specs.declared.movement.Pace.TheVariants as paces
 use Rattle.ngc_commands.specs.declared.movement.Way.{Way}
 use Rattle.ngc_commands.specs.declared.movement.Way.TheVariants.{Line, Arc}
-use Rattle.ngc_planner.specs.Bounds.{turn_rate, is_turn_by_place, diagonal_rate, aimed_at}
-use Rattle.ngc_planner.specs.Bounds.{target_at}
+use Rattle.ngc_planner.specs.Bounds.{arc_turn, turn_rate, is_turn_by_place, diagonal_rate}
+use Rattle.ngc_planner.specs.Bounds.{aimed_at, target_at}
 use Rattle.ngc_planner.specs.Caps.{STEPS_LIMIT, square, cap_of}
 use Rattle.ngc_planner.specs.Headings.{is_level}
 
@@ -125,7 +125,7 @@ turn_at m _ p = MILLION
 -- caps, so that no place has less than `target_at`
 abbrev pub target_on : MachineFile → Action → ℕ → ℕ → StepPos → ℕ
 target_on machine action n percent p =
-    aimed_at machine action (max (cap_of action n machine) (cap_at machine action n p))
+    aimed_at machine action n (max (cap_of action n machine) (cap_at machine action n p))
     (turn_at machine action p) percent
 
 -- ---- whether it depends on the place
@@ -199,7 +199,7 @@ ArcsKeepTurn =
     (v : ℕ) → IsMachine machine → IsArc a → motion.way ≡ Arc a →
     machine.arc_feed ≡ arc_feeds.FeedAndTurn → 2 ≤ v →
     v ≤ target_on machine (Move motion) n percent p →
-    KeepsTurn machine.turn (unsigned_abs machine.step) (turn_radius machine a)
+    KeepsTurn (arc_turn machine a) (unsigned_abs machine.step) (turn_radius machine a)
     (axis_distance machine.step a p) v
 
 -- the target at a place is at least the target without a place

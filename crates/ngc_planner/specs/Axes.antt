@@ -1,13 +1,10 @@
--- The axes that a motion may move, and their greatest rates. Our own.
+-- The axes that a motion may move, and a rate that all of them allow. Our own.
 use Rattle.std.specs.Prelude.{ℕ, ◌≤◌, min, ℤ, Bool, true, nat_lt, IsTrue, if◌then◌else◌}
 use Rattle.ngc_fixed_length.specs.Grid.{grid, distance}
 use Rattle.ngc_fixed_length.specs.declared.modes.Plane.{Plane}
 use Rattle.ngc_fixed_length.specs.declared.modes.Plane.TheVariants.{XY, ZX, YZ}
 use Rattle.ngc_fixed_length.specs.declared.points.StepPos.{StepPos}
-use Rattle.ngc_machine_files.specs.Machine.{MachineFile}
 use Rattle.ngc_machine_files.specs.declared.machine.AxisRates.{AxisRates}
-use Rattle.ngc_commands.specs.declared.command.Action.{Action}
-use Rattle.ngc_commands.specs.declared.command.Action.TheVariants.{Move}
 use Rattle.ngc_commands.specs.declared.movement.Way.{Way}
 use Rattle.ngc_commands.specs.declared.movement.Way.TheVariants.{Line, Arc}
 use Rattle.ngc_planner.specs.declared.axes.Axes.{Axes}
@@ -39,21 +36,10 @@ pub record IsWithinAxes (rates : AxisRates) (axes : Axes) (v : ℕ) : Type 0 whe
   pub y : IsTrue axes.y → v ≤ rates.y
   pub z : IsTrue axes.z → v ≤ rates.z
 
-abbrev pub MayMoveAxes : MachineFile → Action → ℕ → Type 0
-MayMoveAxes machine (Move m) v = IsWithinAxes machine.axis_rates (axes_of machine.step m.way) v
-MayMoveAxes machine _ v = Unit {0}
-
--- the greatest of them
+-- the greatest of these rates, up to a million
 abbrev pub rate_where : Bool → ℕ → ℕ
 rate_where moves rate = if moves then rate else MILLION
 
 abbrev pub least_rate : AxisRates → Axes → ℕ
 least_rate rates axes =
     min (rate_where axes.x rates.x) (min (rate_where axes.y rates.y) (rate_where axes.z rates.z))
-
-abbrev pub axes_rate : MachineFile → Way → ℕ
-axes_rate machine way = least_rate machine.axis_rates (axes_of machine.step way)
-
-abbrev pub axes_bound : MachineFile → Action → ℕ
-axes_bound machine (Move m) = axes_rate machine m.way
-axes_bound machine _ = MILLION

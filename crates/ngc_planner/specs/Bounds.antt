@@ -1,11 +1,15 @@
 -- The allowed rates of a tick on a motion, and its target rate. Our own.
 use Rattle.std.specs.Prelude.{◌≡◌, ℕ, ◌*◌, ◌/◌, ◌≤◌, ◌↔◌, min, max, ◌==◌, unsigned_abs}
-use Rattle.std.specs.Prelude.{List, Bool, true, false, if◌then◌else◌}
+use Rattle.std.specs.Prelude.{List, Bool, true, false, if◌then◌else◌, Option, Some, None}
 use Rattle.ngc_fixed_length.specs.Roots.{whole_root}
+use Rattle.ngc_fixed_length.specs.declared.modes.Plane.{Plane}
+use Rattle.ngc_fixed_length.specs.declared.modes.Plane.TheVariants.{XY, ZX, YZ}
 use Rattle.ngc_arc_geometry.specs.Radii.{inner_radius}
 use Rattle.ngc_arc_geometry.specs.Shape.{ArcShape}
 use Rattle.ngc_machine_files.specs.Machine.{MachineFile}
 use Rattle.ngc_machine_files.specs.MachineRanges.{IsMachine}
+use Rattle.ngc_machine_files.specs.declared.machine.AxisLimits.{AxisLimits}
+use Rattle.ngc_machine_files.specs.declared.machine.AxisTurns.{AxisTurns}
 use Rattle.ngc_machine_files.specs.declared.machine.ArcFeed.{ArcFeed}
 use Rattle.ngc_machine_files.specs.declared.machine.ArcFeed.TheVariants as arc_feeds
 use Rattle.ngc_commands.specs.declared.command.Action.{Action}
@@ -14,16 +18,30 @@ use Rattle.ngc_commands.specs.declared.command.Command.{Command}
 use Rattle.ngc_commands.specs.declared.movement.Motion.{Motion}
 use Rattle.ngc_commands.specs.declared.movement.Way.{Way}
 use Rattle.ngc_commands.specs.declared.movement.Way.TheVariants.{Line, Arc}
-use Rattle.ngc_planner.specs.Axes.{MayMoveAxes, axes_bound}
+use Rattle.ngc_planner.specs.Components.{MayMoveAxes, axes_bound, change_of}
 use Rattle.ngc_fixed_length.specs.Limits.{MILLION}
 use Rattle.ngc_planner.specs.Caps.{cap_of}
 use Rattle.ngc_planner.specs.Joints.{joint_at, joint_before}
 
--- on an arc v*v*step is at most the machine's turn times the radius
+-- the turn on an arc: that of the machine, or on a machine with limits of each axis the least of it
+-- and of the turns of the plane's axes
+abbrev pub plane_turn : Plane → AxisTurns → ℕ
+plane_turn XY turns = min turns.x turns.y
+plane_turn ZX turns = min turns.z turns.x
+plane_turn YZ turns = min turns.y turns.z
+
+abbrev pub turn_in : Option AxisLimits → ℕ → Plane → ℕ
+turn_in None turn plane = turn
+turn_in (Some limits) turn plane = min turn (plane_turn plane limits.turns)
+
+abbrev pub arc_turn : MachineFile → ArcShape → ℕ
+arc_turn machine a = turn_in machine.own machine.turn a.plane
+
+-- on an arc v*v*step is at most its turn times the radius
 abbrev pub MayTurnOn : MachineFile → Way → ℕ → Type 0
 MayTurnOn machine (Line b e) v = Unit {0}
 MayTurnOn machine (Arc a) v = v * v * unsigned_abs machine.step
-    ≤ machine.turn * max (inner_radius a) (unsigned_abs machine.step)
+    ≤ arc_turn machine a * max (inner_radius a) (unsigned_abs machine.step)
 
 abbrev pub MayTurn : MachineFile → Action → ℕ → Type 0
 MayTurn machine (Move m) v = MayTurnOn machine m.way v
@@ -32,7 +50,7 @@ MayTurn machine _ v = Unit {0}
 -- the rates of a tick that travels on a motion of n path steps
 pub record IsWithinBounds (machine : MachineFile) (action : Action) (n v : ℕ) : Type 0 where
   pub greatest : v ≤ machine.max_rate
-  pub axes : MayMoveAxes machine action v
+  pub axes : MayMoveAxes machine action n v
   pub feed : v ≤ 2 * cap_of action n machine
   pub turns : MayTurn machine action v
 
@@ -42,28 +60,29 @@ arc_rate turn step a = whole_root (turn * max (inner_radius a) step / step)
 
 abbrev pub turn_rate : MachineFile → Way → ℕ
 turn_rate machine (Line b e) = MILLION
-turn_rate machine (Arc a) = arc_rate machine.turn (unsigned_abs machine.step) a
+turn_rate machine (Arc a) = arc_rate (arc_turn machine a) (unsigned_abs machine.step) a
 
 abbrev pub turn_bound : MachineFile → Action → ℕ
 turn_bound machine (Move m) = turn_rate machine m.way
 turn_bound machine _ = MILLION
 
--- the machine's greatest rate on the axes that a motion may move
-abbrev pub greatest_rate : MachineFile → Action → ℕ
-greatest_rate machine action = min machine.max_rate (axes_bound machine action)
+-- the machine's greatest rate on the axes that a motion of n path steps may move
+abbrev pub greatest_rate : MachineFile → Action → ℕ → ℕ
+greatest_rate machine action n = min machine.max_rate (axes_bound machine action n)
 
 abbrev pub bound_of : MachineFile → Action → ℕ → ℕ
-bound_of machine action n = min (min (greatest_rate machine action) (2 * cap_of action n machine))
+bound_of machine action n = min (min (greatest_rate machine action n) (2 * cap_of action n machine))
     (turn_bound machine action)
 
 -- a cap under an override in percent, at least 1 unless the override is 0
 abbrev pub overridden : ℕ → ℕ → ℕ
 overridden cap percent = if percent == 0 then 0 else max 1 (cap * percent / 100)
 
--- the target rate of a tick of a motion, from a cap and the greatest rate that its turn allows
-abbrev pub aimed_at : MachineFile → Action → ℕ → ℕ → ℕ → ℕ
-aimed_at machine action cap turn percent =
-    min (min (overridden cap percent) (greatest_rate machine action)) turn
+-- the target rate of a tick of a motion of n path steps, from a cap and the greatest rate that its
+-- turn allows
+abbrev pub aimed_at : MachineFile → Action → ℕ → ℕ → ℕ → ℕ → ℕ
+aimed_at machine action n cap turn percent =
+    min (min (overridden cap percent) (greatest_rate machine action n)) turn
 
 -- the machine's turn holds at each place of an arc, and not only where it runs along an axis
 abbrev pub is_turn_by_place : ArcFeed → Bool
@@ -90,12 +109,12 @@ steady_turn machine _ = MILLION
 -- from the cap of a motion of n path steps
 abbrev pub target_at : MachineFile → Action → ℕ → ℕ → ℕ
 target_at machine action n percent =
-    aimed_at machine action (cap_of action n machine) (steady_turn machine action) percent
+    aimed_at machine action n (cap_of action n machine) (steady_turn machine action) percent
 
 -- the least rate of each tick of a motion of n path steps, if its end allows it
 abbrev pub least_travel : MachineFile → Action → ℕ → ℕ
 least_travel machine action n =
-    min (min machine.change machine.corner) (target_at machine action n 1)
+    min (min (change_of machine action n) machine.corner) (target_at machine action n 1)
 
 -- ---- properties of every machine and action
 
@@ -113,7 +132,7 @@ IsGreatestBound =
 pub record IsLeastTravel (machine : MachineFile) (action : Action) (commands : List Command)
     (k n percent : ℕ) : Type 0 where
   pub some : 1 ≤ least_travel machine action n
-  pub change : least_travel machine action n ≤ machine.change
+  pub change : least_travel machine action n ≤ change_of machine action n
   pub target : 1 ≤ percent → least_travel machine action n ≤ target_at machine action n percent
   pub bound : least_travel machine action n ≤ bound_of machine action n
   pub entry : least_travel machine action n ≤ joint_before machine commands k

@@ -1,4 +1,5 @@
 pub mod Axes
+pub mod Components
 pub mod Caps
 pub mod Bounds
 pub mod Headings

@@ -303,7 +303,7 @@ pub fn target_on<A: Allocator>(
 {
     let cap = cap_of(action, n, machine).max(cap_at(action, n, length, position, machine));
     let turn = turn_at(action, position, machine);
-    aimed_at(action, cap, turn, percent, machine)
+    aimed_at(action, n, cap, turn, percent, machine)
 }
 
 fn is_minute_feed(feed: &Feed) -> bool

@@ -1,14 +1,10 @@
-ghost use Rattle.std.specs.Prelude.{◌≡◌, ◌≤◌};
+ghost use Rattle.std.specs.Prelude.{◌≡◌};
 ghost use Rattle.ngc_fixed_length.specs.Length.{IsStep};
-ghost use Rattle.ngc_machine_files.specs.Machine.{file_of};
 ghost use Rattle.ngc_planner.specs.Axes.{differing, with_plane, axes_of, rate_where, least_rate};
-ghost use Rattle.ngc_planner.specs.Axes.{axes_rate};
-ghost use Rattle.ngc_fixed_length.specs.Limits.{MILLION};
 
 use ngc_commands::Way;
 use ngc_fixed_length::{Nm, Plane, StepPos};
-use ngc_machine_files::{AxisRates, Machine};
-use std::alloc::Allocator;
+use ngc_machine_files::AxisRates;
 
 /// The axes that a motion may move.
 #[derive(Clone, Copy)]
@@ -31,7 +27,7 @@ impl Axes {
     }
 
     /// Returns these axes and the two of a plane.
-    fn with_plane(self, plane: Plane) -> Axes
+    pub(crate) fn with_plane(self, plane: Plane) -> Axes
         ensures { result ≡ with_plane plane self }
     {
         match plane {
@@ -54,7 +50,9 @@ impl Axes {
     }
 }
 
-fn axes_of(way: &Way, step: Nm) -> Axes
+/// Returns the axes that a motion along a path may move: those on which the grid points of its ends
+/// differ, and for an arc also the two of its plane.
+pub(crate) fn axes_of(way: &Way, step: Nm) -> Axes
     requires { IsStep step }
     ensures { result ≡ axes_of step way.now }
 {
@@ -73,20 +71,13 @@ fn rate_where(moves: bool, rate: u32) -> u32
     if moves { rate } else { 1_000_000 }
 }
 
-fn least_rate(rates: &AxisRates, axes: Axes) -> u32
+/// Returns the least rate of these axes. If there are none, it returns 1,000,000, which no rate
+/// exceeds.
+pub(crate) fn least_rate(rates: &AxisRates, axes: Axes) -> u32
     ensures { result ≡ least_rate rates.now axes }
 {
     let x = rate_where(axes.x, rates.x);
     let y = rate_where(axes.y, rates.y);
     let z = rate_where(axes.z, rates.z);
     x.min(y.min(z))
-}
-
-/// Returns the least rate of the axes that a motion along a path may move. A line moves those on
-/// which the grid points of its ends differ, an arc also the two of its plane. If there are none,
-/// it returns 1,000,000, which no rate exceeds.
-pub fn axes_rate<A: Allocator>(way: &Way, machine: &Machine<A>) -> u32
-    ensures { result ≡ axes_rate (file_of machine.now) way.now }
-{
-    least_rate(&machine.axis_rates, axes_of(way, machine.step))
 }

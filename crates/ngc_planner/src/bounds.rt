@@ -1,18 +1,18 @@
 ghost use Rattle.std.specs.Prelude.{◌≡◌, ◌≤◌, ◌<◌, ◌^◌};
 ghost use Rattle.ngc_machine_files.specs.Machine.{file_of};
-ghost use Rattle.ngc_planner.specs.Axes.{axes_bound};
+ghost use Rattle.ngc_planner.specs.Components.{axes_bound};
 ghost use Rattle.ngc_fixed_length.specs.Limits.{MILLION};
 ghost use Rattle.ngc_planner.specs.Caps.{STEPS_LIMIT};
-ghost use Rattle.ngc_planner.specs.Bounds.{IsMotion, arc_rate, turn_rate, turn_bound};
+ghost use Rattle.ngc_planner.specs.Bounds.{IsMotion, plane_turn, turn_in, arc_rate, turn_rate, turn_bound};
 ghost use Rattle.ngc_planner.specs.Bounds.{greatest_rate, bound_of, overridden, aimed_at, target_at};
 ghost use Rattle.ngc_planner.specs.Bounds.{is_turn_by_place, diagonal_rate, steady_turn_on, steady_turn};
 
-use crate::axes::axes_rate;
 use crate::caps::cap_of;
+use crate::components::axes_rate;
 use ngc_arc_geometry::Arc;
 use ngc_commands::{Action, Way};
-use ngc_fixed_length::root_floor;
-use ngc_machine_files::{ArcFeed, Machine};
+use ngc_fixed_length::{Plane, root_floor};
+use ngc_machine_files::{ArcFeed, AxisTurns, Machine};
 use std::alloc::Allocator;
 
 /// Returns the greatest rate on an arc, for steps of `step` nanometres.
@@ -26,14 +26,40 @@ fn arc_rate(arc: &Arc, turn: u64, step: u64) -> u64
     root_floor(u128::from(turn) * u128::from(radius) / u128::from(step))
 }
 
-/// Returns the greatest rate that the machine's turn allows on an arc. On a line it returns
+/// Returns the lesser turn of the two axes of a plane.
+fn plane_turn(plane: Plane, turns: &AxisTurns) -> u64
+    ensures { result ≡ plane_turn plane turns.now }
+{
+    match plane {
+        Plane::XY => turns.x.min(turns.y),
+        Plane::ZX => turns.z.min(turns.x),
+        Plane::YZ => turns.y.min(turns.z),
+    }
+}
+
+/// Returns the turn on the arcs of a plane: the machine's, or on a machine with limits of each axis
+/// the least of it and of the turns of the plane's axes.
+fn turn_in<A: Allocator>(plane: Plane, machine: &Machine<A>) -> u64
+    ensures value { result ≡ turn_in machine.now.own machine.now.turn plane }
+    ensures greatest { result ≤ 10 ^ 12 }
+{
+    match &machine.own {
+        None => machine.turn,
+        Some(limits) => machine.turn.min(plane_turn(plane, &limits.turns)),
+    }
+}
+
+/// Returns the greatest rate that the turn allows on an arc. On a line it returns
 /// 1,000,000, which no rate exceeds.
 pub fn turn_rate<A: Allocator>(way: &Way, machine: &Machine<A>) -> u64
     ensures { result ≡ turn_rate (file_of machine.now) way.now }
 {
     match way {
         Way::Line { .. } => 1_000_000,
-        Way::Arc(arc) => arc_rate(arc, machine.turn, machine.step.nanometres().unsigned_abs()),
+        Way::Arc(arc) => {
+            let turn = turn_in(arc.plane(), machine);
+            arc_rate(arc, turn, machine.step.nanometres().unsigned_abs())
+        }
     }
 }
 
@@ -47,26 +73,27 @@ fn turn_bound<A: Allocator>(action: &Action, machine: &Machine<A>) -> u64
     }
 }
 
-/// Returns the least rate of the axes that a motion may move, and 1,000,000 for any other action.
-fn axes_bound<A: Allocator>(action: &Action, machine: &Machine<A>) -> u32
-    ensures { result ≡ axes_bound (file_of machine.now) action.now }
+/// Returns the greatest rate that the axes allow on a motion of `n` path steps, and 1,000,000 for any
+/// other action.
+fn axes_bound<A: Allocator>(action: &Action, n: u64, machine: &Machine<A>) -> u32
+    ensures { result ≡ axes_bound (file_of machine.now) action.now n }
 {
     match action {
-        Action::Move(motion) => axes_rate(&motion.way, machine),
+        Action::Move(motion) => axes_rate(&motion.way, n, machine),
         _ => 1_000_000,
     }
 }
 
-/// Returns the machine's greatest rate on the axes that a motion may move.
-fn greatest_rate<A: Allocator>(action: &Action, machine: &Machine<A>) -> u32
-    ensures value { result ≡ greatest_rate (file_of machine.now) action.now }
+/// Returns the machine's greatest rate on the axes that a motion of `n` path steps may move.
+fn greatest_rate<A: Allocator>(action: &Action, n: u64, machine: &Machine<A>) -> u32
+    ensures value { result ≡ greatest_rate (file_of machine.now) action.now n }
     ensures greatest { result ≤ MILLION }
 {
-    machine.max_rate.min(axes_bound(action, machine))
+    machine.max_rate.min(axes_bound(action, n, machine))
 }
 
 /// Returns the greatest rate of any tick on a motion of `n` path steps, at most 10^9. It is the
-/// least of the machine's greatest rate, the rates of the axes that it may move, twice the feed
+/// least of the machine's greatest rate, the rate that the axes allow, twice the feed
 /// cap, and the rate that the turn on an arc allows. It is 0 for an action that is no motion.
 pub fn bound_of<A: Allocator>(action: &Action, n: u64, machine: &Machine<A>) -> u64
     requires { n ≤ STEPS_LIMIT }
@@ -75,7 +102,7 @@ pub fn bound_of<A: Allocator>(action: &Action, n: u64, machine: &Machine<A>) -> 
     ensures greatest { result ≤ MILLION }
 {
     let twice = 2 * cap_of(action, n, machine);
-    let greatest = u128::from(greatest_rate(action, machine)).min(twice) as u64;
+    let greatest = u128::from(greatest_rate(action, n, machine)).min(twice) as u64;
     greatest.min(turn_bound(action, machine))
 }
 
@@ -136,21 +163,22 @@ fn steady_turn<A: Allocator>(action: &Action, machine: &Machine<A>) -> u64
     }
 }
 
-/// Returns the target rate of a tick on a motion, from a cap, the greatest target that its turn
-/// allows, and an override in percent.
+/// Returns the target rate of a tick on a motion of `n` path steps, from a cap, the greatest target
+/// that its turn allows, and an override in percent.
 pub(crate) fn aimed_at<A: Allocator>(
     action: &Action,
+    n: u64,
     cap: u128,
     turn: u64,
     percent: u8,
     machine: &Machine<A>,
 ) -> u64
     requires { cap < 2 ^ 115 }
-    ensures value { result ≡ aimed_at (file_of machine.now) action.now cap turn percent }
+    ensures value { result ≡ aimed_at (file_of machine.now) action.now n cap turn percent }
     ensures greatest { result ≤ MILLION }
 {
     let wanted = overridden(cap, percent);
-    let greatest = wanted.min(u128::from(greatest_rate(action, machine))) as u64;
+    let greatest = wanted.min(u128::from(greatest_rate(action, n, machine))) as u64;
     greatest.min(turn)
 }
 
@@ -163,5 +191,12 @@ pub fn target_at<A: Allocator>(action: &Action, n: u64, percent: u8, machine: &M
     ensures greatest { result ≤ MILLION }
 {
     let turn = steady_turn(action, machine);
-    aimed_at(action, cap_of(action, n, machine), turn, percent, machine)
+    aimed_at(
+        action,
+        n,
+        cap_of(action, n, machine),
+        turn,
+        percent,
+        machine,
+    )
 }

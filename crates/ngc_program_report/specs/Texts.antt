@@ -1,7 +1,7 @@
 -- The texts of reports of programs. Our own.
 use Rattle.std.specs.Prelude.{◌≡◌, ℕ, List, [], ◌∷◌, ◌++◌, codes, decimal, slice_get, Option, Some}
 use Rattle.std.specs.Prelude.{None, is_some, option_map, flat_map, Bool, true, false}
-use Rattle.std.specs.Prelude.{if◌then◌else◌}
+use Rattle.std.specs.Prelude.{if◌then◌else◌, length, nat_le}
 use Rattle.ngc_margins.specs.Lines.{kept_by, kept_facts, kept_words, nothing_kept}
 use Rattle.ngc_margins.specs.declared.report_lines.Kept.{Kept}
 use Rattle.ngc_origins.specs.Lines.{origins_facts, origins_words}
@@ -139,15 +139,26 @@ abbrev pub is_on : Setting → Bool
 is_on Off = false
 is_on On = true
 
+-- the warning of a program that has no command before its end
+abbrev pub idle_line : Form → List ℕ
+idle_line Words = codes "warning: the program does nothing: it has no command before its end.\n"
+idle_line Json =
+    codes ",\n{\"fact\":\"warning\",\"text\":\"the program does nothing: it has no command before its end\"}"
+
+abbrev pub idle_text : Form → List Command → List ℕ
+idle_text form commands = if nat_le (length commands) 1 then idle_line form else []
+
 -- the warnings for the words of a program's lines; in another language, where they have other
--- meanings, those for the length offsets that they set, and the notes on them
+-- meanings, those of a program that does nothing and for the length offsets that the lines set, and the
+-- notes on them
 abbrev pub language_warnings : Form → Bool → Setup → History → List Command → Option (List Line) →
     SettingNotes → List ℕ
 language_warnings form deletes setup h commands (Some lines) notes =
     word_warnings form deletes setup.machine setup.tools commands lines
 language_warnings form deletes setup h commands None notes =
-    length_warnings form setup.machine h.start h.changes commands
-    ++ notes_text form (notes_at deletes notes)
+    idle_text form commands
+    ++ (length_warnings form setup.machine h.start h.changes commands
+    ++ notes_text form (notes_at deletes notes))
 
 -- the warnings at a setting: for the commands there, for tool changes, for the limits of the tools, for
 -- the words of the program's lines, and for the origins from which it moves

@@ -10,7 +10,8 @@ ghost use Rattle.ngc_dialect_note_texts.specs.Texts.{notes_text};
 ghost use Rattle.ngc_length_warnings.specs.Spelling.{length_warnings};
 ghost use Rattle.ngc_program_report.specs.Reported.{noted_by, notes_at, reported};
 ghost use Rattle.ngc_margins.specs.Lines.{kept_by};
-ghost use Rattle.ngc_program_report.specs.Texts.{accepted_text, duration_text, findings, front_text, is_on, language_warnings, remarks};
+ghost use Rattle.ngc_program_report.specs.Texts.{accepted_text, duration_text, findings, front_text, idle_line};
+ghost use Rattle.ngc_program_report.specs.Texts.{idle_text, is_on, language_warnings, remarks};
 ghost use Rattle.ngc_program_report.specs.Texts.{setting_text, shop_text, takes_line, tool_figures};
 ghost use Rattle.ngc_program_report.specs.Texts.{warnings};
 ghost use Rattle.ngc_program_report.specs.Times.{uses_text};
@@ -112,8 +113,30 @@ fn notes_at<'a>(other: &'a OtherText<'_>, deletes: bool) -> &'a Notes
     if deletes { &other.on } else { &other.off }
 }
 
-// Writes the warnings for the length offsets that a program for another control sets, at a setting of
-// block delete, and the notes on its lines.
+fn idle_line(form: Form) -> &'static [u8]
+    ensures { result.now ≡ idle_line form }
+{
+    match form {
+        Form::Words => b"warning: the program does nothing: it has no command before its end.\n",
+        Form::Json => {
+            b",\n{\"fact\":\"warning\",\"text\":\"the program does nothing: it has no command before its end\"}"
+        }
+    }
+}
+
+// Returns the warning of a program that has no command before its end, or nothing.
+fn idle_text(form: Form, commands: &[Command]) -> &'static [u8]
+    ensures { result.now ≡ idle_text form commands.now }
+{
+    if commands.len() <= 1 {
+        idle_line(form)
+    } else {
+        b""
+    }
+}
+
+// Writes the warnings of a program for another control, at a setting of block delete: that it does
+// nothing, and those for the length offsets that it sets. The notes on its lines follow.
 fn write_other_words<A: Allocator, W: Sink>(
     subject: &Subject<A>,
     other: &OtherText<'_>,
@@ -123,18 +146,20 @@ fn write_other_words<A: Allocator, W: Sink>(
 ) -> Result<(), WriteFault>
     ensures { Writes (W.written output.old) (W.written output.new) (W.failures output.old)
         (W.failures output.new) result
-        (length_warnings subject.now.form (file_of subject.now.machine.now)
+        (idle_text subject.now.form execution.now.commands.now
+        ++ (length_warnings subject.now.form (file_of subject.now.machine.now)
         execution.now.history.now.start execution.now.history.now.changes.items
         execution.now.commands.now
-        ++ notes_text subject.now.form (notes_at deletes (noted_by other.now))) }
+        ++ notes_text subject.now.form (notes_at deletes (noted_by other.now)))) }
 {
     let (form, machine, commands) = (subject.form, subject.machine, execution.commands);
+    write_all(output, idle_text(form, commands))?;
     write_length_warnings(form, machine, execution.history, commands, output)?;
     write_notes(form, notes_at(other, deletes), output)
 }
 
 // Writes the warnings for the words of a program's lines, at a setting of block delete; if the program is
-// for another control, those for the length offsets that they set, and the notes on them.
+// for another control, that it does nothing, those for the length offsets, and the notes on its lines.
 fn write_words<A: Allocator, W: Sink>(
     subject: &Subject<A>,
     deletes: bool,

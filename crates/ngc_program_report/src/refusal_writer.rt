@@ -493,7 +493,8 @@ pub(crate) fn write_all_both<A: Allocator, W: Sink>(
     write_misfit_end(subject, output)
 }
 
-pub(crate) fn refused_line(form: Form) -> &'static [u8]
+/// Returns the line that says that a program is refused.
+pub fn refused_line(form: Form) -> &'static [u8]
     ensures { result.now ≡ refused_line form }
 {
     match form {

@@ -1,5 +1,5 @@
 //! The text before and after the reports of programs.
-ghost use Rattle.std.specs.Prelude.{◌≡◌, ◌≤◌, ◌++◌, [], length, OnOk, OnErr, if◌then◌else◌};
+ghost use Rattle.std.specs.Prelude.{◌≡◌, ◌≤◌, ◌++◌, [], length, OnOk, OnErr, if◌then◌else◌, true};
 ghost use Rattle.std.specs.Io.KnownBytes.{Appends};
 ghost use Rattle.ngc_text.specs.Failures.{CountsFailure};
 ghost use Rattle.ngc_text.specs.Written.{AppendsPrefix};
@@ -185,6 +185,33 @@ pub(crate) fn write_early_heading<W: Sink>(
 {
     let kept = Kept::nothing();
     write_frame(form, origins, &kept, heading, output)
+}
+
+/// Writes the beginning of the report of a program that is refused at a setting of block delete: the
+/// origins that replace those of the machine file, and the setting if it is to be named.
+///
+/// After a fault (902, only if the sink failed) a prefix of the text is written.
+pub fn write_rejection_heading<W: Sink>(
+    form: Form,
+    origins: &Origins,
+    named: bool,
+    setting: Setting,
+    output: &mut W,
+) -> Result<(), WriteFault>
+    ensures ok { OnOk result
+        (Appends (W.written output.old) (W.written output.new)
+        (heading_text form origins.now nothing_kept true named setting)) }
+    ensures fault { OnErr result
+        (AppendsPrefix (W.written output.old) (W.written output.new)
+        (heading_text form origins.now nothing_kept true named setting)) }
+    ensures counts { CountsFailure (W.failures output.old) (W.failures output.new) result }
+{
+    let heading = Heading {
+        first: true,
+        named,
+        setting,
+    };
+    write_early_heading(form, origins, heading, output)
 }
 
 // Says the number of the reported fault, in words with `ngc explain`.

@@ -1,6 +1,9 @@
 -- Sums of lengths: 60 mm + 12.5 mm, -140 mm + 1/2 in. Each term is a whole number of nanometres. Our own.
 use Rattle.std.specs.Prelude.{ℕ, zero, suc, ℤ, ◌+◌, ◌==◌, ◌&&◌, Bool, true, false, nat_lt, ◌+ℤ◌, ◌-ℤ◌, unsigned_abs}
 use Rattle.std.specs.Prelude.{List, [], ◌∷◌, length, take, drop, slice_index, Option, Some, None, Result, Ok, if◌then◌else◌}
+use Rattle.std.specs.Prelude.{◌-◌, ◌||◌, not}
+use Rattle.std.specs.Char.{is_ascii_alphabetic}
+use Rattle.std.specs.List.{prefix_len}
 use Rattle.ngc_quantities.specs.declared.fault.Cause.TheVariants as causes
 use Rattle.ngc_quantities.specs.declared.fault.Fault.{Fault}
 use Rattle.ngc_quantities.specs.declared.unit.Ending.TheVariants as endings
@@ -27,12 +30,34 @@ last_operator (b ∷ rest) =
     if nat_lt 0 later then suc later else (
     if begins_operator (b ∷ rest) then 1 else 0)
 
+-- ---- signs between two lengths that are no operators: -92.7 +12.7 mm, 20 mm+16 mm
+
+-- what is before such a sign: a blank, or a letter of the first length's unit. So 1-1/2 in is no difference
+abbrev pub ends_length : ℕ → Bool
+ends_length b = is_blank b || is_ascii_alphabetic b
+
+abbrev pub is_no_sign : ℕ → Bool
+is_no_sign b = not (is_sign b)
+
+-- the index of the first sign after the first byte; if there is none, it is at least the length
+abbrev pub sign_index : List ℕ → ℕ
+sign_index text = suc (prefix_len is_no_sign (drop 1 text))
+
+abbrev pub loose_sign : List ℕ → Option ℕ
+loose_sign text =
+    if nat_lt (sign_index text) (length text) && ends_length (slice_index text (sign_index text - 1))
+    then Some (sign_index text) else None
+
 -- ---- terms
 
--- a length without operators. If it has no unit, the other unit counts
-unfoldable pub term_in : Option Unit → ℕ → List ℕ → Result Whole Fault
-term_in otherwise at text =
+-- a length without operators and without a sign at this index. If it has no unit, the other unit counts
+unfoldable pub term_by : Option ℕ → Option Unit → ℕ → List ℕ → Result Whole Fault
+term_by (Some index) otherwise at text = fault (number_column at text + index) causes.NoBlanks
+term_by None otherwise at text =
     whole_in (record { kind = kinds.Length; otherwise = otherwise; ending = endings.Nothing }) at text
+
+unfoldable pub term_in : Option Unit → ℕ → List ℕ → Result Whole Fault
+term_in otherwise at text = term_by (loose_sign (unblanked text)) otherwise at text
 
 -- one after an operator, which has no sign of its own
 unfoldable pub later_term : Option Unit → ℕ → List ℕ → Result Whole Fault

@@ -9,6 +9,8 @@ pub enum Cause {
     LongText,
     /// The number is missing or badly written.
     NoNumber,
+    /// A sign between two lengths hasn't a blank on each side. The column is that of the sign.
+    NoBlanks,
     /// The number has 10^12 or more before its point, or more than 12 decimals, or a part of a
     /// fraction is 10^12 or more.
     ManyDigits,

@@ -1,10 +1,11 @@
 //! Sums of lengths.
-ghost use Rattle.std.specs.Prelude.{◌≡◌, ◌≤◌, ◌<◌, ◌+◌, ◌*◌, true, IfOk, drop, length, unsigned_abs};
+ghost use Rattle.std.specs.Prelude.{◌≡◌, ◌≤◌, ◌<◌, ◌+◌, ◌*◌, true, IfOk, IfSome, drop, length, unsigned_abs};
+ghost use Rattle.std.specs.List.{prefix_len};
 ghost use Rattle.ngc_quantities.specs.Sums as spec;
 ghost use Rattle.ngc_quantities.specs.Written.{is_sign};
 
 use crate::fault::{Cause, Fault};
-use crate::text::{begins, blank_count, is_blank, unblanked};
+use crate::text::{begins, blank_count, is_blank, unblanked, without_first};
 use crate::unit::{Ending, Kind, Unit};
 use crate::written::{Wanted, Whole, whole_in};
 
@@ -49,6 +50,76 @@ fn last_operator(text: &[u8]) -> usize
     0
 }
 
+fn ends_length(byte: u8) -> bool
+    ensures { result ≡ spec.ends_length byte }
+{
+    is_blank(byte) || byte.is_ascii_alphabetic()
+}
+
+fn is_no_sign(byte: u8) -> bool
+    ensures { result ≡ spec.is_no_sign byte }
+{
+    !is_sign(byte)
+}
+
+// Returns the number of bytes before the first sign, which is all of them if there is none.
+#[tactic(auto, using(crate::proofs::Counts::counted))]
+fn unsigned_length(text: &[u8]) -> usize
+    ensures count { result ≡ prefix_len spec.is_no_sign text.now }
+    ensures within { result ≤ length text.now }
+{
+    text.iter().take_while(|byte| is_no_sign(**byte)).count()
+}
+
+// Returns the index of the first sign after the first byte, or at least the length if there is none.
+fn sign_index(text: &[u8]) -> usize
+    requires { length text.now ≤ 256 }
+    ensures { result ≡ spec.sign_index text.now }
+{
+    unsigned_length(without_first(text)) + 1
+}
+
+// Returns the index of the first sign if it is between two lengths.
+fn loose_sign(text: &[u8]) -> Option<usize>
+    requires { length text.now ≤ 256 }
+    ensures value { result ≡ spec.loose_sign text.now }
+    ensures within { IfSome result (λ i. i < length text.now) }
+{
+    let index = sign_index(text);
+    if index < text.len() && ends_length(text[index - 1]) {
+        return Some(index);
+    }
+    None
+}
+
+#[tactic(auto, unfolding(crate::specs::Sums::term_by))]
+fn term_by(
+    loose: Option<usize>,
+    otherwise: Option<Unit>,
+    at: usize,
+    text: &[u8],
+) -> Result<Whole, Fault>
+    requires loose { IfSome loose (λ i. i ≤ 256) }
+    requires at { at ≤ 5000 }
+    requires text { length text.now ≤ 256 }
+    ensures value { result ≡ spec.term_by loose otherwise at text.now }
+    ensures bound { IfOk result (λ w. unsigned_abs w.amount ≤ 1000000000000) }
+{
+    if let Some(index) = loose {
+        return Err(Fault {
+            column: at + blank_count(text) + 1 + index,
+            cause: Cause::NoBlanks,
+        });
+    }
+    let wanted = Wanted {
+        kind: Kind::Length,
+        otherwise,
+        ending: Ending::Nothing,
+    };
+    whole_in(&wanted, at, text)
+}
+
+// Returns the length of a term, in which no sign is between two lengths.
 #[tactic(auto, unfolding(crate::specs::Sums::term_in))]
 fn term_in(otherwise: Option<Unit>, at: usize, text: &[u8]) -> Result<Whole, Fault>
     requires at { at ≤ 5000 }
@@ -56,12 +127,8 @@ fn term_in(otherwise: Option<Unit>, at: usize, text: &[u8]) -> Result<Whole, Fau
     ensures value { result ≡ spec.term_in otherwise at text.now }
     ensures bound { IfOk result (λ w. unsigned_abs w.amount ≤ 1000000000000) }
 {
-    let wanted = Wanted {
-        kind: Kind::Length,
-        otherwise,
-        ending: Ending::Nothing,
-    };
-    whole_in(&wanted, at, text)
+    let loose = loose_sign(unblanked(text));
+    term_by(loose, otherwise, at, text)
 }
 
 // Returns a term after an operator, which has no sign of its own.

@@ -39,6 +39,7 @@ fn plain_cause(cause: Cause) -> &'static str {
     match cause {
         Cause::LongText => "long text",
         Cause::NoNumber => "no number",
+        Cause::NoBlanks => "no blanks",
         Cause::ManyDigits => "many digits",
         Cause::ZeroBelow => "over zero",
         Cause::Comma => "comma",

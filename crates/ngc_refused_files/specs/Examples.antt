@@ -94,6 +94,7 @@ ending_example key endings.Belt = codes "\"1.8 deg, 8 microsteps, 20 teeth, 2 mm
 -- what ends the sentence on a cause: an example, or nothing where the complaint says it all
 abbrev pub remedy : Key → Cause → List ℕ
 remedy key causes.ManyDigits = codes ""
+remedy key causes.NoBlanks = codes "\"60 mm + 12.5 mm\""
 remedy key causes.ZeroBelow = codes "\"1/8 in\""
 remedy key causes.FractionUnit = codes "\"1/8 in\""
 remedy key causes.Comma = codes "\"12.5 mm\""

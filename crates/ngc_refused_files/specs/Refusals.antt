@@ -8,6 +8,7 @@ use Rattle.ngc_file_lines.specs.Values.{value_in, token}
 use Rattle.ngc_machine_figures.specs.Keys.{name_of}
 use Rattle.ngc_machine_figures.specs.Words.{bytes_of}
 use Rattle.ngc_machine_figures.specs.declared.key.Key.{Key}
+use Rattle.ngc_machine_figures.specs.declared.key.Key.TheVariants.{Version}
 use Rattle.ngc_machine_figures.specs.declared.key_word.KeyWord.{KeyWord}
 use Rattle.ngc_machine_figures.specs.declared.refusal.FileRefusal.{FileRefusal}
 use Rattle.ngc_machine_figures.specs.declared.refusal.Wrong.{Wrong}
@@ -139,3 +140,11 @@ unfoldable pub refusal_text : List ℕ → List ℕ → FileRefusal → List ℕ
 refusal_text name bytes refusal =
     let line = line_by bytes refusal.key refusal.wrong in
     text_by name refusal line (value_on refusal.key line)
+
+-- ---- the key `version` is missing in a file of version 3
+
+unfoldable pub forgotten : FileRefusal
+forgotten = record { key = Version; wrong = wrongs.Missing }
+
+abbrev pub forgotten_text : List ℕ → List ℕ → List ℕ
+forgotten_text name bytes = refusal_text name bytes forgotten

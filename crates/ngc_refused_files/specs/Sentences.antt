@@ -29,6 +29,7 @@ use Rattle.ngc_refused_files.specs.declared.example.Sample.TheVariants as sample
 abbrev pub complaint : Cause → List ℕ
 complaint causes.LongText = codes "the text is longer than 256 bytes; example: "
 complaint causes.NoNumber = codes "a number is missing or wrong; example: "
+complaint causes.NoBlanks = codes "+ and - need a blank on each side: write it like "
 complaint causes.ManyDigits = codes "a number has too many digits: write at most 12 on each side of the point"
 complaint causes.ZeroBelow = codes "a fraction is over zero; example: "
 complaint causes.Comma = codes "there is a comma too many: write decimals as "

@@ -131,6 +131,7 @@ pub(crate) fn remedy(key: Key, cause: Cause) -> &'static [u8]
 {
     match cause {
         Cause::ManyDigits => b"",
+        Cause::NoBlanks => b"\"60 mm + 12.5 mm\"",
         Cause::ZeroBelow | Cause::FractionUnit => b"\"1/8 in\"",
         Cause::Comma => b"\"12.5 mm\"",
         Cause::OtherEnding(ending) => ending_example(key, ending),

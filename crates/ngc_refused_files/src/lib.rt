@@ -14,4 +14,4 @@ mod place;
 mod refusal;
 mod sentence;
 
-pub use refusal::write_refusal;
+pub use refusal::{write_forgotten, write_refusal};

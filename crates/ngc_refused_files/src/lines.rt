@@ -5,7 +5,7 @@ ghost use Rattle.ngc_file_lines.specs.Search.{numbered};
 ghost use Rattle.ngc_file_lines.specs.Values.{placed};
 ghost use Rattle.ngc_refused_files.specs.Refusals as spec;
 
-use crate::header::{Brackets, Header};
+use crate::header::{Brackets, header_of};
 use crate::place::{Section, line_word, table_of, table_with};
 use ngc_file_lines::{FileLine, Value, key_line, token, value_in};
 use ngc_machine_figures::{Key, KeyWord, Wrong};
@@ -20,7 +20,7 @@ fn line_in<'a>(bytes: &'a [u8], section: Section, key: &[u8]) -> Option<FileLine
 fn header_line<'a>(bytes: &'a [u8], brackets: Brackets, name: &KeyWord) -> Option<FileLine<'a>>
     ensures { option_map numbered result ≡ spec.header_line bytes.now brackets name.now }
 {
-    let header = Header::of(brackets, name);
+    let header = header_of(brackets, name);
     key_line(bytes, header.as_slice(), 1, b"")
 }
 

@@ -12,7 +12,7 @@ use crate::lines::{line_by, mark_of, subject_of, value_on};
 use crate::place::say_place;
 use crate::sentence::say_wrong;
 use ngc_file_lines::{FileLine, Value};
-use ngc_machine_figures::FileRefusal;
+use ngc_machine_figures::{FileRefusal, Key, Wrong};
 use ngc_sentences::{Page, Part, say};
 use ngc_text::{Sink, WriteFault, shown_bytes};
 
@@ -128,4 +128,27 @@ pub fn write_refusal<W: Sink>(
     let mut page = Page::new();
     say_all(name, refusal, line, value, &mut page, sink);
     page.finish(sink)
+}
+
+#[tactic(auto, unfolding(crate::specs::Refusals::forgotten))]
+fn forgotten() -> FileRefusal
+    ensures { result ≡ spec.forgotten }
+{
+    FileRefusal {
+        key: Key::Version,
+        wrong: Wrong::Missing,
+    }
+}
+
+/// Writes that the key `version` is missing in a file of version 3. After a fault (902, only if the
+/// sink failed) a prefix of the text is written.
+pub fn write_forgotten<W: Sink>(name: &[u8], bytes: &[u8], sink: &mut W) -> Result<(), WriteFault>
+    ensures ok { OnOk result (Appends (W.written sink.old) (W.written sink.new)
+        (spec.forgotten_text name.now bytes.now)) }
+    ensures fault { OnErr result (AppendsPrefix (W.written sink.old) (W.written sink.new)
+        (spec.forgotten_text name.now bytes.now)) }
+    ensures counts { CountsFailure (W.failures sink.old) (W.failures sink.new) result }
+{
+    let refusal = forgotten();
+    write_refusal(name, bytes, &refusal, sink)
 }

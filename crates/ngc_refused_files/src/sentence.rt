@@ -18,6 +18,7 @@ fn complaint(cause: Cause) -> &'static [u8]
     match cause {
         Cause::LongText => b"the text is longer than 256 bytes; example: ",
         Cause::NoNumber => b"a number is missing or wrong; example: ",
+        Cause::NoBlanks => b"+ and - need a blank on each side: write it like ",
         Cause::ManyDigits =>
             b"a number has too many digits: write at most 12 on each side of the point",
         Cause::ZeroBelow => b"a fraction is over zero; example: ",

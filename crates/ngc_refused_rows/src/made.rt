@@ -23,9 +23,10 @@ const KEYS: [Key; 8] = [
 ];
 
 // What may be wrong with any of them.
-const CAUSES: [Cause; 10] = [
+const CAUSES: [Cause; 11] = [
     Cause::LongText,
     Cause::NoNumber,
+    Cause::NoBlanks,
     Cause::ManyDigits,
     Cause::ZeroBelow,
     Cause::Comma,

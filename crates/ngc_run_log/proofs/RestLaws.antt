@@ -5,6 +5,7 @@ use Rattle.std.proofs.lemmas.Bool.Decides.{nat_tests}
 use Rattle.std.proofs.Math.Nat.{suc-mul}
 use Rattle.std.proofs.lemmas.List.{append_assoc, append-nil, replicate_more}
 use Rattle.ngc_commands.specs.declared.command.Command.{Command}
+use Rattle.ngc_commands.specs.declared.command.Action.TheVariants.{End}
 use Rattle.ngc_events.specs.declared.event.Event.{Event}
 use Rattle.ngc_events.specs.declared.event.Event.TheVariants.{Hold, Load, Tick}
 use Rattle.ngc_events.specs.declared.event.EventLine.{EventLine}
@@ -12,7 +13,11 @@ use Rattle.ngc_events.specs.declared.event_fault.EventFault.TheVariants.{RingFul
 use Rattle.ngc_events.specs.declared.reply.Reply.TheVariants.{Loaded}
 use Rattle.ngc_fixed_length.specs.LinePath.{point}
 use Rattle.ngc_fixed_length.specs.declared.points.StepPos.{StepPos}
-use Rattle.ngc_machine_model.specs.State.{Job, Queued, State, command_at, loaded, millionths, path_steps}
+use Rattle.ngc_machine_files.specs.Machine.{MachineFile}
+use Rattle.ngc_machine_files.specs.MachineRanges.{IsMachine}
+use Rattle.ngc_planner.specs.Components as planner
+use Rattle.ngc_planner.proofs.ComponentLaws.{least_changes}
+use Rattle.ngc_machine_model.specs.State.{Job, Queued, State, command_at, loaded, millionths, path_steps, change_of, least_change}
 use Rattle.ngc_machine_model.specs.RateRules.{target}
 use Rattle.ngc_machine_model.specs.Run.{Run}
 use Rattle.ngc_machine_model.specs.Step.{LoadCommand, MayTake, Outcome, Rests, Serves, Step, TickBy, Travels, moved_by, place_after, without_head}
@@ -27,12 +32,12 @@ use Rattle.ngc_text.specs.declared.writing.WriteFault.{WriteFault}
 
 -- ---- a tick of a held machine
 
--- the machine is held, and brakes by its change or stands
+-- the machine is held, and brakes by at least its least change or stands
 pub record Slows (job : Job) (s t : State) : Type 0 where
   pub held : t.held ≡ true
-  pub slower : t.rate ≤ s.rate - job.machine.change
+  pub slower : t.rate ≤ s.rate - least_change job
 
-rests : (job : Job) (s : State) (o : Outcome) (t : State) → s.held ≡ true → Rests job s o t → Slows job s t
+rests : (job : Job) (s : State) (o : Outcome) (t : State) → s.held ≡ true → Rests s o t → Slows job s t
 rests job s o t held p = record {
   held = ap (λ (k : State). k.held) p.stands ∙ held;
   slower = omega (arith, ap (λ (k : State). k.rate) p.stands);
@@ -42,32 +47,41 @@ moved_held : (b : Bool) (over further : ℕ) (there : State) → (if b then with
 moved_held true over further there = refl
 moved_held false over further there = refl
 
-still_held : (l : Queued) (s : State) (v : ℕ) → (moved_by l s v).held ≡ s.held
-still_held l s v =
+still_held : (job : Job) (l : Queued) (s : State) (v : ℕ) → (moved_by job l s v).held ≡ s.held
+still_held job l s v =
     moved_held (nat_le (millionths l) (s.travelled + v)) (s.travelled + v - millionths l) (s.travelled + v)
-    (record s { rate = v; position = point l.path (place_after l s v) })
+    (record s { rate = v; change = change_of job l; position = point l.path (place_after l s v) })
 
 no_target : (job : Job) (l : Queued) (s : State) → s.held ≡ true → target job l s ≡ 0
 no_target job l s held = rw held
 
-travels : (job : Job) (l : Queued) (ls : List Queued) (s : State) (o : Outcome) (t : State) → s.held ≡ true → Travels job l ls s o t → Slows job s t
-travels job l ls s o t held p = record {
-  held = ap (λ (k : State). k.held) p.goes_on ∙ still_held l s t.rate ∙ held;
-  slower = omega (arith, p.may.aims, no_target job l s held);
-}
+travels : (job : Job) (l : Queued) (ls : List Queued) (s : State) (o : Outcome) (t : State) → IsMachine job.machine → s.held ≡ true →
+    Travels job l ls s o t → Slows job s t
+travels job l ls s o t machine held p =
+    let least = least_changes job.machine l.command.action (path_steps l) machine in
+    record {
+      held = ap (λ (k : State). k.held) p.goes_on ∙ still_held job l s t.rate ∙ held;
+      slower = omega (arith, p.may.aims, no_target job l s held, least.least);
+    }
 
 held_branch : (P Q : Type 0) (b : Bool) → b ≡ true → MatchBool b P Q → P
 held_branch P Q b is p = subst (λ c. MatchBool c P Q) is p
 
-by_steps : (b : Bool) (job : Job) (l : Queued) (ls : List Queued) (s : State) (o : Outcome) (t : State) → s.held ≡ true →
-    MatchBool b (Travels job l ls s o t) (MatchBool s.held (Rests job s o t) (Serves job l.command.action s o t)) → Slows job s t
-by_steps true job l ls s o t held p = travels job l ls s o t held p
-by_steps false job l ls s o t held p = rests job s o t held (held_branch _ _ s.held held p)
+by_steps : (b : Bool) (job : Job) (l : Queued) (ls : List Queued) (s : State) (o : Outcome) (t : State) → IsMachine job.machine →
+    s.held ≡ true →
+    MatchBool b (Travels job l ls s o t) (MatchBool s.held (Rests s o t) (Serves job l.command.action s o t)) → Slows job s t
+by_steps true job l ls s o t machine held p = travels job l ls s o t machine held p
+by_steps false job l ls s o t machine held p = rests job s o t held (held_branch _ _ s.held held p)
 
-by_tick : (stopped : Bool) (ring : List Queued) (job : Job) (s : State) (o : Outcome) (t : State) → s.held ≡ true → TickBy job stopped ring s o t → Slows job s t
-by_tick true ring job s o t held p = rests job s o t held p
-by_tick false [] job s o t held p = rests job s o t held p
-by_tick false (l ∷ ls) job s o t held p = by_steps (nat_lt 0 (path_steps l)) job l ls s o t held p
+by_tick : (stopped : Bool) (ring : List Queued) (job : Job) (s : State) (o : Outcome) (t : State) → IsMachine job.machine → s.held ≡ true →
+    TickBy job stopped ring s o t → Slows job s t
+by_tick true ring job s o t machine held p = rests job s o t held p
+by_tick false [] job s o t machine held p = rests job s o t held p
+by_tick false (l ∷ ls) job s o t machine held p = by_steps (nat_lt 0 (path_steps l)) job l ls s o t machine held p
+
+-- the least change is at least 1
+pub least_change_some : (m : MachineFile) → IsMachine m → 1 ≤ planner.least_change m
+least_change_some m machine = (least_changes m End 0 machine).some
 
 -- ---- with the loads that come before it
 
@@ -81,11 +95,11 @@ loads (Some c) job s o t p = by_room (nat_lt (length s.ring) job.machine.ring) p
   by_room false p = (ap (λ (k : State). k.held) p.1, ap (λ (k : State). k.rate) p.1)
 
 sent_tick : (feeds : Bool) (job : Job) (s : State) (given : List Event) (os : List Outcome) (xs : List State) → AreSent feeds job s (Tick ∷ []) given xs →
-    Run job s given os xs → s.held ≡ true → Slows job s (last_state s xs)
-sent_tick feeds job s [] os xs p r held = absurd p
-sent_tick feeds job s (g ∷ given) os [] p r held = absurd p
-sent_tick feeds job s (g ∷ given) [] (x ∷ xs) p r held = absurd r
-sent_tick feeds job s (g ∷ given) (o ∷ os) (x ∷ xs) p r held = by_load (λ q now. sent_tick feeds job x given os xs q r.1 now) (loads_first feeds job s Tick) p where
+    Run job s given os xs → IsMachine job.machine → s.held ≡ true → Slows job s (last_state s xs)
+sent_tick feeds job s [] os xs p r machine held = absurd p
+sent_tick feeds job s (g ∷ given) os [] p r machine held = absurd p
+sent_tick feeds job s (g ∷ given) [] (x ∷ xs) p r machine held = absurd r
+sent_tick feeds job s (g ∷ given) (o ∷ os) (x ∷ xs) p r machine held = by_load (λ q now. sent_tick feeds job x given os xs q r.1 machine now) (loads_first feeds job s Tick) p where
   after_load : (AreSent feeds job x (Tick ∷ []) given xs → x.held ≡ true → Slows job x (last_state x xs)) →
       (g ≡ Load) × AreSent feeds job x (Tick ∷ []) given xs → Slows job s (last_state x xs)
   after_load later p =
@@ -94,7 +108,7 @@ sent_tick feeds job s (g ∷ given) (o ∷ os) (x ∷ xs) p r held = by_load (λ
       record { held = rest.held; slower = omega (arith, rest.slower, now.1) }
 
   after_tick : (given : List Event) (xs : List State) → (g ≡ Tick) × AreSent feeds job x [] given xs → Slows job s (last_state x xs)
-  after_tick [] [] p = by_tick s.stopped s.ring job s o x held (subst (λ (e : Event). Step job s e o x) p.0 r.0)
+  after_tick [] [] p = by_tick s.stopped s.ring job s o x machine held (subst (λ (e : Event). Step job s e o x) p.0 r.0)
   after_tick [] (y ∷ ys) p = absurd p.1
   after_tick (h ∷ hs) ys p = absurd p.1
 
@@ -104,9 +118,9 @@ sent_tick feeds job s (g ∷ given) (o ∷ os) (x ∷ xs) p r held = by_load (λ
   by_load later true p = after_load later p
   by_load later false p = after_tick given xs p
 
-pub tick_slows : (feeds : Bool) (job : Job) (s t : State) → Processes feeds job s t (replicate 1 Tick) → s.held ≡ true → Slows job s t
-tick_slows feeds job s t p held =
-    subst (λ (k : State). Slows job s k) (sym p.stretch.last) (sent_tick feeds job s p.given p.outcomes p.stretch.states p.are_sent p.stretch.runs held)
+pub tick_slows : (feeds : Bool) (job : Job) (s t : State) → Processes feeds job s t (replicate 1 Tick) → IsMachine job.machine → s.held ≡ true → Slows job s t
+tick_slows feeds job s t p machine held =
+    subst (λ (k : State). Slows job s k) (sym p.stretch.last) (sent_tick feeds job s p.given p.outcomes p.stretch.states p.are_sent p.stretch.runs machine held)
 
 -- ---- a hold
 
@@ -176,7 +190,7 @@ hold_first lines ticks = append_assoc lines (record { event = Hold; times = 1 } 
 -- ---- the result
 
 pub rests_already : (form : LiveForm) (live : LiveData) (lines : List EventLine) (first now : Option (List ℕ)) → live.state.rate ≡ 0 →
-    1 ≤ live.job.machine.change → HasRun form live lines first now → ComesToRest form live.state live lines first now
+    1 ≤ least_change live.job → HasRun form live lines first now → ComesToRest form live.state live lines first now
 rests_already form live lines first now still some h = record {
   ticks = 0;
   has_run = subst (λ l. HasRun form live l first now) (sym (ap (λ (m : List EventLine). lines ++ m) (still_stops live.state 0 still) ∙ append-nil lines)) h;
@@ -185,7 +199,7 @@ rests_already form live lines first now still some h = record {
 }
 
 pub came_to_rest : (form : LiveForm) (s : State) (live : LiveData) (change from : ℕ) (lines whole : List EventLine) (first now : Option (List ℕ)) (ticks : ℕ) →
-    0 < s.rate → from ≡ s.rate → live.job.machine.change ≡ change → whole ≡ lines ++ braking ticks → HasSlowed ticks change from live.state.rate →
+    0 < s.rate → from ≡ s.rate → least_change live.job ≡ change → whole ≡ lines ++ braking ticks → HasSlowed ticks change from live.state.rate →
     live.state.rate ≡ 0 → HasRun form live whole first now → ComesToRest form s live lines first now
 came_to_rest form s live change from lines whole first now ticks moves start same are slowed still h = record {
   ticks = ticks;

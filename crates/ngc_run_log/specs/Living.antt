@@ -18,7 +18,7 @@ use Rattle.ngc_events.specs.declared.event.Event.TheVariants.{Hold, Tick}
 use Rattle.ngc_events.specs.declared.event.EventLine.{EventLine}
 use Rattle.ngc_events.specs.declared.fault.EventsFault.{EventsFault}
 use Rattle.ngc_machine_model.specs.Headline.{RunsInTime, RunsSafely}
-use Rattle.ngc_machine_model.specs.State.{Job, State, opening}
+use Rattle.ngc_machine_model.specs.State.{Job, State, opening, least_change}
 use Rattle.ngc_machine_model.specs.Step.{Outcome}
 use Rattle.ngc_machine_model.specs.Run.{events_of}
 use Rattle.ngc_machine_model.specs.Safety.{start_of_job}
@@ -243,13 +243,13 @@ abbrev pub stopping : State → ℕ → List EventLine
 stopping s ticks = if s.rate == 0 then [] else braking ticks
 
 -- The machine was stopped after these lines, which led to this state. It is at rest, it braked by
--- the machine's change in each tick, and its run is that over these lines and the stopping ones.
+-- at least the least change in each tick, and its run is that over these lines and the stopping ones.
 pub record ComesToRest (form : LiveForm) (s : State) (live : LiveData) (lines : List EventLine)
     (first now : Option (List ℕ)) : Type 0 where
   pub ticks : ℕ
   pub has_run : HasRun form live (lines ++ stopping s ticks) first now
   pub at_rest : live.state.rate ≡ 0
-  pub brief : ticks * live.job.machine.change < s.rate + live.job.machine.change
+  pub brief : ticks * least_change live.job < s.rate + least_change live.job
 
 -- a write failed while it was stopped
 pub record IsCutStop (form : LiveForm) (s : State) (live : LiveData) (lines : List EventLine)

@@ -25,7 +25,7 @@ use Rattle.ngc_machine_model.proofs.TestCases.{match_with}
 use Rattle.ngc_machine_model.proofs.SafeRun.{RingFits}
 use Rattle.ngc_machine_model.proofs.RatesOfRun.{Fits, after_stays, event_keeps}
 use Rattle.ngc_machine_model.proofs.Travel.{moved}
-use Rattle.ngc_machine_model.proofs.PulseRules.{IsOnHead, WalksIn, head_path, tick_both, waits, rate_bounds, opening_walks}
+use Rattle.ngc_machine_model.proofs.PulseRules.{IsOnHead, WalksIn, head_path, tick_both, waits, rate_most, opening_walks}
 use Rattle.ngc_pulses.specs.Dumping.{pulses_over}
 use Rattle.ngc_motors.specs.Counts.{MotorData, counts}
 use Rattle.ngc_machine_files.specs.Machine.{motors_of}
@@ -46,7 +46,7 @@ record Prints (old : State) (o : Outcome) (new : State) : Type 0 where
 
 -- ---- a tick
 
-rests_tell : (job : Job) (old : State) (o : Outcome) (new : State) → Rests job old o new → Prints old o new
+rests_tell : (job : Job) (old : State) (o : Outcome) (new : State) → Rests old o new → Prints old o new
 rests_tell job old o new r = record { position = None; ended = None; says = r.quiet; leads = ap (λ (s : State). s.position) r.stands }
 
 by_pulse : (b : Bool) (path : List StepPos) (i k : ℕ) (p q : StepPos) → p ≡ point path i → q ≡ point path k → (b ≡ false → k ≡ i) →
@@ -72,7 +72,7 @@ travels_tell job l ls old o new e f some walks t =
           omega (arith, few, f, some)));
     }
 
-finish_tells : (job : Job) (a : Action) (old : State) (o : Outcome) (new : State) → Finishes job a old o new → Prints old o new
+finish_tells : (job : Job) (a : Action) (old : State) (o : Outcome) (new : State) → Finishes a old o new → Prints old o new
 finish_tells job a old o new f =
     let kept = after_stays a (record (without_head 0 old) { rate = 0 }) in
     record {
@@ -86,12 +86,12 @@ head_tells : (job : Job) (l : Queued) (ls : List Queued) (old : State) (o : Outc
     WalksIn job old → HeadTick job l ls old o new → Prints old o new
 head_tells job l ls old o new e f walks t =
     elim (match_with (nat_lt 0 (path_steps l)) (Travels job l ls old o new)
-    (MatchBool old.held (Rests job old o new) (Serves job l.command.action old o new)) t) [
+    (MatchBool old.held (Rests old o new) (Serves job l.command.action old o new)) t) [
       | inl b ↦ travels_tell job l ls old o new e f (ltb-true 0 (path_steps l) b.0) walks b.1
-      | inr b ↦ elim (match_with old.held (Rests job old o new) (Serves job l.command.action old o new) b.1) [
+      | inr b ↦ elim (match_with old.held (Rests old o new) (Serves job l.command.action old o new) b.1) [
         | inl r ↦ rests_tell job old o new r.1
-        | inr r ↦ elim (match_with (nat_lt (suc old.dwelt) (ticks_of job l.command.action)) (Dwells job old o new)
-            (Finishes job l.command.action old o new) r.1) [
+        | inr r ↦ elim (match_with (nat_lt (suc old.dwelt) (ticks_of job l.command.action)) (Dwells old o new)
+            (Finishes l.command.action old o new) r.1) [
               | inl d ↦ record { position = None; ended = None; says = d.1.quiet; leads = ap (λ (s : State). s.position) d.1.counts }
               | inr d ↦ finish_tells job l.command.action old o new d.1
             ]
@@ -199,8 +199,7 @@ still_walking job old e o new n w t =
 tick_walking : (job : Job) (old : State) (o : Outcome) (new : State) → Walking job old → Step job old Tick o new → Walking job new
 tick_walking job old o new w t =
     let k = event_keeps job old Tick o new w.slow w.fits t in
-    let b = rate_bounds job old.ring old new.rate k.0 in
-    let most = b.0 in
+    let most = rate_most job old.ring old new.rate k.0 in
     record { slow = w.slow; fits = k.1; walks = (tick_both job old.stopped old.ring old o new refl w.fits (omega (arith, most, w.slow)) w.walks t).1 }
 
 run_counts : (m : MotorData) (job : Job) (old : State) (es : List Event) (os : List Outcome) (xs : List State) → Walking job old → Run job old es os xs →

@@ -18,7 +18,7 @@ use Rattle.ngc_events.specs.declared.event.Event.TheVariants.{Tick}
 use Rattle.ngc_events.specs.declared.reply.Ending.{Ending}
 use Rattle.ngc_events.specs.declared.reply.Ending.TheVariants.{Done, Stopped, End}
 use Rattle.ngc_events.specs.declared.reply.Reply.TheVariants.{Ticked}
-use Rattle.ngc_machine_model.specs.State.{Job, Queued, State, path_steps, millionths}
+use Rattle.ngc_machine_model.specs.State.{Job, Queued, State, path_steps, millionths, change_of}
 use Rattle.ngc_machine_model.specs.Reach.{rest}
 use Rattle.ngc_machine_model.specs.Step.{Outcome, Step, MayTake, Rests, Finishes, Dwells, Serves, Travels, HeadTick, TickBy, without_head, after, ending, pulse}
 use Rattle.ngc_machine_model.specs.Step.{place_after, ticks_of}
@@ -65,16 +65,16 @@ least_some job l m take some =
     (may_travel_least job.machine l.command.action job.commands 0 (path_steps l) 1 m (moves job l.command.action l.path take (omega (arith, some)))).some
 
 -- the rest of a motion of `x` millionths after a tick of rate `v`
-goes_by : (ring : List Queued) (old new : State) (o : Outcome) (v x m : ℕ) (p : Option StepPos) (q : StepPos) (e : Ending) (b : Bool) →
+goes_by : (ring : List Queued) (old new : State) (o : Outcome) (v c x m : ℕ) (p : Option StepPos) (q : StepPos) (e : Ending) (b : Bool) →
     is_stop e ≡ false → old.stopped ≡ false → x ≤ STEPS_LIMIT * MILLION → MILLION ≤ x → v ≤ MILLION → old.travelled ≤ STEPS_LIMIT * MILLION → 1 ≤ m →
     min m (x - old.travelled) ≤ v →
     (b ≡ false → old.travelled + v < x) →
     ReportsBy (Some e) ring (o ∷ []) →
     o ≡ Ok (Ticked p (if b then Some e else None)) →
-    new ≡ (if b then without_head (old.travelled + v - x) (record old { rate = v; position = q })
-    else record old { rate = v; position = q; travelled = old.travelled + v }) →
+    new ≡ (if b then without_head (old.travelled + v - x) (record old { rate = v; change = c; position = q })
+    else record old { rate = v; change = c; position = q; travelled = old.travelled + v }) →
     Goes ring old o new
-goes_by ring old new o v x m p q e true quiet runs long some small far least go short tells says is =
+goes_by ring old new o v c x m p q e true quiet runs long some small far least go short tells says is =
     let t : new.travelled ≡ old.travelled + v - x = ap (λ (s : State). s.travelled) is in
     record {
       position = p;
@@ -87,7 +87,7 @@ goes_by ring old new o v x m p q e true quiet runs long some small far least go 
       left = (ap (λ (s : State). s.done) is, ap (λ (s : State). s.ring) is);
       tells = tells;
     }
-goes_by ring old new o v x m p q e false quiet runs long some small far least go short tells says is =
+goes_by ring old new o v c x m p q e false quiet runs long some small far least go short tells says is =
     let t : new.travelled ≡ old.travelled + v = ap (λ (s : State). s.travelled) is in
     let d : new.dwelt ≡ old.dwelt = ap (λ (s : State). s.dwelt) is in
     let less = short refl in
@@ -122,7 +122,7 @@ travel_goes job l ls old o new m take short far runs some go t =
     let fast : v ≤ job.machine.max_rate = t.may.rules.within.greatest in
     let max : job.machine.max_rate ≤ MILLION = m.max_rate.greatest in
     let motion = moves job l.command.action l.path take (omega (arith, some)) in
-    goes_by (l ∷ ls) old new o v (millionths l) (least_travel job.machine l.command.action (path_steps l)) (pulse l old v) (point l.path (place_after l old v))
+    goes_by (l ∷ ls) old new o v (change_of job l) (millionths l) (least_travel job.machine l.command.action (path_steps l)) (pulse l old v) (point l.path (place_after l old v))
     (ending l.command.action old) (nat_le (millionths l) (old.travelled + v))
     (motion_runs l.command.action old motion) runs (omega (arith, short)) (omega (arith, some)) (omega (arith, fast, max)) far (least_some job l m take some) go
     (λ b. (let less : old.travelled + v < millionths l = grind (arith, nat_tests) in less))
@@ -131,7 +131,7 @@ travel_goes job l ls old o new m take short far runs some go t =
 -- ---- an action without a path
 
 dwell_goes : (job : Job) (ring : List Queued) (old : State) (o : Outcome) (new : State) → old.travelled ≤ STEPS_LIMIT * MILLION → old.stopped ≡ false →
-    Dwells job old o new → Goes ring old o new
+    Dwells old o new → Goes ring old o new
 dwell_goes job ring old o new far runs d =
     let t : new.travelled ≡ old.travelled = ap (λ (s : State). s.travelled) d.counts in
     let more : new.dwelt ≡ suc old.dwelt = ap (λ (s : State). s.dwelt) d.counts in
@@ -170,7 +170,7 @@ stop_tells actions.OptionalStop s t runs switch = switch ∙ by_switch s.stop_sw
 stop_tells _ s t runs switch = runs
 
 finish_goes : (job : Job) (l : Queued) (ls : List Queued) (old : State) (o : Outcome) (new : State) → old.stopped ≡ false →
-    Finishes job l.command.action old o new → Goes (l ∷ ls) old o new
+    Finishes l.command.action old o new → Goes (l ∷ ls) old o new
 finish_goes job l ls old o new runs f =
     let a = l.command.action in
     let there : State = record (without_head 0 old) { rate = 0 } in
@@ -198,13 +198,13 @@ head_goes job l ls old o new u is runs g t =
     let path = subst (AllByRecursion (λ (k : Queued). MayTake job k.command.action k.path)) is u.paths in
     let short = subst (AllByRecursion (λ (k : Queued). path_steps k ≤ STEPS_LIMIT)) is u.short in
     elim (match_with (nat_lt 0 (path_steps l)) (Travels job l ls old o new)
-    (MatchBool old.held (Rests job old o new) (Serves job l.command.action old o new)) t) [
+    (MatchBool old.held (Rests old o new) (Serves job l.command.action old o new)) t) [
       | inl b ↦ (let some : 0 < path_steps l = ltb-true 0 (path_steps l) b.0 in
           travel_goes job l ls old o new u.machine path.0 short.0 u.travelled runs some (g (is_free job old u runs) some) b.1)
-      | inr b ↦ elim (match_with old.held (Rests job old o new) (Serves job l.command.action old o new) b.1) [
+      | inr b ↦ elim (match_with old.held (Rests old o new) (Serves job l.command.action old o new) b.1) [
         | inl r ↦ absurd (let e : true ≡ false = sym r.0 ∙ u.not_held in cc)
-        | inr r ↦ elim (match_with (nat_lt (suc old.dwelt) (ticks_of job l.command.action)) (Dwells job old o new)
-            (Finishes job l.command.action old o new) r.1) [
+        | inr r ↦ elim (match_with (nat_lt (suc old.dwelt) (ticks_of job l.command.action)) (Dwells old o new)
+            (Finishes l.command.action old o new) r.1) [
               | inl d ↦ dwell_goes job (l ∷ ls) old o new u.travelled runs d.1
               | inr d ↦ finish_goes job l ls old o new runs d.1
             ]

@@ -11,7 +11,7 @@ use Rattle.ngc_events.specs.declared.reply.Reply.TheVariants.{Ticked}
 use Rattle.ngc_machine_model.proofs.TestCases.{match_with}
 use Rattle.ngc_machine_model.specs.Progress.{KeepGoing}
 use Rattle.ngc_machine_model.specs.Run.{Run}
-use Rattle.ngc_machine_model.specs.State.{Job, Queued, State, path_steps, millionths}
+use Rattle.ngc_machine_model.specs.State.{Job, Queued, State, path_steps, millionths, change_of}
 use Rattle.ngc_machine_model.specs.Step.{TickBy, HeadTick, Travels, Rests, Serves, Dwells, Finishes, ticks_of, without_head, pulse, ending, place_after}
 use Rattle.ngc_machine_model.specs.Stretch.{last_state, Stretch}
 use Rattle.ngc_controller.specs.Controller.{ControllerData}
@@ -39,25 +39,25 @@ moved_dwelt false s t there over further p e says same is = let d : t.dwelt ≡ 
 travel_dwelt : (job : Job) (l : Queued) (ls : List Queued) (s t : State) → Travels job l ls s quiet t → s.dwelt ≤ t.dwelt
 travel_dwelt job l ls s t go =
     let v = t.rate in
-    moved_dwelt (nat_le (millionths l) (s.travelled + v)) s t (record s { rate = v; position = point l.path (place_after l s v) })
+    moved_dwelt (nat_le (millionths l) (s.travelled + v)) s t (record s { rate = v; change = change_of job l; position = point l.path (place_after l s v) })
     (s.travelled + v - millionths l) (s.travelled + v)
     (pulse l s v) (ending l.command.action s) go.says refl go.goes_on
 
-rest_dwelt : (job : Job) (s t : State) → Rests job s quiet t → s.dwelt ≤ t.dwelt
+rest_dwelt : (job : Job) (s t : State) → Rests s quiet t → s.dwelt ≤ t.dwelt
 rest_dwelt job s t r = let d : t.dwelt ≡ s.dwelt = ap (λ (x : State). x.dwelt) r.stands in omega (arith, d)
 
 serve_dwelt : (job : Job) (l : Queued) (s t : State) → Serves job l.command.action s quiet t → s.dwelt ≤ t.dwelt
 serve_dwelt job l s t serves =
-    elim (match_with (nat_lt (suc s.dwelt) (ticks_of job l.command.action)) (Dwells job s quiet t) (Finishes job l.command.action s quiet t) serves) [
+    elim (match_with (nat_lt (suc s.dwelt) (ticks_of job l.command.action)) (Dwells s quiet t) (Finishes l.command.action s quiet t) serves) [
       | inl d ↦ (let more : t.dwelt ≡ suc s.dwelt = ap (λ (x : State). x.dwelt) (d.1).counts in omega (arith, more))
       | inr f ↦ absurd (let never = no_end None (Some (ending l.command.action s)) (f.1).says in cc)
     ]
 
 head_dwelt : (job : Job) (l : Queued) (ls : List Queued) (s t : State) → HeadTick job l ls s quiet t → s.dwelt ≤ t.dwelt
 head_dwelt job l ls s t h =
-    elim (match_with (nat_lt 0 (path_steps l)) (Travels job l ls s quiet t) (MatchBool s.held (Rests job s quiet t) (Serves job l.command.action s quiet t)) h) [
+    elim (match_with (nat_lt 0 (path_steps l)) (Travels job l ls s quiet t) (MatchBool s.held (Rests s quiet t) (Serves job l.command.action s quiet t)) h) [
       | inl go ↦ travel_dwelt job l ls s t go.1
-      | inr more ↦ elim (match_with s.held (Rests job s quiet t) (Serves job l.command.action s quiet t) more.1) [
+      | inr more ↦ elim (match_with s.held (Rests s quiet t) (Serves job l.command.action s quiet t) more.1) [
         | inl r ↦ rest_dwelt job s t r.1
         | inr serves ↦ serve_dwelt job l s t serves.1
       ]

@@ -35,6 +35,9 @@ told_none fails bytes files old new why none same = subst (ReportsIfUnread fails
 pub of_ok : {X Y : Type 0} (P : X → Type 0) (Q : Y → Type 0) (r : Result X Y) (x : X) → r ≡ Ok x → MatchResult r P Q → P x
 of_ok {X} {Y} P Q r x is holds = subst (λ (y : Result X Y). MatchResult y P Q) is holds
 
+pub of_err : {X Y : Type 0} (P : X → Type 0) (Q : Y → Type 0) (r : Result X Y) (e : Y) → r ≡ Err e → MatchResult r P Q → Q e
+of_err {X} {Y} P Q r e is holds = subst (λ (y : Result X Y). MatchResult y P Q) is holds
+
 -- the plain lines of what was executed
 pub are_plain : {A : Type 0} (d : Dialect) (setup : Setup) (block_delete : Bool) (source text : List ℕ) (t : Traced A) (lines : Vec (KeptLine A) A) →
     text ≡ source → IsTraced everything d setup block_delete text t → t.lines ≡ Some lines

@@ -1,6 +1,6 @@
 -- The result of certifying a program, from what is written of its plans.
-use Rattle.std.proofs.Common.{◌≡◌, ◌∙◌, ℕ, List, Option, true, Ok, Err, refl, ap, ap₂, subst, sym}
-use Rattle.std.specs.Prelude.{Result}
+use Rattle.std.proofs.Common.{◌≡◌, ◌∙◌, ℕ, ℤ, List, Option, Some, None, true, false, Ok, Err, refl, ap, ap₂, subst, sym}
+use Rattle.std.specs.Prelude.{IfOk, MatchResult, Result, is_some}
 use Rattle.std.specs.Io.KnownBytes.{Appends}
 use Rattle.ngc_text.specs.Written.{AppendsPrefix}
 use Rattle.ngc_text.specs.declared.writing.WriteFault.{WriteFault}
@@ -13,20 +13,52 @@ use Rattle.ngc_certificate_text.specs.Joined.{Item, Parted, Joined, IsJoined}
 use Rattle.ngc_certificate_text.specs.JoinedFirst.{joined_first}
 use Rattle.ngc_certificate_text.specs.Spelling.{version_2_text, version_1_text}
 use Rattle.ngc_certificate.specs.Common.{IsCommonBeginning, IsJoinedOf}
-use Rattle.ngc_certificate.specs.declared.fault.MakeFault.TheVariants.{Memory}
+use Rattle.ngc_certificate.specs.Made.{IsMade, MadeResultIs}
+use Rattle.ngc_certificate.specs.Valid.{IsValid}
+use Rattle.ngc_certificate.specs.declared.fault.MakeFault.{MakeFault}
+use Rattle.ngc_certificate.specs.declared.fault.MakeFault.TheVariants.{Memory, NotCleared}
 use Rattle.ngc_certificate.specs.declared.plan.Plan.{Plan}
 use Rattle.ngc_certificate.specs.Planned.{planned}
-use Rattle.ngc_job.specs.Job.{JobData, commands_in}
+use Rattle.ngc_job.specs.Job.{JobData, commands_in, on_or}
 use Rattle.ngc_command_line.specs.declared.options.Format.{Format}
 use Rattle.ngc_command_line.specs.declared.options.Format.TheVariants.{One, Two}
 use Rattle.ngc_inputs.specs.declared.fault.AnswerFault.{AnswerFault}
 use Rattle.ngc_inputs.specs.declared.fault.AnswerFault.TheVariants as answers
-use Rattle.ngc_inputs.specs.Jobs.{Certifies, IsMadeOf, IsWrittenAs}
+use Rattle.ngc_inputs.specs.Jobs.{Certifies, IsMadeOf, IsUnmade, IsWrittenAs}
 use Rattle.ngc_inputs.proofs.JobLaws.{IsJobFor, form_for_file}
 use Rattle.ngc_simulator.specs.Certifying.{WritesForm}
 
 abbrev data_of : List Entry → List Entry → CertificateData
 data_of off on = record { off = off; on = on }
+
+-- ---- plans
+
+-- what is known of plans that are made of these commands, each seen as a certificate
+abbrev Made : {X : Type 0} → (ℤ → List Command → List Command → X → CertificateData) → ℕ → Result X MakeFault → MachineFile → List Command → List Command → Type 0
+Made view cuts r m off on = MadeResultIs (λ p. view m.step off on p) r (IsMade m cuts off on)
+    × IfOk r (λ p. IsValid m off (view m.step off on p).off × IsValid m on (view m.step off on p).on)
+
+made_for : {X : Type 0} (view : ℤ → List Command → List Command → X → CertificateData) (j : JobData) (cuts : ℕ) (r : Result X MakeFault) →
+    Made view cuts r j.machine j.off (commands_in true j) →
+    MatchResult r (λ p. IsMadeOf j cuts (view j.machine.step j.off (commands_in true j) p)) (IsUnmade j cuts)
+made_for view j cuts (Ok p) h = record { made = h.0; off_valid = h.1.0; on_valid = h.1.1 }
+made_for view j cuts (Err (NotCleared s k)) h = h.0
+made_for view j cuts (Err Memory) h = tt
+
+on_is : (off : List Command) (on : Option (List Command)) → is_some on ≡ false → on_or off on ≡ off
+on_is off None none = refl
+on_is off (Some on) none = cc
+
+-- where no line begins with `/`, the plans of one setting serve both
+pub made_alike : {X : Type 0} (view : ℤ → List Command → List Command → X → CertificateData) (j : JobData) (cuts : ℕ) (off : List Command) (m : MachineFile)
+    (r : Result X MakeFault) → off ≡ j.off → m ≡ j.machine → is_some j.on ≡ false →
+    MadeResultIs (λ p. view m.step off off p) r (IsMade m cuts off off) →
+    IfOk r (λ p. IsValid m off (view m.step off off p).off × IsValid m off (view m.step off off p).on) →
+    MatchResult r (λ p. IsMadeOf j cuts (view j.machine.step j.off (commands_in true j) p)) (IsUnmade j cuts)
+made_alike view j cuts off m r off_is machine_is none made valid =
+    let here : Made view cuts r j.machine off off = subst (λ (n : MachineFile). Made view cuts r n off off) machine_is (made, valid) in
+    let first : Made view cuts r j.machine j.off j.off = subst (λ (cs : List Command). Made view cuts r j.machine cs cs) off_is here in
+    made_for view j cuts r (subst (λ (cs : List Command). Made view cuts r j.machine j.off cs) (sym (on_is j.off j.on none)) first)
 
 -- ---- version 1
 

@@ -14,10 +14,13 @@ use Rattle.ngc_program_report.specs.declared.request.ReportRequest.{ReportReques
 use Rattle.ngc_command_line.specs.declared.options.ReportOptions.{ReportOptions}
 use Rattle.ngc_inputs.specs.Setups.{FileBytes}
 use Rattle.ngc_simulator.specs.Answers.{DialectReportResult, DialectReportsOn, StopsReport, StopsShop, request_of}
+use Rattle.ngc_simulator.specs.DialectRefusals.{IsRefusedDialect, ReportsRefused}
 use Rattle.ngc_simulator.specs.DialectReports.{IsFramedDialect, ReportsDialect, dialect_notes}
 use Rattle.ngc_simulator.specs.Reporting.{ReportsJob}
+use Rattle.ngc_simulator.specs.declared.dialect_refusals.RefusedDialect.{RefusedDialect}
 use Rattle.ngc_simulator.specs.declared.dialects.Sent.{Sent}
 use Rattle.ngc_simulator.specs.declared.done.Done.{Done}
+use Rattle.ngc_simulator.specs.declared.done.Done.TheVariants.{Quietly, RunThrough, WithNotes}
 
 -- ---- the report
 
@@ -25,7 +28,18 @@ use Rattle.ngc_simulator.specs.declared.done.Done.{Done}
 pub dialect_stopped : (d : Dialect) (setup : Setup) (source : List ℕ) (request : ReportRequest) (f : FramedData) (old new : Option (List ℕ)) (fault : AnswerFault)
     → IsFramedDialect d setup source f → ReportsJob f (other_lines (values_of request.figures) source (dialect_notes d setup source)) request old new (Err fault) → ReportsDialect d setup source request old new (Err fault)
 dialect_stopped d setup source request f old new answers.Memory framed tells = absurd tells
+dialect_stopped d setup source request f old new (answers.Write e) framed tells = inl (f, framed, tells)
 dialect_stopped d setup source request f old new _ framed tells = (f, framed, tells)
+
+-- the report of a program that is refused
+pub dialect_refused : (d : Dialect) (setup : Setup) (source : List ℕ) (request : ReportRequest) (r : RefusedDialect) (old new : Option (List ℕ)) (outcome : Result Done AnswerFault)
+    → IsRefusedDialect d setup source r → ReportsRefused source request r old new outcome → ReportsDialect d setup source request old new outcome
+dialect_refused d setup source request r old new (Ok Quietly) is tells = absurd tells
+dialect_refused d setup source request r old new (Ok (RunThrough time)) is tells = absurd tells
+dialect_refused d setup source request r old new (Ok (WithNotes notes)) is tells = (r, is, tells)
+dialect_refused d setup source request r old new (Err answers.Memory) is tells = tells
+dialect_refused d setup source request r old new (Err (answers.Write e)) is tells = inr (r, is, tells)
+dialect_refused d setup source request r old new (Err _) is tells = absurd tells
 
 -- the report of what was read, from that of the same without its figures
 pub report_asked : (sent moved : Sent) (figures : FileFigures) (options : ReportOptions) (request : ReportRequest) (old new : Option (List ℕ)) (outcome : Result Done AnswerFault)

@@ -1,5 +1,5 @@
 -- The report of a program for another control. Our own.
-use Rattle.std.specs.Prelude.{◌≡◌, ℕ, List, Option, Some, None, is_some, unwrap_or, IfSome, Result, Ok, Err, Bool}
+use Rattle.std.specs.Prelude.{◌≡◌, ◌⊎◌, ℕ, List, Option, Some, None, is_some, unwrap_or, IfSome, Result, Ok, Err, Bool}
 use Rattle.std.specs.Prelude.{true, false}
 use Rattle.std.specs.Io.KnownBytes.{Keeps}
 use Rattle.ngc_canonical.specs.State.{Setup}
@@ -22,7 +22,8 @@ use Rattle.ngc_program_report.specs.Coordinates.{History, history_of}
 use Rattle.ngc_program_report.specs.Framed.{FramedData, framed_in, history_in}
 use Rattle.ngc_program_report.specs.Reported.{SettingNotes, other_lines}
 use Rattle.ngc_program_report.specs.declared.request.ReportRequest.{ReportRequest}
-use Rattle.ngc_simulator.specs.Dialects.{NotesRefusal}
+use Rattle.ngc_simulator.specs.DialectRefusals.{IsRefusedDialect, ReportsRefused}
+use Rattle.ngc_simulator.specs.declared.dialect_refusals.RefusedDialect.{RefusedDialect}
 use Rattle.ngc_simulator.specs.declared.dialect_reports.NotedJob.{NotedJob}
 use Rattle.ngc_simulator.specs.Reporting.{ReportsJob}
 use Rattle.ngc_simulator.specs.declared.done.Done.{Done}
@@ -74,8 +75,8 @@ pub record IsNotedJob (d : Dialect) (setup : Setup) (source : List ℕ) (n : Not
   pub framed : IsFramedDialect d setup source (framed_in n.framed)
   pub notes : record { off = n.off; on = n.on } ≡ dialect_notes d setup source
 
--- The report of a program's job was written, which quotes the lines of its text; a refused program leaves
--- the output unchanged, and notes say why. Lack of memory shows nothing.
+-- The report of a program's job was written, which quotes the lines of its text; or that of a refused
+-- program, whose fault notes report. Lack of memory shows nothing.
 abbrev pub ReportsDialect : Dialect → Setup → List ℕ → ReportRequest → Option (List ℕ) →
     Option (List ℕ) → Result Done AnswerFault → Type 0
 ReportsDialect d setup source request old new (Ok Quietly) = (f : FramedData) ×
@@ -83,8 +84,14 @@ ReportsDialect d setup source request old new (Ok Quietly) = (f : FramedData) ×
     ReportsJob f (other_lines (values_of request.figures) source (dialect_notes d setup source)) request old new (Ok tt)
 ReportsDialect d setup source request old new (Ok (RunThrough time)) = ⊥
 ReportsDialect d setup source request old new (Ok (WithNotes notes)) =
-    NotesRefusal d setup source notes × Keeps old new
+    (r : RefusedDialect) × IsRefusedDialect d setup source r ×
+    ReportsRefused source request r old new (Ok (WithNotes notes))
 ReportsDialect d setup source request old new (Err answers.Memory) = Keeps old new
+ReportsDialect d setup source request old new (Err (answers.Write fault)) =
+    ((f : FramedData) × IsFramedDialect d setup source f ×
+    ReportsJob f (other_lines (values_of request.figures) source (dialect_notes d setup source)) request old new (Err (answers.Write fault)))
+    ⊎ ((r : RefusedDialect) × IsRefusedDialect d setup source r ×
+    ReportsRefused source request r old new (Err (answers.Write fault)))
 ReportsDialect d setup source request old new (Err fault) = (f : FramedData) ×
     IsFramedDialect d setup source f ×
     ReportsJob f (other_lines (values_of request.figures) source (dialect_notes d setup source)) request old new (Err fault)

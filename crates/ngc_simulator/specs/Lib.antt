@@ -16,6 +16,7 @@ pub mod Adapting
 pub mod Dialects
 pub mod DialectPlaces
 pub mod DialectRuns
+pub mod DialectRefusals
 pub mod DialectReports
 pub mod DialectPictures
 pub mod Certifying

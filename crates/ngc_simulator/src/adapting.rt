@@ -99,15 +99,7 @@ fn adapt_sent<W: Sink>(
 {
     let text = sent.text.as_slice();
     let shop = &sent.shop;
-    let traced = match traced_at(
-        alloc,
-        EVERYTHING,
-        sent.dialect,
-        text,
-        shop,
-        block_delete,
-        None,
-    )? {
+    let traced = match traced_at(alloc, EVERYTHING, sent.dialect, text, shop, block_delete)? {
         Ok(traced) => traced,
         Err(notes) => return Ok(Done::WithNotes(notes)),
     };

@@ -6,10 +6,11 @@ ghost use Rattle.ngc_inputs.specs.Unread.{FailsByInput, SourceFails};
 ghost use Rattle.ngc_dialect_notes.specs.Notes.{no_notes};
 ghost use Rattle.ngc_simulator.specs.Answers.{DialectReportResult, report_inputs_in};
 ghost use Rattle.ngc_simulator.specs.DialectReports.{IsNotedJob, ReportsDialect};
-ghost use Rattle.ngc_simulator.specs.Dialects.{NotesRefusal};
+ghost use Rattle.ngc_simulator.specs.DialectRefusals.{IsRefusedDialect};
 
-use crate::dialects::{Sent, read_sent_reporting, traced_at};
-use crate::done::{Done, Notes};
+use crate::dialect_refusals::{RefusedDialect, report_refused};
+use crate::dialects::{Sent, executed_at, read_sent_reporting};
+use crate::done::Done;
 use crate::reporting::report_job;
 use crate::reporting_files::request_of;
 use ngc_certificate_text::Setting;
@@ -44,23 +45,28 @@ fn collected(notes: Option<ProgramNotes>) -> ProgramNotes
     notes.unwrap_or(ProgramNotes::none())
 }
 
-// Returns the job of a program with the frames of its commands and the notes on it, or notes on why it
-// is refused. If no line begins with `/`, it is executed once.
+// Returns the job of a program with the frames of its commands and the notes on it, or why it is
+// refused. If no line begins with `/`, it is executed once.
 fn framed_dialect(
     alloc: Global,
     dialect: Dialect,
     text: &[u8],
     shop: Shop,
-) -> Result<Result<NotedJob, Notes>, AnswerFault>
+) -> Result<Result<NotedJob, RefusedDialect>, AnswerFault>
     ensures framed { IfOk result (λ made. MatchResult made
         (IsNotedJob dialect (setup_of shop.machine shop.tools) text.now)
-        (NotesRefusal dialect (setup_of shop.machine shop.tools) text.now)) }
+        (IsRefusedDialect dialect (setup_of shop.machine shop.tools) text.now)) }
     ensures fault { IfErr result (λ e. e ≡ AnswerFault.Memory) }
 {
-    let setting = Some(Setting::Off);
-    let off = match traced_at(alloc, NOTES, dialect, text, &shop, false, setting)? {
+    let off = match executed_at(alloc, NOTES, dialect, text, &shop, false)? {
         Ok(off) => off,
-        Err(notes) => return Ok(Err(notes)),
+        Err((line, cause)) => {
+            return Ok(Err(RefusedDialect {
+                setting: Setting::Off,
+                line,
+                cause,
+            }));
+        }
     };
     if !has_deleted_lines(text) {
         let Shop { machine, tools, .. } = shop;
@@ -77,10 +83,15 @@ fn framed_dialect(
             on: notes,
         }));
     }
-    let setting = Some(Setting::On);
-    let on = match traced_at(alloc, NOTES, dialect, text, &shop, true, setting)? {
+    let on = match executed_at(alloc, NOTES, dialect, text, &shop, true)? {
         Ok(on) => on,
-        Err(notes) => return Ok(Err(notes)),
+        Err((line, cause)) => {
+            return Ok(Err(RefusedDialect {
+                setting: Setting::On,
+                line,
+                cause,
+            }));
+        }
     };
     let Shop { machine, tools, .. } = shop;
     let job = Job::from_commands(
@@ -132,7 +143,7 @@ fn without_figures(alloc: Global, sent: Sent) -> (Sent, StoredFigures)
     (sent, figures)
 }
 
-// Writes the report of a program, or returns notes on why it is refused.
+// Writes the report of a program. If it is refused, notes report its fault.
 fn report_sent<W: Sink>(
     alloc: Global,
     sent: Sent,
@@ -160,12 +171,12 @@ fn report_sent<W: Sink>(
             report_job(alloc, &text, noted.framed, request, output)?;
             Ok(Done::Quietly)
         }
-        Err(notes) => Ok(Done::WithNotes(notes)),
+        Err(refusal) => report_refused(alloc, text.as_slice(), &refusal, request, output),
     }
 }
 
 /// Writes the report of a program for a control. If a machine file or a tool table is refused, its
-/// mistake is written. Notes say why a program is refused.
+/// mistake is written. Notes report the fault of a program that is refused.
 pub(crate) fn report_dialect<F: Files, W: Sink>(
     alloc: Global,
     control: &str,

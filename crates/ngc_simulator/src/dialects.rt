@@ -1,9 +1,11 @@
 //! Programs for other controls that are executed in their own language: their files, their commands, and
 //! why they are refused.
-ghost use Rattle.std.specs.Prelude.{◌≡◌, false, IfErr, IfOk, IfSome, IsSome, MatchResult, OnOk, Ok, Some, option_map};
+ghost use Rattle.std.specs.Prelude.{◌≡◌, false, IfErr, IfOk, IfSome, IsSome, MatchResult, None, OnOk, Ok, Some, option_map};
 ghost use Rattle.ngc_file_figures.specs.Files.{stored};
 ghost use Rattle.ngc_canonical.specs.Interpreter.{setup_of};
+ghost use Rattle.ngc_dialect_execution.specs.Faults.{FailsBy};
 ghost use Rattle.ngc_dialect_execution.specs.Program.{meaning_in};
+ghost use Rattle.ngc_dialect_execution.specs.declared.fault.DialectFault.TheVariants.{At};
 ghost use Rattle.ngc_dialect_faults.specs.Lines.{fault_line};
 ghost use Rattle.ngc_simulator.specs.Answers.{StopsReport, dialect_inputs, report_inputs_in};
 ghost use Rattle.ngc_simulator.specs.Cells.{is_idle};
@@ -156,20 +158,19 @@ pub(crate) fn refused(
 }
 
 /// Executes a program at a setting of block delete, and returns what was executed with what is wanted
-/// besides, or notes on why it is refused. They name the setting where a command needs both.
-pub(crate) fn traced_at(
+/// besides, or the line at which it is refused and why.
+pub(crate) fn executed_at(
     alloc: Global,
     wanted: Wanted,
     dialect: Dialect,
     text: &[u8],
     shop: &Shop,
     block_delete: bool,
-    setting: Option<Setting>,
-) -> Result<Result<Traced<Global>, Notes>, AnswerFault>
+) -> Result<Result<Traced<Global>, (u32, Cause)>, AnswerFault>
     ensures executed { IfOk result (λ made. MatchResult made
         (IsTraced wanted dialect (setup_of shop.now.machine shop.now.tools) block_delete text.now)
-        (NotesFault dialect (setup_of shop.now.machine shop.now.tools) block_delete text.now
-        setting)) }
+        (λ why. FailsBy (At why.0 why.1)
+        (meaning_in dialect (setup_of shop.now.machine shop.now.tools) block_delete text.now))) }
     ensures fault { IfErr result (λ e. e ≡ AnswerFault.Memory) }
 {
     match trace_dialect(
@@ -183,8 +184,29 @@ pub(crate) fn traced_at(
     ) {
         Ok(traced) => Ok(Ok(traced)),
         Err(DialectFault::Memory) => Err(AnswerFault::Memory),
-        Err(DialectFault::At { line, cause }) => {
-            let notes = refused(alloc, setting, line, &cause)?;
+        Err(DialectFault::At { line, cause }) => Ok(Err((line, cause))),
+    }
+}
+
+/// Executes a program as `executed_at` does, and returns what was executed, or notes on why it is refused.
+pub(crate) fn traced_at(
+    alloc: Global,
+    wanted: Wanted,
+    dialect: Dialect,
+    text: &[u8],
+    shop: &Shop,
+    block_delete: bool,
+) -> Result<Result<Traced<Global>, Notes>, AnswerFault>
+    ensures executed { IfOk result (λ made. MatchResult made
+        (IsTraced wanted dialect (setup_of shop.now.machine shop.now.tools) block_delete text.now)
+        (NotesFault dialect (setup_of shop.now.machine shop.now.tools) block_delete text.now
+        None)) }
+    ensures fault { IfErr result (λ e. e ≡ AnswerFault.Memory) }
+{
+    match executed_at(alloc, wanted, dialect, text, shop, block_delete)? {
+        Ok(traced) => Ok(Ok(traced)),
+        Err((line, cause)) => {
+            let notes = refused(alloc, None, line, &cause)?;
             Ok(Err(notes))
         }
     }

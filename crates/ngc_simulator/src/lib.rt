@@ -9,6 +9,7 @@ mod dialect_certificates;
 mod dialect_lister;
 mod dialect_pictures;
 mod dialect_places;
+mod dialect_refusals;
 mod dialect_reports;
 mod dialect_runs;
 mod dialects;

@@ -29,7 +29,8 @@ fn is_of_text(fault: ReadFault) -> bool
     }
 }
 
-fn unreadable_line(form: Form) -> &'static [u8]
+/// Returns the line that says that a program can't be read.
+pub(crate) fn unreadable_line(form: Form) -> &'static [u8]
     ensures { result.now ≡ unreadable_line form }
 {
     match form {

@@ -1,7 +1,7 @@
 -- The mistake of a tool table of any version, in words. Our own.
 use Rattle.std.specs.Prelude.{ℕ, List, [], ◌++◌, codes, Option, Some, None, Result, Ok, Err}
-use Rattle.std.specs.Prelude.{if◌then◌else◌}
-use Rattle.toml.specs.Data.{Data}
+use Rattle.std.specs.Prelude.{if◌then◌else◌, Bool, true, false, ◌&&◌, is_none}
+use Rattle.toml.specs.Data.{Data, string, get, at}
 use Rattle.ngc_machine_figures.specs.Version.{is_written}
 use Rattle.ngc_machine_files.specs.Tree.{tree_of}
 use Rattle.ngc_machine_files.specs.declared.fault.FileFault.{FileFault}
@@ -25,10 +25,28 @@ abbrev pub third_text : List ℕ → List ℕ → Result (List Tool) ToolsRefusa
 third_text name bytes (Ok tools) = []
 third_text name bytes (Err refusal) = refusal_text name bytes refusal
 
+-- ---- a table of version 3 that doesn't say so
+
+abbrev pub is_text : Option Data → Bool
+is_text (Some (string text)) = true
+is_text _ = false
+
+abbrev pub is_measured : Option Data → Bool
+is_measured None = false
+is_measured (Some tool) = is_text (get (codes "diameter") tool)
+
+-- whether the first tool's diameter is a text, as in version 3 alone
+abbrev pub are_measured : Option Data → Bool
+are_measured None = false
+are_measured (Some tools) = is_measured (at 0 tools)
+
+unfoldable pub forgets_version : Data → Bool
+forgets_version tree = is_none (get (codes "version") tree) && are_measured (get (codes "tool") tree)
+
 abbrev pub tree_text : List ℕ → List ℕ → FileFault → Data → List ℕ
 tree_text name bytes fault tree =
-    if is_written tree then third_text name bytes (written_tools tree)
-    else tools_mistake_text bytes fault
+    if is_written tree then third_text name bytes (written_tools tree) else (
+    if forgets_version tree then keys.forgotten_text name bytes else tools_mistake_text bytes fault)
 
 abbrev pub text_in : List ℕ → List ℕ → FileFault → Option Data → List ℕ
 text_in name bytes fault None = tools_mistake_text bytes fault

@@ -2,6 +2,7 @@
 ghost use Rattle.std.specs.Prelude.{◌≡◌, ◌⊎◌, OnOk, OnErr, option_map};
 ghost use Rattle.std.specs.Io.KnownBytes.{Appends, Keeps};
 ghost use Rattle.toml.specs.Errors.{IsBlank};
+ghost use Rattle.toml.specs.Data.{at};
 ghost use Rattle.toml.specs.View.{view};
 ghost use Rattle.ngc_text.specs.Failures.{CountsFailure};
 ghost use Rattle.ngc_text.specs.Written.{AppendsPrefix};
@@ -11,7 +12,7 @@ ghost use Rattle.ngc_written_tools.specs.Reading.{written_tools as tools_of};
 
 use ngc_machine_figures::is_written;
 use ngc_machine_files::{FileFault, read_tree};
-use ngc_refused_files::write_refusal;
+use ngc_refused_files::{write_forgotten, write_refusal};
 use ngc_sentences::{Page, Part, say};
 use ngc_setup_sheet::write_tools_mistake;
 use ngc_text::{Sink, WriteFault};
@@ -79,8 +80,36 @@ fn write_third<W: Sink>(
     }
 }
 
+fn is_text(value: Option<&Value>) -> bool
+    ensures { result ≡ spec.is_text (option_map (λ v. view v.now) value) }
+{
+    matches!(value, Some(Value::String(_)))
+}
+
+// Returns whether the diameter of the first of these tools is a text.
+fn are_measured(tools: &Value) -> bool
+    ensures { result ≡ spec.is_measured (at 0 (view tools.now)) }
+{
+    match tools.get(0) {
+        Some(tool) => is_text(tool.get("diameter")),
+        None => false,
+    }
+}
+
+// Returns whether a table has no version, and its first tool is measured as in version 3.
+#[tactic(auto, unfolding(crate::specs::Mistakes::forgets_version))]
+fn forgets_version(tree: &Value) -> bool
+    ensures { result ≡ spec.forgets_version (view tree.now) }
+{
+    match tree.get("tool") {
+        Some(tools) => tree.get("version").is_none() && are_measured(tools),
+        None => false,
+    }
+}
+
 /// Writes the first mistake of a tool table that is refused with this fault. In a table of version 3
-/// it begins with the file's name and the line.
+/// it begins with the file's name and the line. A table whose first tool has a diameter with a unit,
+/// and that has no version, lacks `version = 3`.
 ///
 /// If memory is refused, nothing is written. After a fault (902) a prefix of the text is written,
 /// and the sink has counted the failure.
@@ -107,6 +136,7 @@ pub fn write_mistake<W: Sink>(
     };
     match &tree {
         Some(tree) if is_written(tree) => write_third(alloc, name.as_bytes(), bytes, tree, sink),
+        Some(tree) if forgets_version(tree) => write_forgotten(name.as_bytes(), bytes, sink),
         _ => write_tools_mistake(alloc, bytes, fault, sink),
     }
 }

@@ -99,13 +99,14 @@ origin None = record { x = pos 0; y = pos 0; z = pos 0 }
 origin (Some place) = coordinates place
 
 -- what a machine file of version 2 has for a sheet, with the step and the rates of its figures, and
--- with the step of each axis' motor
+-- with the step of each axis' motor; no axis has limits of its own
 abbrev pub values_by : SheetValues → MotorSteps → maker.MachineNumbers → MachineValues
 values_by s own rates = record {
   numbers = numbers s.head rates;
   options = options s;
   motor_steps = own;
   axis_rates = axis_rates rates.axis_rate;
+  own = None;
   points = points rates.step (travel_ends rates.step own s.head.axes) s.head.places;
   origins = map origin s.head.origins;
   fixtures = map fixture s.fixtures;

@@ -203,6 +203,7 @@ pub(crate) fn contents_of(
         options: options(sheet),
         motor_steps: *motors,
         axis_rates: axis_rates(&rates.axis_rate),
+        own: None,
         points: points(rates.step, &travel, &sheet.head.places),
         origins: origins(&sheet.head.origins),
         fixtures,

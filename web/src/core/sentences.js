@@ -103,7 +103,7 @@ function refusedSentence(report, group) {
   return { kind: 'bad', line: group.line.number, column: group.mark?.column, title: `Line ${group.line.number} ${what}: ${small(reason ?? `${cause}.`)}`, note: reason ?? `${cause}.`, detail: remedy };
 }
 
-// A program in a dialect has no report where it is refused, but one line with what is wrong, as `cutter compensation: not supported`.
+// A program in a dialect that is refused has one line with what is wrong, as `cutter compensation: not supported`.
 function refusalSentence({ refusal, dialect, explanation }) {
   const { setting, line, column, word } = refusal, words = refusal.words.replace(/^(the|this) dialect has/, `${CONTROLS[dialect]} has`).replace(/^(.*): not supported$/, "ngc doesn't support $1");
   const where = column ? `can't be read at column ${column}` : `is refused${word ? ` at ${word}` : ''}`, when = setting === 'on' ? ' with block delete on' : '';
@@ -114,15 +114,15 @@ export const isRapid = ({ kind }) => kind === 'traverse';
 export const isHolder = ({ kind }) => kind === 'holder';
 // What the report says about a rapid that may go through material that no feed before it has removed, about a feed whose shank or holder
 // may touch what it leaves, about a tool change below the top of the block, or about feeds below its bottom: the words of its card, and
-// the note beside its line. Parts of a tool count from 0, the cutter.
+// the note beside its line. Part 0 of a tool is its cutter.
 export function materialSentence({ kind, tool, part, depth, at, line, first, last }, unit) {
-  const most = enough(depth, unit), who = part ? `part ${part} of ${toolName(tool)}, counted from 0,` : toolName(tool);
+  const most = enough(depth, unit), who = part ? `the shank or holder of ${toolName(tool)}` : toolName(tool);
   if (kind === 'change') return { line, text: `the tool is changed below the top of the material: ${toolName(tool)} is ${length(depth, unit)} below it at X ${length(at[0], unit)}, Y ${length(at[1], unit)}`, note: `tool change ${length(depth, unit)} below the top of the material` };
   if (kind === 'bottom') {
     const others = first === last ? '' : `; the first such feed is in line ${first}, the last in line ${last}`;
     return { line, text: `the feed goes below the bottom of the material: ${toolName(tool)} is at most ${most} below it${others}`, note: `feed at most ${most} below the bottom of the material` };
   }
-  const motion = kind === 'holder' ? 'feed' : 'rapid', upper = part ? ` with part ${part} of the tool` : '';
+  const motion = kind === 'holder' ? 'feed' : 'rapid', upper = part ? ' with the shank or holder' : '';
   return { line, text: `the ${motion} may touch material: ${who} is at most ${most} deep at X ${length(at[0], unit)}, Y ${length(at[1], unit)}`, note: `${motion} may touch material${upper}, at most ${most} deep` };
 }
 const ROUND = 10_000;   // nanometres: the margin of the test is shown to a hundredth of a millimetre, rounded up

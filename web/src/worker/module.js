@@ -48,10 +48,12 @@ export function withJob(module, words, { name, bytes }) {
 }
 export const textOf = bytes => decoder.decode(bytes);
 
-// The fault that a reader should look up is the last number of a message: `fault 311 setting off fault 102 line 1` wraps the program's own.
+// The fault that a reader should look up: the program's own, where 311 wraps it, as in `ngc: fault 311 setting off fault 102 line 1`. Only
+// the line of the fault is read. Other notes name or quote files, and a name or a comment there may have the words `fault 7`.
+const FAULT = /^ngc: fault (\d+)(?: setting (?:off|on) fault (\d+))?/gm;
 export function faultNumber(notes) {
-  const numbers = [...notes.matchAll(/fault (\d+)/g)];
-  return numbers.length ? Number(numbers[numbers.length - 1][1]) : null;
+  const [, outer, inner = outer] = [...notes.matchAll(FAULT)].pop() ?? [];
+  return outer === undefined ? null : Number(inner);
 }
 
 // What a refused program for another control has: one line with the fault, the line, often a column or a word, and what is wrong.

@@ -18,7 +18,7 @@ function readMachine(scene, key, value, axis) {
   else if (key === 'acceleration') rates.acceleration = acceleration(value);
   else if (key === 'acceleration on arcs') rates.arcAcceleration = acceleration(value);
   else if (key === 'start') scene.start = numbers(value);
-  else if (key === 'step') [scene.step] = numbers(value);
+  else if (key === 'step' || key === 'step of the path') [scene.step] = numbers(value);
   else if (key.startsWith('origin of')) scene.origins[key.slice(10)] = numbers(value);
   else if (key === 'language of programs') scene.dialect = dialectOf(value);
   else if (key === 'material') scene.stock = stockOf(value);

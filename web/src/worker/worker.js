@@ -101,7 +101,7 @@ const JOBS = {
   report({ changes, all }) {
     const got = command(['report', '--json', ...(all ? ['--all'] : [])], changes), errors = textOf(got.notes), fault = faultNumber(errors);
     // Words that are refused are the job file's: the page writes none that are.
-    const isOfJob = changes.job && (got.status === USAGE || /fault \d+ job/.test(errors)), refusedFile = isOfJob ? 'job' : /fault \d+ (machine|tools)/.exec(errors)?.[1] ?? null;
+    const isOfJob = changes.job && (got.status === USAGE || /^ngc: fault \d+ job$/m.test(errors)), refusedFile = isOfJob ? 'job' : /^ngc: fault \d+ (machine|tools)/m.exec(errors)?.[1] ?? null;
     const sentence = isOfJob ? errors : refusedFile ? textOf(command(['report'], changes).output) : '';
     const { facts, isCut } = factsOf(got.output);
     const dialect = languageOf(changes, got.added), { lack = null } = changes, numbers = all ? [...new Set(facts.filter(it => it.fact === 'fault_in').map(it => it.number))] : [];

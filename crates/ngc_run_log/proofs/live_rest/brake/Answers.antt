@@ -1,13 +1,14 @@
 use Rattle.std.proofs.Common.{◌++◌, ◌∷◌, [], suc, ap, append-nil, arith, refl, subst, sym, ◌∙◌}
 use Rattle.ngc_events.specs.declared.event.Event.TheVariants.{Hold}
-use Rattle.ngc_machine_model.specs.State.{Job}
+use Rattle.ngc_machine_model.specs.State.{Job, least_change}
 use Rattle.ngc_run_log.specs.Living.{HasRun}
-use Rattle.ngc_run_log.proofs.RestLaws.{came_to_rest, cut_stops, hold_first, hold_holds, none_slowed, rests_already, slowed_more, tick_more, tick_slows}
+use Rattle.ngc_run_log.proofs.RestLaws.{came_to_rest, cut_stops, hold_first, hold_holds, none_slowed, rests_already, slowed_more, least_change_some, tick_more, tick_slows}
 use Rattle.ngc_run_log.proofs.live_rest.brake.Goals as goal
 
 pub returns-then-rate-eq0-clause-rests : goal.returns-then-rate-eq0-clause-rests
 returns-then-rate-eq0-clause-rests g c = λ form lines first h.
-    rests_already form _ lines first _ (omega (arith, c.rate.ensures.value, c.if-rate-eq0.true)) c.rate.ensures.machine.change.least h
+    rests_already form _ lines first _ (omega (arith, c.rate.ensures.value, c.if-rate-eq0.true))
+    (least_change_some _ c.rate.ensures.machine) h
 
 pub returns-in-Err-clause-cut : goal.returns-in-Err-clause-cut
 returns-in-Err-clause-cut g c = λ form lines first h.
@@ -31,12 +32,12 @@ ticks-init g c =
 
 pub ticks-smaller : goal.ticks-smaller
 ticks-smaller g c =
-    let slows = tick_slows _ _ _ _ c.in-Ok-send.ensures.processes c.ticks.invariant.held in
-    omega (arith, slows.slower, c.rate-in-ticks.ensures.machine.change.least, c.rate-in-ticks.ensures.value, c.ticks-test.true)
+    let slows = tick_slows _ _ _ _ c.in-Ok-send.ensures.processes c.rate-in-ticks.ensures.machine c.ticks.invariant.held in
+    omega (arith, slows.slower, least_change_some _ c.rate-in-ticks.ensures.machine, c.rate-in-ticks.ensures.value, c.ticks-test.true)
 
 pub ticks-preserved : goal.ticks-preserved
 ticks-preserved g c =
-    let slows = tick_slows _ _ _ _ c.in-Ok-send.ensures.processes c.ticks.invariant.held in
+    let slows = tick_slows _ _ _ _ c.in-Ok-send.ensures.processes c.rate-in-ticks.ensures.machine c.ticks.invariant.held in
     let brakes = c.ticks.invariant.brakes in
     record {
       job = c.in-Ok-send.ensures.job ∙ c.ticks.invariant.job;
@@ -45,7 +46,7 @@ ticks-preserved g c =
       brakes = (
         suc brakes.0,
         slowed_more brakes.0 _ _ _ _ brakes.1 (omega (arith, c.rate-in-ticks.ensures.value, c.ticks-test.true))
-            (omega (arith, slows.slower, ap (λ (j : Job). j.machine.change) c.ticks.invariant.job)),
+            (omega (arith, slows.slower, ap (λ (j : Job). least_change j) c.ticks.invariant.job)),
         λ form lines first h.
             subst (λ l. HasRun form c.send-in-ticks.new.self l first (g.W.Sink.written c.send-in-ticks.new.sink)) (tick_more lines brakes.0)
             (c.in-Ok-send.ensures.runs form _ first (brakes.2 form lines first h)),
@@ -66,5 +67,5 @@ returns-clause-rests g c = λ form lines first h.
     let brakes = c.ticks.invariant.brakes in
     let held = lines ++ record { event = Hold; times = 1 } ∷ [] in
     came_to_rest form _ _ _ _ lines _ first _ brakes.0 (omega (arith, c.rate.ensures.value, c.if-rate-eq0.false))
-    (hold_holds _ _ _ _ c.in-Ok.ensures.processes).1 (ap (λ (j : Job). j.machine.change) c.ticks.invariant.job) (hold_first lines brakes.0) brakes.1
+    (hold_holds _ _ _ _ c.in-Ok.ensures.processes).1 (ap (λ (j : Job). least_change j) c.ticks.invariant.job) (hold_first lines brakes.0) brakes.1
     (omega (arith, c.rate-in-ticks.ensures.value, c.ticks-test.false)) (brakes.2 form held first (c.in-Ok.ensures.runs form lines first h))

@@ -2,6 +2,7 @@
 use Rattle.std.proofs.Common.{◌≡◌, ◌++◌, ℕ, List, Option, replicate, true}
 use Rattle.ngc_events.specs.declared.event.Event.TheVariants.{Tick}
 use Rattle.ngc_events.specs.declared.event.EventLine.{EventLine}
+use Rattle.ngc_machine_model.specs.State.{least_change}
 use Rattle.ngc_run_log.specs.Living.{HasRun}
 use Rattle.ngc_run_log.specs.declared.live_form.LiveForm.{LiveForm}
 use Rattle.ngc_run_log.proofs.RestLaws.{HasSlowed}
@@ -12,7 +13,7 @@ invariant-ticks g l = record {
   job : l.live.job ≡ l.initial.live.job;
   feeds_ring : l.live.feeds ≡ l.initial.live.feeds;
   held : l.live.state.held ≡ true;
-  brakes : (ticks : ℕ) × HasSlowed ticks l.initial.live.job.machine.change l.initial.live.state.rate l.live.state.rate ×
+  brakes : (ticks : ℕ) × HasSlowed ticks (least_change l.initial.live.job) l.initial.live.state.rate l.live.state.rate ×
       ((form : LiveForm) (lines : List EventLine) (first : Option (List ℕ)) → HasRun form l.initial.live lines first (g.W.Sink.written l.initial.sink) →
       HasRun form l.live (lines ++ replicate ticks (record { event = Tick; times = 1 })) first (g.W.Sink.written l.sink));
   failures : g.W.Sink.failures l.sink ≡ g.W.Sink.failures l.initial.sink;

@@ -15,6 +15,7 @@ invariant_of-shifted g c =
       corner_in_range = m.corner_in_range;
       jump_in_range = m.jump_in_range;
       turn_in_range = m.turn_in_range;
+      own_in_range = m.own_in_range;
       ring_in_range = m.ring_in_range;
       travel_in_range = m.travel_in_range;
       home28_in_range = m.home28_in_range;

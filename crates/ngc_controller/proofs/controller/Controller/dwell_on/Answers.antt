@@ -40,4 +40,4 @@ returns-clause-coasts g c =
     let left = c.dwell_left-left.ensures.value job (ap (λ (m : MachineFile). m.ticks_per_second) (sym c.machine-machine.ensures.value)) in
     rw (← c.self.view_is)
     (coasts_served job p.ring.loaded old c.args.action c.dwell_left-left.result c.min-ticks.result served refl runs free
-    (omega (arith, c.self.invariant.last, c.self.invariant.slow (served_still p.ring.loaded c.args.action served))) left (omega (arith, c.min-ticks.ensures)))
+    (c.self.invariant.slow (served_still p.ring.loaded c.args.action served)) left (omega (arith, c.min-ticks.ensures)))

@@ -10,7 +10,6 @@ returns-clause-made g c = search rules
 pub invariant_of-result : goal.invariant_of-result
 invariant_of-result g c = record {
   machine = search rules;
-  last = search rules;
   room = search rules;
   places = search rules;
   legs = search rules;

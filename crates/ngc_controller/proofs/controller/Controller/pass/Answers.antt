@@ -125,5 +125,6 @@ returns-clause-finishes g c =
     let left = c.leave.ensures in
     rw (← c.self.view_is)
     (passes.finishes head (state_of n.done n.ring n.drive n.dwelt c.end-end.result i.tool i.panel) c.end-end.result p.ring.place c.steps_left-path_steps.result
-    (travelled_of n.ring.loaded n.drive.ramp.rest) n.ring.loaded n.drive.ramp.rate n.done n.dwelt found c.self.invariant.place c.steps_left-path_steps.ensures end
-    (ap (λ (x : RampState). travelled_of n.ring.loaded x.rest) left.ramp) left.loaded (ap (λ (x : RampState). x.rate) left.ramp) (omega (arith, left.done)) left.dwelt refl)
+    (travelled_of n.ring.loaded n.drive.ramp.rest) n.ring.loaded n.drive.ramp.rate n.drive.ramp.last_change n.done n.dwelt found c.self.invariant.place c.steps_left-path_steps.ensures end
+    (ap (λ (x : RampState). travelled_of n.ring.loaded x.rest) left.ramp) left.loaded (ap (λ (x : RampState). x.rate) left.ramp)
+    (ap (λ (x : RampState). x.last_change) left.ramp) (omega (arith, left.done)) left.dwelt refl)

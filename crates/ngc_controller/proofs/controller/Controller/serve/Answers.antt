@@ -72,13 +72,13 @@ returns-clause-serves g c =
     ∙ ap (λ (x : RampState). travelled_of (drop 1 p.ring.loaded) x.rest) {y = still} ramp ∙ left.1 in
     let ticks = c.dwells_on.ensures.value job (ap (λ (m : MachineFile). m.ticks_per_second) (sym c.machine-machine.ensures.value)) in
     let over : nat_lt (suc p.dwelt) (ticks_of job c.args.action) ≡ false = sym ticks ∙ c.if-dwells_on.false in
-    let ends : Finishes job c.args.action old (Ok (Ticked None (Some c.ending_of.result)))
+    let ends : Finishes c.args.action old (Ok (Ticked None (Some c.ending_of.result)))
     (state_of n.done n.ring n.drive n.dwelt i.position c.tool_after-self-inside.result panel) = record {
-      slow = omega (arith, o.last, o.slow (served_still p.ring.loaded c.args.action served));
+      slow = o.slow (served_still p.ring.loaded c.args.action served);
       says = ap (λ e. Ok (Ticked None (Some e))) (c.ending_of.ensures old refl refl);
-      goes_on = finished c.args.action old i.tool c.tool_after-self-inside.result i.panel panel n.done n.ring.loaded n.drive.ramp.rate
+      goes_on = finished c.args.action old i.tool c.tool_after-self-inside.result i.panel panel n.done n.ring.loaded n.drive.ramp.rate n.drive.ramp.last_change
           (travelled_of n.ring.loaded n.drive.ramp.rest) n.dwelt (omega (arith, c.leave.ensures.done)) queue
-          (ap (λ (x : RampState). x.rate) ramp) none c.leave.ensures.dwelt c.tool_after-self-inside.ensures c.panel_after-self-inside.ensures;
+          (ap (λ (x : RampState). x.rate) ramp) (ap (λ (x : RampState). x.last_change) ramp) none c.leave.ensures.dwelt c.tool_after-self-inside.ensures c.panel_after-self-inside.ensures;
     } in
     rw (← c.self.view_is) (serves_done job c.args.action old _ _ over ends)
 
@@ -96,8 +96,8 @@ returns-then-dwells_on-clause-serves g c =
     let halted = record p.drive { ramp = still } in
     let one : p.dwelt + 1 ≡ suc p.dwelt = omega arith in
     let more : nat_lt (suc p.dwelt) (ticks_of job c.args.action) ≡ true = sym ticks ∙ c.if-dwells_on.true in
-    let dwells : Dwells job old (Ok (Ticked None None)) (state_of p.done p.ring c.halt.new.self (p.dwelt + 1) i.position i.tool i.panel) = record {
-      slow = omega (arith, o.last, o.slow (served_still p.ring.loaded c.args.action served));
+    let dwells : Dwells old (Ok (Ticked None None)) (state_of p.done p.ring c.halt.new.self (p.dwelt + 1) i.position i.tool i.panel) = record {
+      slow = o.slow (served_still p.ring.loaded c.args.action served);
       quiet = refl;
       counts = ap (λ (d : Drive _). state_of p.done p.ring d (p.dwelt + 1) i.position i.tool i.panel) {y = halted} c.halt.ensures
           ∙ ap (λ (n : ℕ). state_of p.done p.ring halted n i.position i.tool i.panel) one;

@@ -90,7 +90,8 @@ returns-clause-travels g c =
     ∙ e.travelled in
     rw (← c.self.view_is, c.then_some-position.ensures, f.ensures.done)
     (travel_ends job p.ring.loaded old _ p.drive.ramp t.new.self c.wish-wish.result p.drive.target t.result.rate p.ring.place t.result.due t.result.ended
-    f.new.self.ring.place f.result _ n.ring.loaded n.drive.ramp.rate n.done n.dwelt h e beyond queue refl (ap (λ (x : RampState). x.rate) (c.leave.ensures.ramp ∙ f.ensures.ramp))
+    f.new.self.ring.place f.result _ n.ring.loaded n.drive.ramp.rate n.drive.ramp.last_change n.done n.dwelt h e beyond queue refl
+    (ap (λ (x : RampState). x.rate) (c.leave.ensures.ramp ∙ f.ensures.ramp)) (ap (λ (x : RampState). x.last_change) (c.leave.ensures.ramp ∙ f.ensures.ramp))
     (omega (arith, c.leave.ensures.done, f.ensures.done)) c.leave.ensures.dwelt refl)
 
 pub follow-self-inside-requires-clause-room : goal.follow-self-inside-requires-clause-room

@@ -15,6 +15,7 @@ invariant_of-result c = record {
   corner_in_range = c.rate-4.ensures.range;
   jump_in_range = c.jump.ensures.range;
   turn_in_range = c.arc_bound.ensures.range;
+  own_in_range = c.own.ensures.range;
   ring_in_range = c.ring.ensures.range;
   travel_in_range = rw (c.step_length.ensures, c.place.ensures, c.place-2.ensures, c.place-3.ensures) c.requires.travel;
   home28_in_range = rw c.place-4.ensures c.requires.home28;
@@ -46,6 +47,7 @@ returns c =
       corner,
       jump,
       turn,
+      c.own.ensures.value,
       ring,
       c.arc_feed.ensures,
       c.has_changer.ensures,

@@ -1,4 +1,4 @@
-use Rattle.ngc_machine_mistakes.proofs.mistake.write_forgotten.Goals as goal
+use Rattle.ngc_refused_files.proofs.refusal.write_forgotten.Goals as goal
 
 pub returns-clause-ok : goal.returns-clause-ok
 returns-clause-ok g c = rw (← c.forgotten-refusal.ensures) c.write_refusal.ensures.ok

@@ -1,0 +1,11 @@
+(A slot, as a post for GRBL writes it)
+G21 G90 G17
+S10000 M3
+G0 X10 Y5
+G0 Z3
+G1 Z-1 F200
+G1 X60 F600
+G0 Z3
+G0 X-10 Y10
+M5
+M30
