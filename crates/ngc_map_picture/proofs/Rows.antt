@@ -1,5 +1,5 @@
 -- The colours and the pixels of a picture, in order.
-use Rattle.std.proofs.Common.{◌≡◌, ℕ, suc, ◌+◌, ◌-◌, ◌*◌, ◌/◌, ◌^◌, ◌<◌, ◌≤◌, List, [], ◌∷◌, ◌++◌, refl, ap, sym, ◌∙◌, subst, arith, append_assoc}
+use Rattle.std.proofs.Common.{◌≡◌, ℕ, suc, ◌+◌, ◌-◌, ◌*◌, ◌/◌, ◌^◌, ◌<◌, ◌≤◌, List, [], ◌∷◌, ◌++◌, refl, ap, sym, ◌∙◌, arith, append_assoc}
 use Rattle.std.proofs.Math.Nat.{div-le_self, le-mul_of_pos_right, mul_comm}
 use Rattle.std.proofs.lemmas.Nat.{div_below, mul-add-lt, mul-le}
 use Rattle.ngc_map_picture.specs.Maps.{greys, palette, pixel, pixels, scanlines, width}

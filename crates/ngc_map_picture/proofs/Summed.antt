@@ -1,8 +1,8 @@
 -- The sums of data, as they come.
-use Rattle.std.proofs.Common.{◌≡◌, ℕ, suc, ◌+◌, ◌*◌, ◌%◌, List, [], ◌∷◌, ◌++◌, length, refl, ap, sym, ◌∙◌, arith, length-append}
+use Rattle.std.proofs.Common.{◌≡◌, ℕ, suc, ◌+◌, ◌*◌, ◌%◌, List, [], ◌∷◌, ◌++◌, length, refl, ◌∙◌, arith, length-append}
 use Rattle.std.specs.Prelude.{sum}
 use Rattle.std.proofs.lemmas.List.Sums.{sum_by-cons, sum_by_push}
-use Rattle.ngc_map_picture.specs.Checks.{first_sum, second_sum}
+use Rattle.ngc_map_picture.specs.Checks.{second_sum}
 use Rattle.ngc_map_picture.specs.Streams.{AreSums}
 use Rattle.ngc_map_picture.specs.declared.sums.Sums.{Sums}
 

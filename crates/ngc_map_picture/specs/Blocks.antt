@@ -1,8 +1,7 @@
 -- Data as a stream of blocks that are stored without compression (RFC 1950, 2.2; RFC 1951, 3.2.4),
 -- in the chunks of a PNG file (ISO/IEC 15948, 5.3 and 11.2.4).
-use Rattle.std.specs.Prelude.{◌≡◌, ℕ, zero, suc, ◌+◌, ◌-◌, ◌*◌, ◌/◌, ◌%◌, List, [], ◌∷◌, ◌++◌, length, take, drop, codes}
+use Rattle.std.specs.Prelude.{ℕ, zero, suc, ◌-◌, ◌*◌, ◌/◌, List, [], ◌∷◌, ◌++◌, length, take, drop, codes}
 use Rattle.std.specs.Int.{w16, w32, to_be_bytes, to_le_bytes}
-use Rattle.std.specs.List.{flat_map}
 use Rattle.ngc_map_picture.specs.Checks.{crc, adler}
 
 -- a chunk of a kind: the length of its data, the kind, the data, and the check of both

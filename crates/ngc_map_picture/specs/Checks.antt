@@ -1,6 +1,6 @@
 -- The two checks of a PNG file: the cyclic redundancy check of a chunk (ISO/IEC 15948, 5.5), and
 -- the Adler-32 checksum of its data (RFC 1950, 8.2).
-use Rattle.std.specs.Prelude.{◌≡◌, ℕ, zero, suc, ◌+◌, ◌*◌, ◌/◌, ◌%◌, Bool, true, false, not, ◌==◌, if◌then◌else◌}
+use Rattle.std.specs.Prelude.{ℕ, zero, suc, ◌+◌, ◌*◌, ◌/◌, ◌%◌, Bool, true, false, not, ◌==◌, if◌then◌else◌}
 use Rattle.std.specs.Prelude.{List, [], ◌∷◌, ◌++◌, length, map, replicate, sum}
 use Rattle.std.specs.List.{flat_map, list_any}
 

@@ -1,5 +1,4 @@
-use Rattle.std.proofs.Common.{◌≡◌, ◌-◌, ◌+◌, ◌*◌, ◌++◌, ◌∷◌, [], length, List, ℕ, refl, ap, sym, ◌∙◌, arith, append-nil, length-append}
-use Rattle.ngc_map_picture.specs.Maps.{greys, palette}
+use Rattle.std.proofs.Common.{◌+◌, ◌++◌, length, List, ℕ, refl, ap, sym, ◌∙◌, arith, append-nil, length-append}
 use Rattle.ngc_map_picture.proofs.Rows.{first_colours, grey_added, no_greys}
 use Rattle.ngc_map_picture.proofs.palette.palette.Goals as goal
 

@@ -1,4 +1,4 @@
-use Rattle.std.proofs.Common.{◌≡◌, ℕ, List, ◌∙◌}
+use Rattle.std.proofs.Common.{◌≡◌, ◌∙◌}
 use Rattle.ngc_map_picture.specs.Maps.{palette}
 use Rattle.ngc_map_picture.proofs.picture.write_palette.Goals as goal
 

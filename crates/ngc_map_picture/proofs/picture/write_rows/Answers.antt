@@ -1,6 +1,5 @@
-use Rattle.std.proofs.Common.{◌≡◌, ℕ, List, [], ◌++◌, arith, subst, sym, ap}
+use Rattle.std.proofs.Common.{arith}
 use Rattle.std.proofs.lemmas.Result.{on_ok_weaker, on_err_weaker}
-use Rattle.ngc_map_picture.specs.Blocks.{ended}
 use Rattle.ngc_map_picture.proofs.Blocked.{all_then_end, all_then_stops, stops_before_end}
 use Rattle.ngc_map_picture.proofs.picture.write_rows.Goals as goal
 

@@ -1,12 +1,7 @@
-use Rattle.std.proofs.Common.{◌≡◌, ℕ, List, [], ap, sym, ◌∙◌, subst}
-use Rattle.std.specs.Prelude.{codes}
+use Rattle.std.proofs.Common.{ap, ◌∙◌}
 use Rattle.std.specs.Int.{w32, to_be_bytes}
-use Rattle.std.specs.Io.KnownBytes.{Appends}
 use Rattle.std.proofs.lemmas.Result.{on_ok_weaker, on_err_weaker}
 use Rattle.ngc_text.proofs.AppendedTexts.{appends_both}
-use Rattle.ngc_text.specs.Written.{AppendsPrefix}
-use Rattle.ngc_map_picture.specs.Blocks.{chunk}
-use Rattle.ngc_map_picture.specs.Streams.{AreSums}
 use Rattle.ngc_map_picture.proofs.Written.{prefix_longer, begins_last}
 use Rattle.ngc_map_picture.proofs.stream.finish.Goals as goal
 

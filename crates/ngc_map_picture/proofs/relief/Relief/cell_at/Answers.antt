@@ -1,4 +1,4 @@
-use Rattle.std.proofs.Common.{arith, refl}
+use Rattle.std.proofs.Common.{arith}
 use Rattle.ngc_map_picture.proofs.Rows.{column_of, placed}
 use Rattle.ngc_map_picture.proofs.relief.Relief.cell_at.Goals as goal
 
