@@ -1,5 +1,5 @@
 //! The law of a report that says nothing of material.
-ghost use Rattle.ngc_stock_report.specs.Silent.{DeepestReport, SilentFeeds, SilentReport};
+ghost use Rattle.ngc_stock_report.specs.Silent.{DeepestReport, RemainsReport, SilentFeeds, SilentReport};
 
 /// States that if a walk over a program's commands finds no traverse, no straight traverse meets material
 /// that the feeds before it have left, for each disc of the cutter and each part above it, smaller by a margin and
@@ -19,4 +19,10 @@ pub fn silent_feeds()
 /// report names, above the lower of the feed's two tips.
 pub fn deepest_report()
     ensures { DeepestReport }
+{}
+
+/// States that of the material which the feeds and the reported traverses leave, no point is as high as the height
+/// that the walk keeps for its cell.
+pub fn remains_report()
+    ensures { RemainsReport }
 {}
