@@ -1,2 +1,4 @@
 -- Prefixes: prefixes of texts that are written in order.
 pub mod Prefixes
+-- Marks, one motion after another.
+pub mod Levels

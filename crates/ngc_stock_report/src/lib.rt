@@ -7,11 +7,13 @@ mod caution;
 mod cells;
 mod grids;
 pub mod laws;
+mod marks;
 mod placed;
 mod walked;
 mod written;
 
 pub use caution::write_caution;
 pub use cells::USUAL_CELLS;
+pub use marks::find_marks;
 pub use walked::{Walk, find_walk};
 pub use written::write_material;
