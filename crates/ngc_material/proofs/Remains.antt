@@ -27,7 +27,7 @@ AreFrom index (f ∷ fs) = index ≤ f.command
 
 sooner : (index : ℕ) (found : List Found) → AreFrom (index + 1) found → AreFrom index found
 sooner index [] h = tt
-sooner index (f ∷ fs) h = omega (arith, h)
+sooner index (f ∷ fs) h = let p : index + 1 ≤ f.command = h in let q : index ≤ f.command = omega (arith, p) in q
 
 -- a command that isn't reported stays as it is
 kept_command : (index : ℕ) (c : Command) (cs : List Command) (found : List Found) → AreFrom (index + 1) found →
@@ -52,10 +52,11 @@ one_left s table r old new last index c cs before later rest (inl h) from left =
   sooner index rest from,
   subst (λ (l : List Command). AreLeft s table r old l last) (sym (kept_command index c cs rest from)) (new, h.0, left),
 )
-one_left s table r old new last index c cs before later rest (inr h) from left = (
+one_left s table r old new last index c cs before later rest (inr h) from left =
+    let here : index ≤ h.0.command = omega (arith, h.2.command) in (
   h.0 ∷ rest,
   sym (ap (λ (xs : List Found). xs ++ rest) h.1 ∙ append_assoc before (h.0 ∷ []) rest),
-  omega (arith, h.2.command),
+  here,
   subst (λ (l : List Command). AreLeft s table r old l last) (sym (fed_command index c cs h.0 rest h.2.command)) (
     new,
     fed_step s (discs_in table r.tool) r.tool c.action old new h.0.part h.0.touch h.2.touch,
