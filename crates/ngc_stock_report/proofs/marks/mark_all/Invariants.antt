@@ -1,10 +1,10 @@
-use Rattle.std.proofs.Common.{◌≡◌, ℕ, List, drop, length}
+use Rattle.std.proofs.Common.{◌≡◌, ◌*◌, length, take}
 use Rattle.ngc_stock_report.specs.Levels.{AreLevels}
 use Rattle.ngc_stock_report.proofs.marks.mark_all.Given as goal
 
--- what the other motions mark now is what all mark at first
+-- the marks of the motions so far
 abbrev pub invariant-loop-one : goal.invariant-loop-one
 invariant-loop-one l = record {
-  marks : (last : List ℕ) → AreLevels l.grid (drop l.one-index l.found) l.levels last → AreLevels l.grid l.found l.initial.levels last;
-  count : length l.levels ≡ length l.initial.levels;
+  count : length l.levels ≡ l.grid.columns * l.grid.rows;
+  marks : AreLevels l.grid (take l.one-index l.found) l.fn.levels l.levels;
 }
