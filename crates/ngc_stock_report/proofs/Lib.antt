@@ -2,3 +2,5 @@
 pub mod Prefixes
 -- Marks, one motion after another.
 pub mod Levels
+-- Some cells cover a block of material.
+pub mod Cells

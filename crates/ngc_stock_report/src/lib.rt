@@ -7,6 +7,7 @@ mod caution;
 mod cells;
 mod grids;
 pub mod laws;
+mod map;
 mod marks;
 mod placed;
 mod walked;
@@ -14,6 +15,7 @@ mod written;
 
 pub use caution::write_caution;
 pub use cells::USUAL_CELLS;
+pub use map::write_walk_map;
 pub use marks::find_marks;
 pub use walked::{Walk, find_walk};
 pub use written::write_material;

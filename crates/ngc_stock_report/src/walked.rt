@@ -1,7 +1,8 @@
 //! A walk over a program's commands, through the material of its machine.
-ghost use Rattle.std.specs.Prelude.{IfOk};
+ghost use Rattle.std.specs.Prelude.{◌<◌, IfOk};
 ghost use Rattle.ngc_machine_files.specs.Machine.{file_of};
 ghost use Rattle.ngc_cells.specs.Grids.{IsGrid};
+ghost use Rattle.ngc_material.specs.Heights.{AreHeights};
 ghost use Rattle.ngc_stock_report.specs.Walked.{IsWalked};
 
 use crate::grids::is_grid;
@@ -21,6 +22,8 @@ pub struct Walk<A: Allocator> {
     pub(crate) stock: Stock,
     pub(crate) touches: Touches<A>,
     ghost holds: { IsGrid stock.grid },
+    ghost some: { (0 < stock.grid.columns) × (0 < stock.grid.rows) },
+    ghost cells: { AreHeights stock touches.heights.items },
 }
 
 impl<A: Allocator> Model for Walk<A> {
