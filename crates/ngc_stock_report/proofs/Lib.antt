@@ -2,12 +2,9 @@
 -- Remaining: what is said of the remaining fixtures.
 -- UncutBlocks: what it means that no feed cuts the block.
 pub mod Prefixes
-<<<<<<< HEAD
 pub mod Remaining
 pub mod UncutBlocks
-=======
 -- Marks, one motion after another.
 pub mod Levels
 -- Some cells cover a block of material.
 pub mod Cells
->>>>>>> mapdraw

@@ -1,10 +1,6 @@
 //! The law of a report that says nothing of material.
-<<<<<<< HEAD
-ghost use Rattle.ngc_stock_report.specs.Silent.{DeepestReport, SilentFeeds, SilentReport};
-ghost use Rattle.ngc_stock_report.specs.Uncut.{UncutBlock};
-=======
 ghost use Rattle.ngc_stock_report.specs.Silent.{DeepestReport, RemainsReport, SilentFeeds, SilentReport};
->>>>>>> mapdraw
+ghost use Rattle.ngc_stock_report.specs.Uncut.{UncutBlock};
 
 /// States that if a walk over a program's commands finds no traverse, no straight traverse meets material
 /// that the feeds before it have left, for each disc of the cutter and each part above it, smaller by a margin and
@@ -26,15 +22,14 @@ pub fn deepest_report()
     ensures { DeepestReport }
 {}
 
-<<<<<<< HEAD
 /// States that if a report warns that no feed cuts the block of material, no straight feed of the program cuts a
 /// point below the block's top in one of its cells.
 pub fn uncut_block()
     ensures { UncutBlock }
-=======
+{}
+
 /// States that of the material which the feeds and the reported traverses leave, no point is as high as the height
 /// that the walk keeps for its cell.
 pub fn remains_report()
     ensures { RemainsReport }
->>>>>>> mapdraw
 {}
