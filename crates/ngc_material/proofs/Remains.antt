@@ -54,15 +54,15 @@ one_left s table r old new last index c cs before later rest (inl h) from left =
 )
 one_left s table r old new last index c cs before later rest (inr h) from left =
     let here : index ≤ h.0.command = omega (arith, h.2.command) in (
-  h.0 ∷ rest,
-  sym (ap (λ (xs : List Found). xs ++ rest) h.1 ∙ append_assoc before (h.0 ∷ []) rest),
-  here,
-  subst (λ (l : List Command). AreLeft s table r old l last) (sym (fed_command index c cs h.0 rest h.2.command)) (
-    new,
-    fed_step s (discs_in table r.tool) r.tool c.action old new h.0.part h.0.touch h.2.touch,
-    subst (λ (x : Reached). AreLeft s table x new (with_feeds (index + 1) cs rest) last) (sym (fed_after r c.action)) left,
-  ),
-)
+      h.0 ∷ rest,
+      sym (ap (λ (xs : List Found). xs ++ rest) h.1 ∙ append_assoc before (h.0 ∷ []) rest),
+      here,
+      subst (λ (l : List Command). AreLeft s table r old l last) (sym (fed_command index c cs h.0 rest h.2.command)) (
+        new,
+        fed_step s (discs_in table r.tool) r.tool c.action old new h.0.part h.0.touch h.2.touch,
+        subst (λ (x : Reached). AreLeft s table x new (with_feeds (index + 1) cs rest) last) (sym (fed_after r c.action)) left,
+      ),
+    )
 
 -- what the remaining commands leave is what all leave, after one command more
 pub kept_left : (s : Stock) (table : List ToolLimits) (first r next : Reached) (all left later : List Command) (c : Command) (old new : List ℕ) (found more : List Found) →
