@@ -14,6 +14,8 @@ pub mod Rims
 pub mod Within
 -- What a walk reports, command by command, and what that means.
 pub mod Reports
+-- What a walk leaves, command by command, and what that means.
+pub mod Remains
 -- A line that passes the tests on its ends follows the arc at each of its points.
 pub mod Chords
 -- The heights after one chord more, and after one list of chords and then another.

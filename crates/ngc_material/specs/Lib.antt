@@ -3,5 +3,6 @@ pub mod Chords
 pub mod Touches
 pub mod Rims
 pub mod Walks
+pub mod Remains
 pub mod Silences
 pub mod Cuts

@@ -28,20 +28,19 @@ pub(crate) fn lowest_part(tool: &Tool) -> Cylinder
     }
 }
 
-fn length(nanometres: i64) -> Nm
+fn length(nanometres: i128) -> Nm
     requires { unsigned_abs nanometres ≤ LENGTH_LIMIT }
     ensures { result ≡ nanometres }
 {
-    Nm::from_nanometres(i128::from(nanometres)).unwrap()
+    Nm::from_nanometres(nanometres).unwrap()
 }
 
-// Returns how long the lowest part of a tool is.
-fn lowest_length(tool: &Tool) -> i64
-    ensures value { result ≡ pos (unsigned_abs (first_part tool.now.parts).length) }
-    ensures bound { unsigned_abs result ≤ LENGTH_LIMIT }
+/// Returns the height that is so far above the tip of a tool, but at most 100 m.
+pub(crate) fn foot(tool: &Tool, up: u64) -> Nm
+    ensures { result ≡ int_min (pos LENGTH_LIMIT) (tool.now.bottom +ℤ pos up) }
 {
-    let part = tool.parts.as_slice()[0];
-    part.length.nanometres().unsigned_abs() as i64
+    let foot = i128::from(tool.bottom.nanometres()) + i128::from(up);
+    length(100_000_000_000.min(foot))
 }
 
 // Returns the height of the foot of the part above a tool's lowest one.
@@ -49,8 +48,8 @@ fn foot_above(tool: &Tool) -> Nm
     ensures { result ≡ int_min (pos LENGTH_LIMIT)
         (tool.now.bottom +ℤ pos (unsigned_abs (first_part tool.now.parts).length)) }
 {
-    let foot = tool.bottom.nanometres() + lowest_length(tool);
-    length(100_000_000_000.min(foot))
+    let part = tool.parts.as_slice()[0];
+    foot(tool, part.length.nanometres().unsigned_abs())
 }
 
 /// Returns a tool without its lowest part, or the same tool if it has one part.

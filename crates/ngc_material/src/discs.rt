@@ -1,14 +1,12 @@
 //! The discs of a cutter.
-ghost use Rattle.std.specs.Prelude.{◌≡◌, ◌≤◌, ◌∷◌, [], IfOk, map, pos, ◌+ℤ◌, unsigned_abs};
-ghost use Rattle.std.specs.Int.{int_min};
-ghost use Rattle.ngc_fixed_length.specs.Limits.{LENGTH_LIMIT};
+ghost use Rattle.std.specs.Prelude.{◌≡◌, ◌≤◌, ◌∷◌, [], IfOk, map};
 ghost use Rattle.ngc_cells.specs.Stretches.{RADIUS_LIMIT};
 ghost use Rattle.ngc_stock.specs.Discs as spec;
 ghost use Rattle.ngc_stock.specs.Stocks.{lowest_part};
 
-use crate::cutter::{lowest_part, radius};
+use crate::cutter::{foot, lowest_part, radius};
 use ngc_file_figures::{Cutter, ToolLimits, limits_of};
-use ngc_fixed_length::{Nm, root_floor};
+use ngc_fixed_length::root_floor;
 use ngc_machine_files::Tool;
 use ngc_stock::Cylinder;
 use std::alloc::{AllocError, Allocator};
@@ -44,21 +42,6 @@ fn step(radius: u32, part: u8) -> u32
     ensures { result ≡ spec.step radius part }
 {
     (u64::from(radius) * u64::from(part) / 64) as u32
-}
-
-fn length(nanometres: i128) -> Nm
-    requires { unsigned_abs nanometres ≤ LENGTH_LIMIT }
-    ensures { result ≡ nanometres }
-{
-    Nm::from_nanometres(nanometres).unwrap()
-}
-
-// Returns the height that is so far above the tip of a tool, but at most 100 m.
-fn foot(tool: &Tool, up: u64) -> Nm
-    ensures { result ≡ int_min (pos LENGTH_LIMIT) (tool.now.bottom +ℤ pos up) }
-{
-    let foot = i128::from(tool.bottom.nanometres()) + i128::from(up);
-    length(100_000_000_000.min(foot))
 }
 
 // Returns a disc that begins so far above the tip of a tool.

@@ -1,5 +1,6 @@
 //! Laws about what a walk reports.
 ghost use Rattle.ngc_material.specs.Cuts.{DeepestCuts};
+ghost use Rattle.ngc_material.specs.Remains.{Remains};
 ghost use Rattle.ngc_material.specs.Silences.{ClearFeeds, Clearness, Nothing, Unreported};
 
 /// States that a disc or a part of a tool may touch no material in a traverse exactly if no cell is in its
@@ -32,4 +33,10 @@ pub fn clear_feeds()
 /// the lower of the feed's two tips.
 pub fn deepest_cuts()
     ensures { DeepestCuts }
+{}
+
+/// States that of the material which the feeds of a program leave, none of whose traverses may touch any, no point
+/// is as high as the height that is kept for its cell. A reported traverse counts as a feed.
+pub fn remains()
+    ensures { Remains }
 {}

@@ -45,6 +45,15 @@ impl<A: Allocator> Material<A> {
         })
     }
 
+    /// Returns the heights of the cells.
+    pub(crate) fn into_heights(self) -> Vec<u32, A>
+        ensures items { result.items ≡ self.heights.items }
+        ensures fits { AreHeights self.stock result.items }
+    {
+        let Material { heights, .. } = self;
+        heights
+    }
+
     /// Follows an action with a mounted tool and the discs of its cutter, and returns where a part of it may
     /// touch material if it is a straight traverse. A feed lowers the material, and so does a traverse that may touch it.
     /// Motions without a tool change nothing.

@@ -3,8 +3,9 @@ ghost use Rattle.std.specs.Prelude.{◌≡◌, ◌↔◌, [], IfOk, IfErr, OnOk,
 ghost use Rattle.ngc_cells.specs.Grids.{IsGrid};
 ghost use Rattle.ngc_stock.specs.Walk.{uncut};
 ghost use Rattle.ngc_material.specs.Cuts.{AreCuts};
-ghost use Rattle.ngc_material.specs.Heights.{are_reached, is_action_reached};
-ghost use Rattle.ngc_material.specs.Walks.{AreFound, IsFollowed, IsTested};
+ghost use Rattle.ngc_material.specs.Heights.{AreHeights, are_reached, is_action_reached};
+ghost use Rattle.ngc_material.specs.Remains.{AreLeft};
+ghost use Rattle.ngc_material.specs.Walks.{AreFound, IsFollowed, IsTested, with_feeds};
 
 use crate::change::tool_number;
 use crate::cuts::measure;
@@ -31,7 +32,8 @@ pub struct Found {
     pub touch: Touch,
 }
 
-/// The straight motions of a program that may touch material, in order, and its deepest feeds.
+/// The straight motions of a program that may touch material, in order, its deepest feeds, and the heights that it
+/// leaves.
 #[derive(Drop)]
 pub struct Touches<A: Allocator> {
     /// Traverses, with any part of a tool.
@@ -40,6 +42,8 @@ pub struct Touches<A: Allocator> {
     pub feeds: Vec<Found, A>,
     /// The deepest straight feed of each tool.
     pub cuts: Vec<Cut, A>,
+    /// The height of each cell at the end, in nanometres from the stock's bottom.
+    pub heights: Vec<u32, A>,
 }
 
 /// Why a walk isn't made.
@@ -110,7 +114,8 @@ fn test<A: Allocator>(
 /// the shape that `table` says of its tool, or a flat one. A traverse is tested with each disc and each part
 /// above the cutter; if it is found, it then counts as a feed. A feed is tested with the parts above the
 /// cutter in the material that it leaves, also along an arc in the plane of X and Y; another arc isn't tested.
-/// Motions without a tool are left out. Of each tool the deepest straight feed is returned too, in the material before it.
+/// Motions without a tool are left out. Of each tool the deepest straight feed is returned too, in the material before it,
+/// and the height of each cell after the last command.
 ///
 /// It fails if memory is refused, or if the end of a motion is far from the machine's zero.
 pub fn find_touches<A: Allocator + Copy>(
@@ -123,6 +128,8 @@ pub fn find_touches<A: Allocator + Copy>(
     requires { IsGrid stock.now.grid }
     ensures found { IfOk result (λ v. AreFound stock.now table.now start.now (uncut stock.now) 0 commands.now v.traverses.items v.feeds.items) }
     ensures cuts { IfOk result (λ v. AreCuts stock.now table.now start.now (uncut stock.now) 0 commands.now v.traverses.items [] v.cuts.items) }
+    ensures left { IfOk result (λ v. AreLeft stock.now table.now start.now (uncut stock.now) (with_feeds 0 commands.now v.traverses.items) v.heights.items) }
+    ensures heights { IfOk result (λ v. AreHeights stock.now v.heights.items) }
     ensures near { IfOk result (λ v. IsTrue (are_reached commands.now)) }
     ensures far { IfErr result (λ e. (e ≡ WalkFault.Far) ↔ ¬ (IsTrue (are_reached commands.now))) }
 {
@@ -147,6 +154,8 @@ fn walk<A: Allocator + Copy>(
     requires near { IsTrue (are_reached commands.now) }
     ensures found { IfOk result (λ v. AreFound stock.now table.now start.now (uncut stock.now) 0 commands.now v.traverses.items v.feeds.items) }
     ensures cuts { IfOk result (λ v. AreCuts stock.now table.now start.now (uncut stock.now) 0 commands.now v.traverses.items [] v.cuts.items) }
+    ensures left { IfOk result (λ v. AreLeft stock.now table.now start.now (uncut stock.now) (with_feeds 0 commands.now v.traverses.items) v.heights.items) }
+    ensures heights { IfOk result (λ v. AreHeights stock.now v.heights.items) }
 {
     let mut material = Material::new(alloc, stock)?;
     let mut mounted = Mounted::new(alloc, table, start)?;
@@ -166,5 +175,6 @@ fn walk<A: Allocator + Copy>(
         traverses,
         feeds,
         cuts,
+        heights: material.into_heights(),
     })
 }

@@ -4,3 +4,7 @@
 pub mod Prefixes
 pub mod Remaining
 pub mod UncutBlocks
+-- Marks, one motion after another.
+pub mod Levels
+-- Some cells cover a block of material.
+pub mod Cells

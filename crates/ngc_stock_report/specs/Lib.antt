@@ -2,6 +2,9 @@ pub mod Placed
 pub mod Walked
 pub mod Overlaps
 pub mod Uncut
+pub mod Marks
+pub mod Levels
+pub mod MapPictures
 pub mod Texts
 pub mod Cautions
 pub mod Silent

@@ -11,17 +11,19 @@ use Rattle.ngc_stock.specs.declared.stock.Stock.{Stock}
 use Rattle.ngc_stock.specs.Walk.{uncut}
 use Rattle.ngc_material.specs.declared.walk.Found.{Found}
 use Rattle.ngc_material.specs.Cuts.{AreCuts}
-use Rattle.ngc_material.specs.Heights.{are_reached}
-use Rattle.ngc_material.specs.Walks.{AreFound}
+use Rattle.ngc_material.specs.Heights.{AreHeights, are_reached}
+use Rattle.ngc_material.specs.Remains.{AreLeft}
+use Rattle.ngc_material.specs.Walks.{AreFound, with_feeds}
 use Rattle.ngc_stock_report.specs.Placed.{IsPlaced}
 
--- the material in the machine, the straight traverses and the feeds that may touch it, and the deepest feed
--- of each tool
+-- the material in the machine, the straight traverses and the feeds that may touch it, the deepest feed of each
+-- tool, and the height of each cell at the end
 pub record WalkData : Type 0 where
   pub stock : Stock
   pub found : List Found
   pub feeds : List Found
   pub cuts : List Cut
+  pub heights : List ℕ
 
 -- some of the cells, or the end of a motion, is more than two metres from the machine's zero; or the cells are
 -- more than 4,000,000, which `--cells` doesn't allow
@@ -40,6 +42,8 @@ pub record IsWalk (most : ℕ) (table : List ToolLimits) (m : MachineFile) (comm
   pub near : IsTrue (are_reached commands)
   pub found : AreFound w.stock table (at_start m) (uncut w.stock) 0 commands w.found w.feeds
   pub cuts : AreCuts w.stock table (at_start m) (uncut w.stock) 0 commands w.found [] w.cuts
+  pub left : AreLeft w.stock table (at_start m) (uncut w.stock) (with_feeds 0 commands w.found) w.heights
+  pub cells : AreHeights w.stock w.heights
 
 -- no walk without a block of material, and none where it or a motion is far
 abbrev pub IsWalked : ℕ → List ToolLimits → MachineFile → List Command → Option WalkData → Type 0

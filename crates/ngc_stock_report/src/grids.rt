@@ -10,10 +10,11 @@ const REACH: u64 = 2_000_000_000;
 
 const CELL_LIMIT: u64 = 4_000_000;
 
-fn is_near(corner: &Spot) -> bool
-    ensures { IsTrue result ↔ IsSpot corner.now }
+/// Returns whether a place is within two metres of the machine's zero.
+pub(crate) fn is_near(place: &Spot) -> bool
+    ensures { IsTrue result ↔ IsSpot place.now }
 {
-    corner.x.unsigned_abs() <= REACH && corner.y.unsigned_abs() <= REACH
+    place.x.unsigned_abs() <= REACH && place.y.unsigned_abs() <= REACH
 }
 
 // Returns whether the last of some cells along an axis ends within two metres.

@@ -1,5 +1,5 @@
 //! The law of a report that says nothing of material.
-ghost use Rattle.ngc_stock_report.specs.Silent.{DeepestReport, SilentFeeds, SilentReport};
+ghost use Rattle.ngc_stock_report.specs.Silent.{DeepestReport, RemainsReport, SilentFeeds, SilentReport};
 ghost use Rattle.ngc_stock_report.specs.Uncut.{UncutBlock};
 
 /// States that if a walk over a program's commands finds no traverse, no straight traverse meets material
@@ -26,4 +26,10 @@ pub fn deepest_report()
 /// point below the block's top in one of its cells.
 pub fn uncut_block()
     ensures { UncutBlock }
+{}
+
+/// States that of the material which the feeds and the reported traverses leave, no point is as high as the height
+/// that the walk keeps for its cell.
+pub fn remains_report()
+    ensures { RemainsReport }
 {}

@@ -7,6 +7,8 @@ mod caution;
 mod cells;
 mod grids;
 pub mod laws;
+mod map;
+mod marks;
 mod overlaps;
 mod placed;
 mod uncut;
@@ -15,5 +17,7 @@ mod written;
 
 pub use caution::write_caution;
 pub use cells::USUAL_CELLS;
+pub use map::write_walk_map;
+pub use marks::find_marks;
 pub use walked::{Walk, find_walk};
 pub use written::write_material;

@@ -81,7 +81,8 @@ fn placed(origin: &Point3, block: &StockBox, half: u32) -> Stock
 
 fn placed_in<A: Allocator>(most: u32, machine: &Machine<A>, block: &StockBox) -> Stock
     requires { IsStock block.now }
-    ensures { (file_of machine.now).stock ≡ Some block.now → IsPlaced most (file_of machine.now) result }
+    ensures placed { (file_of machine.now).stock ≡ Some block.now → IsPlaced most (file_of machine.now) result }
+    ensures cells { (0 < result.grid.columns) × (0 < result.grid.rows) }
 {
     let origin = origin_at(machine, block.system);
     let number = least_width(most, block);
@@ -93,6 +94,7 @@ fn placed_in<A: Allocator>(most: u32, machine: &Machine<A>, block: &StockBox) ->
 pub(crate) fn stock_in<A: Allocator>(most: u32, machine: &Machine<A>) -> Option<Stock>
     ensures none { IfNone result ((file_of machine.now).stock ≡ None) }
     ensures some { IfSome result (IsPlaced most (file_of machine.now)) }
+    ensures cells { IfSome result (λ s. (0 < s.grid.columns) × (0 < s.grid.rows)) }
 {
     match &machine.stock {
         Some(block) => Some(placed_in(most, machine, block)),

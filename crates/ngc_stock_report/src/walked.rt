@@ -1,7 +1,8 @@
 //! A walk over a program's commands, through the material of its machine.
-ghost use Rattle.std.specs.Prelude.{IfOk};
+ghost use Rattle.std.specs.Prelude.{◌<◌, IfOk};
 ghost use Rattle.ngc_machine_files.specs.Machine.{file_of};
 ghost use Rattle.ngc_cells.specs.Grids.{IsGrid};
+ghost use Rattle.ngc_material.specs.Heights.{AreHeights};
 ghost use Rattle.ngc_stock_report.specs.Walked.{IsWalked};
 
 use crate::grids::is_grid;
@@ -14,13 +15,15 @@ use ngc_stock::Stock;
 use std::alloc::{AllocError, Allocator};
 use std::marker::Model;
 
-/// The material of a machine, the straight traverses and feeds of a program that may touch it, and its
-/// deepest feeds.
+/// The material of a machine, the straight traverses and feeds of a program that may touch it, its deepest feeds,
+/// and the heights that it leaves.
 #[derive(Drop)]
 pub struct Walk<A: Allocator> {
     pub(crate) stock: Stock,
     pub(crate) touches: Touches<A>,
     ghost holds: { IsGrid stock.grid },
+    ghost some: { (0 < stock.grid.columns) × (0 < stock.grid.rows) },
+    ghost cells: { AreHeights stock touches.heights.items },
 }
 
 impl<A: Allocator> Model for Walk<A> {
@@ -28,14 +31,14 @@ impl<A: Allocator> Model for Walk<A> {
 
     ghost Value = { WalkData };
 
-    ghost view = { λ w. record { stock = w.stock; found = w.touches.traverses.items; feeds = w.touches.feeds.items; cuts = w.touches.cuts.items } };
+    ghost view = { λ w. record { stock = w.stock; found = w.touches.traverses.items; feeds = w.touches.feeds.items; cuts = w.touches.cuts.items; heights = w.touches.heights.items } };
 
     ghost invariant = { λ w. Unit {0} };
 }
 
 /// Returns the straight traverses of a program that may touch the material of its machine, and the
-/// straight feeds whose shank or holder may, and the deepest straight feed of each tool: `commands` are
-/// its commands at a setting of block delete, and the material is divided into at most `most` cells.
+/// straight feeds whose shank or holder may, the deepest straight feed of each tool, and the heights at the
+/// end: `commands` are its commands at a setting of block delete, and the material is divided into at most `most` cells.
 /// It returns `None` if the machine has no block of material, or if some of it, or the end of a motion,
 /// is more than two metres from the machine's zero. It does so too if the cells are more than 4,000,000,
 /// which they aren't where `most` isn't. `table` says what shapes the cutters of the tools have; a tool that it
