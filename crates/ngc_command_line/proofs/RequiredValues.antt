@@ -248,6 +248,9 @@ live_values words none =
       found_fits (codes "inverted") (IsUnsignedIn 0 255) rows filled,
     )
 
+no_cells : (id text : Text) → bytes_eq id (codes "cells") ≡ false → FitsCells id text
+no_cells = other_fits (codes "cells") (IsUnsignedIn 1 4000000)
+
 draw_sound : AreSound FitsCuts draw_shape.rules
 draw_sound =
     let machine = set_is_sound FitsCuts _ refl refl refl (λ v none. no_cuts (codes "machine") v refl) in
@@ -258,14 +261,37 @@ draw_sound =
     let delete = flag_is_sound FitsCuts _ (codes "true") (codes "false") refl refl refl (λ v. no_cuts (codes "delete") v refl) in
     let bodies = flag_is_sound FitsCuts _ (codes "true") (codes "false") refl refl refl (λ v. no_cuts (codes "bodies") v refl) in
     let whole = flag_is_sound FitsCuts _ (codes "true") (codes "false") refl refl refl (λ v. no_cuts (codes "whole") v refl) in
+    let map = flag_is_sound FitsCuts _ (codes "true") (codes "false") refl refl refl (λ v. no_cuts (codes "map") v refl) in
     let origin = append_is_sound FitsCuts _ refl refl refl (λ v. no_cuts (codes "origin") v refl) in
     let fixture = append_is_sound FitsCuts _ refl refl refl (λ v. no_cuts (codes "fixture") v refl) in
     let stock = set_is_sound FitsCuts _ refl refl refl (λ v none. no_cuts (codes "stock") v refl) in
+    let cells = set_is_sound FitsCuts _ refl refl refl (λ v none. no_cuts (codes "cells") v refl) in
     let margin = set_is_sound FitsCuts _ refl refl refl (λ v none. no_cuts (codes "margin") v refl) in
     let from_travel = set_is_sound FitsCuts _ refl refl refl (λ v none. no_cuts (codes "travel-margin") v refl) in
     let rapids = set_is_sound FitsCuts _ refl refl refl (λ v none. no_cuts (codes "rapids") v refl) in
     let dialect = set_is_sound FitsCuts _ refl refl refl (λ v none. no_cuts (codes "dialect") v refl) in
-    (machine, (tools, (certificate, (program, (view, (delete, (bodies, (whole, (origin, (fixture, (stock, (margin, (from_travel, (rapids, (dialect, (help_is_sound FitsCuts _ refl refl, tt))))))))))))))))
+    (machine, (tools, (certificate, (program, (view, (delete, (bodies, (whole, (map, (origin, (fixture, (stock, (cells, (margin, (from_travel, (rapids, (dialect, (help_is_sound FitsCuts _ refl refl, tt))))))))))))))))))
+
+draw_cells_sound : AreSound FitsCells draw_shape.rules
+draw_cells_sound =
+    let machine = set_is_sound FitsCells _ refl refl refl (λ v none. no_cells (codes "machine") v refl) in
+    let tools = set_is_sound FitsCells _ refl refl refl (λ v none. no_cells (codes "tools") v refl) in
+    let certificate = set_is_sound FitsCells _ refl refl refl (λ v none. no_cells (codes "certificate") v refl) in
+    let program = set_is_sound FitsCells _ refl refl refl (λ v none. no_cells (codes "program") v refl) in
+    let view = set_is_sound FitsCells _ refl refl refl (λ v none. no_cells (codes "view") v refl) in
+    let delete = flag_is_sound FitsCells _ (codes "true") (codes "false") refl refl refl (λ v. no_cells (codes "delete") v refl) in
+    let bodies = flag_is_sound FitsCells _ (codes "true") (codes "false") refl refl refl (λ v. no_cells (codes "bodies") v refl) in
+    let whole = flag_is_sound FitsCells _ (codes "true") (codes "false") refl refl refl (λ v. no_cells (codes "whole") v refl) in
+    let map = flag_is_sound FitsCells _ (codes "true") (codes "false") refl refl refl (λ v. no_cells (codes "map") v refl) in
+    let origin = append_is_sound FitsCells _ refl refl refl (λ v. no_cells (codes "origin") v refl) in
+    let fixture = append_is_sound FitsCells _ refl refl refl (λ v. no_cells (codes "fixture") v refl) in
+    let stock = set_is_sound FitsCells _ refl refl refl (λ v none. no_cells (codes "stock") v refl) in
+    let cells = set_is_sound FitsCells _ refl refl refl (λ v none same. cells_fit v none) in
+    let margin = set_is_sound FitsCells _ refl refl refl (λ v none. no_cells (codes "margin") v refl) in
+    let from_travel = set_is_sound FitsCells _ refl refl refl (λ v none. no_cells (codes "travel-margin") v refl) in
+    let rapids = set_is_sound FitsCells _ refl refl refl (λ v none. no_cells (codes "rapids") v refl) in
+    let dialect = set_is_sound FitsCells _ refl refl refl (λ v none. no_cells (codes "dialect") v refl) in
+    (machine, (tools, (certificate, (program, (view, (delete, (bodies, (whole, (map, (origin, (fixture, (stock, (cells, (margin, (from_travel, (rapids, (dialect, (help_is_sound FitsCells _ refl refl, tt))))))))))))))))))
 
 draw_values : (words : List Text) → level_fault draw_shape [] nothing_held words false [] ≡ [] → HasDrawValues (rows_after draw_shape.rules [] words)
 draw_values words none =
@@ -275,6 +301,7 @@ draw_values words none =
     let (tools, rest) = neither_true _ _ others in (
       given_has_value FitsCuts (codes "machine") rows filled (is_true _ machine),
       given_has_value FitsCuts (codes "tools") rows filled (is_true _ tools),
+      found_fits (codes "cells") (IsUnsignedIn 1 4000000) rows (level_is_filled FitsCells draw_shape draw_cells_sound words none).0,
     )
 
 show_sound : AreSound FitsCuts show_shape.rules
@@ -308,9 +335,6 @@ report_sound =
     let rapids = set_is_sound FitsCuts _ refl refl refl (λ v none. no_cuts (codes "rapids") v refl) in
     let dialect = set_is_sound FitsCuts _ refl refl refl (λ v none. no_cuts (codes "dialect") v refl) in
     (machine, (tools, (program, (cuts, (all, (json, (origin, (fixture, (stock, (cells, (margin, (from_travel, (rapids, (dialect, (help_is_sound FitsCuts _ refl refl, tt)))))))))))))))
-
-no_cells : (id text : Text) → bytes_eq id (codes "cells") ≡ false → FitsCells id text
-no_cells = other_fits (codes "cells") (IsUnsignedIn 1 4000000)
 
 report_cells_sound : AreSound FitsCells report_shape.rules
 report_cells_sound =

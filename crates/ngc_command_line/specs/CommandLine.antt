@@ -71,7 +71,8 @@ list_app = fold with_rule (new_app (codes "list"))
     ∷ flag (codes "delete") ∷ origin_option ∷ dialect_option ∷ [])
 
 -- In the commands below, the last two points stand for `[--fixture BOX].. [--stock BOX]` and
--- `[--margin MM] [--travel-margin MM] [--rapids WAY]`. `report` has `[--cells N]` between the two.
+-- `[--margin MM] [--travel-margin MM] [--rapids WAY]`. `report` and `draw` have `[--cells N]` between
+-- the two.
 
 -- `certify --machine FILE --tools FILE [--program FILE] [--cuts N] [--format VERSION]
 -- [--origin SYSTEM=X,Y,Z].. .. [--dialect NAME]`
@@ -123,14 +124,14 @@ live_app = fold with_rule (new_app (codes "live"))
     ∷ stock_option ∷ margin_option ∷ travel_margin_option ∷ rapids_option ∷ dialect_option ∷ [])
 
 -- `draw --machine FILE --tools FILE [--certificate FILE] [--program FILE] [--view VIEW] [--delete]
--- [--bodies] [--whole] [--origin SYSTEM=X,Y,Z].. .. [--dialect NAME]`
+-- [--bodies] [--whole] [--map] [--origin SYSTEM=X,Y,Z].. .. [--dialect NAME]`
 abbrev pub draw_app : App
 draw_app = fold with_rule (new_app (codes "draw"))
     (required_file (codes "machine") ∷ required_file (codes "tools")
     ∷ file_option (codes "certificate") ∷ file_option (codes "program")
     ∷ file_option (codes "view") ∷ flag (codes "delete") ∷ flag (codes "bodies")
-    ∷ flag (codes "whole") ∷ origin_option ∷ fixture_option
-    ∷ stock_option ∷ margin_option ∷ travel_margin_option ∷ rapids_option ∷ dialect_option ∷ [])
+    ∷ flag (codes "whole") ∷ flag (codes "map") ∷ origin_option ∷ fixture_option
+    ∷ stock_option ∷ cells_option ∷ margin_option ∷ travel_margin_option ∷ rapids_option ∷ dialect_option ∷ [])
 
 -- `show --machine FILE [--tools FILE] [--warnings]`
 abbrev pub show_app : App

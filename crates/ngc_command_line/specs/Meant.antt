@@ -246,6 +246,8 @@ pub record AreDrawOptions (rows : List Row) (options : DrawOptions) : Type 0 whe
   pub delete : options.delete ≡ is_set (codes "delete") rows
   pub bodies : options.bodies ≡ is_set (codes "bodies") rows
   pub whole : options.whole ≡ is_set (codes "whole") rows
+  pub map : options.map ≡ is_set (codes "map") rows
+  pub cells : AreCells (first_of (codes "cells") rows) options.cells
   pub changes : changes_in rows ≡ Some options.changes
   pub dialect : option_map (λ name. name.now) options.dialect ≡ first_of (codes "dialect") rows
 
@@ -335,6 +337,7 @@ HasLiveValues rows = HasValue (codes "machine") rows × HasValue (codes "tools")
 -- the values that are found for `draw` if the words are accepted
 abbrev pub HasDrawValues : List Row → Type 0
 HasDrawValues rows = HasValue (codes "machine") rows × HasValue (codes "tools") rows
+    × IfSome (first_of (codes "cells") rows) (IsUnsignedIn 1 4000000)
 
 -- the values that are found for `show` if the words are accepted
 abbrev pub HasShowValues : List Row → Type 0
@@ -462,7 +465,8 @@ IsLiveRequest machine tools certificate program delete output feed_ring (ToLive 
     × (live.changes ≡ no_changes) × (option_map (λ name. name.now) live.dialect ≡ None)
 IsLiveRequest machine tools certificate program delete output feed_ring other = ⊥
 
--- `draw` is requested, with these options, and no key is replaced
+-- `draw` is requested, with these options, no key is replaced, and neither a map nor a number of cells
+-- is requested
 abbrev pub IsDrawRequest : Text → Text → Option Text → Option Text → Option Text → Bool → Bool →
     Bool → Options → Type 0
 IsDrawRequest machine tools certificate program view delete bodies whole (ToDraw draw) =
@@ -472,6 +476,7 @@ IsDrawRequest machine tools certificate program view delete bodies whole (ToDraw
     × (option_map (λ name. name.now) draw.view ≡ view) × (draw.delete ≡ delete)
     × (draw.bodies ≡ bodies) × (draw.whole ≡ whole)
     × (draw.changes ≡ no_changes) × (option_map (λ name. name.now) draw.dialect ≡ None)
+    × (draw.map ≡ false) × (draw.cells ≡ None)
 IsDrawRequest machine tools certificate program view delete bodies whole other = ⊥
 
 -- `show` is requested, with these options

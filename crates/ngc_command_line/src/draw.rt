@@ -9,6 +9,7 @@ use crate::arguments::{
     STOCK, TRAVEL_MARGIN, flag_is_set, help_end, required,
 };
 use crate::options::DrawOptions;
+use crate::report::cells_of;
 use crate::table::{Argument, SubcommandRow, Takes};
 use clap::ArgMatches;
 use ngc_margins::Changes;
@@ -45,6 +46,22 @@ const WHOLE: Argument<'static> = Argument {
     help: "Show the whole travel, also where it is more than\nthree times larger than fixtures and path",
 };
 
+const MAP: Argument<'static> = Argument {
+    name: "map",
+    is_named: true,
+    is_required: false,
+    takes: Takes::Nothing,
+    help: "Print a PNG picture of the heights that are left of\nthe material, red where a motion may touch it; ignore\n--view, --bodies, --whole and --certificate",
+};
+
+const MAP_CELLS: Argument<'static> = Argument {
+    name: "cells",
+    is_named: true,
+    is_required: false,
+    takes: Takes::Number("N", 1, 4_000_000),
+    help: "Most cells of the map, 1 to 4000000\n[default: 250000]",
+};
+
 pub(crate) static DRAW: SubcommandRow<'static> = SubcommandRow {
     name: "draw",
     about: "Draw a part program, its fixtures and its travel as an SVG picture",
@@ -61,9 +78,11 @@ pub(crate) static DRAW: SubcommandRow<'static> = SubcommandRow {
         DELETE,
         BODIES,
         WHOLE,
+        MAP,
         ORIGIN,
         FIXTURE,
         STOCK,
+        MAP_CELLS,
         MARGIN,
         TRAVEL_MARGIN,
         RAPIDS,
@@ -85,6 +104,8 @@ pub(crate) fn draw_options<'a>(found: &ArgMatches<'a>, changes: Changes) -> Draw
         delete: flag_is_set(found, "delete"),
         bodies: flag_is_set(found, "bodies"),
         whole: flag_is_set(found, "whole"),
+        map: flag_is_set(found, "map"),
+        cells: cells_of(found),
         changes,
         dialect: found.get_str("dialect"),
     }

@@ -206,7 +206,8 @@ pub fn read_options<'a>(alloc: Global, words: &'a [&'a str]) -> Result<Options<'
         (IsLiveRequest machine tools certificate program delete output feed_ring)
         (λ fault. fault ≡ UsageFault.Memory) }
     // `draw --machine=FILE --tools=FILE --certificate=FILE --program=FILE --view=VIEW --delete
-    // --bodies --whole` is read as it is written, where the last six may be left out.
+    // --bodies --whole` is read as it is written, where the last six may be left out. Without `--map` no
+    // map is requested.
     ensures spelled_draw { (machine tools : Text) (certificate program : Option Text)
         (view : Option Text) (delete bodies whole : Bool)
         → texts words.entry.now

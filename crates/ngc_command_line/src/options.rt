@@ -217,6 +217,12 @@ pub struct DrawOptions<'a> {
     /// Whether the whole travel is shown, also where it is more than three times larger than
     /// fixtures and path.
     pub whole: bool,
+    /// Whether the output is a map of the heights that are left of the material, in place of the
+    /// picture. With it certificate, view, bodies and whole are ignored.
+    pub map: bool,
+    /// The most cells that a map has, from 1 to 4,000,000. The default is 250,000. Without a map it is
+    /// ignored.
+    pub cells: Option<u32>,
     /// What replaces keys of the machine file.
     pub changes: Changes,
     /// The control in whose language the program is written. Without one it is our own language.

@@ -74,7 +74,8 @@ fn cells_in(text: &str) -> u32
     }
 }
 
-fn cells_of(found: &ArgMatches<'_>) -> Option<u32>
+// Returns the number of cells of the option `--cells`.
+pub(crate) fn cells_of(found: &ArgMatches<'_>) -> Option<u32>
     requires { IfSome (first_of (codes "cells") (rows_of (found_of found.now)))
         (IsUnsignedIn 1 4000000) }
     ensures { AreCells (first_of (codes "cells") (rows_of (found_of found.now))) result }

@@ -54,8 +54,8 @@ log_numbers = 701 ∷ 702 ∷ 703 ∷ []
 
 -- input, output and the command line
 abbrev pub shell_numbers : List ℕ
-shell_numbers = 720 ∷ 721 ∷ 722 ∷ 723 ∷ 724 ∷ 726 ∷ 727 ∷ 728 ∷ 729 ∷ 900 ∷ 901
-    ∷ 902 ∷ []
+shell_numbers = 720 ∷ 721 ∷ 722 ∷ 723 ∷ 724 ∷ 726 ∷ 727 ∷ 728 ∷ 729 ∷ 730 ∷ 900
+    ∷ 901 ∷ 902 ∷ []
 
 -- all of them
 abbrev pub fault_numbers : List ℕ

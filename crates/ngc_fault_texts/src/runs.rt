@@ -156,6 +156,16 @@ pub(crate) fn shell() -> &'static [Row]
              smaller for which traverses are tested.",
         },
         Row {
+            number: 730,
+            rule: "`ngc draw --map` needs a block of material: name one with `--stock`, or leave `--map` out\n\
+             (our own). It is 730 too if the block, or the end of a motion, is more than 2 m from the machine's\n\
+             zero.",
+            example: "command `ngc draw --map` with a machine file without `stock`",
+            answer: "`ngc: fault 730`",
+            place: Some("3"),
+            mend: "The block may also be in the machine file or in the job file. `ngc report` says if it is too far.",
+        },
+        Row {
             number: 900,
             rule: "There isn't enough memory for the files and the commands: give `ngc` more (our own).",
             example: "command `ngc list` in a shell after `ulimit -v 8000`, with a program of 100,000 lines",

@@ -13,6 +13,8 @@ returns c = record {
   delete = c.flag_is_set.ensures;
   bodies = c.flag_is_set-2.ensures;
   whole = c.flag_is_set-3.ensures;
+  map = c.flag_is_set-4.ensures;
+  cells = c.cells_of.ensures;
   changes = c.requires.changes;
   dialect = c.get_str-4.ensures ∙ first_value-rows (found_of c.args.found.now) (codes "dialect");
 }
