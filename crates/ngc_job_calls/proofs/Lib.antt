@@ -2,3 +2,5 @@
 pub mod Noted
 -- What a call with its job file returns.
 pub mod Outcomes
+-- What is said of a job file that is no document, or is one.
+pub mod Stopped

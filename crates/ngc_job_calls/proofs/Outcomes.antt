@@ -8,7 +8,7 @@ use Rattle.ngc_inputs.specs.Setups.{FileBytes}
 use Rattle.ngc_inputs.specs.Unread.{SourceFails}
 use Rattle.ngc_inputs.specs.declared.setup.TheConstants.{FILE_LIMIT}
 use Rattle.ngc_job_calls.specs.Calls.{Counts, IsAsked, IsFor, IsOpened, IsText, IsUsageBy, IsWithFile, IsWithText, TextIs, read_fault}
-use Rattle.ngc_job_calls.specs.Said.{FaultSays, job_words}
+use Rattle.ngc_job_calls.specs.Said.{FaultSays, SaysJob}
 use Rattle.ngc_job_calls.specs.declared.call.JobCall.{JobCall}
 use Rattle.ngc_job_calls.specs.declared.fault.CallFault.{CallFault}
 use Rattle.ngc_job_calls.specs.declared.fault.CallFault.TheVariants as faults
@@ -35,11 +35,11 @@ stopped remaining failures bytes counts file opened left inputs.TooLong is gave 
 -- ---- the words that it adds
 
 pub unsaid : (name text : Text) (words : List Text) (fault : CallFault)
-    → FaultSays fault (job_words name text words) → IsWithText name text words (Err fault)
+    → SaysJob name text words (FaultSays fault) → IsWithText name text words (Err fault)
 unsaid name text words (faults.Refused said) says = says
 unsaid name text words faults.Memory says = tt
-unsaid name text words faults.Unread says = absurd says
-unsaid name text words (faults.Usage said) says = absurd says
+unsaid name text words faults.Unread says = absurd says.holds
+unsaid name text words (faults.Usage said) says = absurd says.holds
 
 pub with_text : (Fails : Option Text → Type 0) (bytes : FileBytes) (counts : Counts) (file : File) (text : Text)
     (words : List Text) (result : Result JobCall CallFault) → IsText bytes counts file (Some text)

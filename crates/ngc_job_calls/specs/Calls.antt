@@ -11,7 +11,7 @@ use Rattle.ngc_job_words.specs.Folders.{File, job_file}
 use Rattle.ngc_job_words.specs.declared.call.AskedFault.{AskedFault}
 use Rattle.ngc_job_words.specs.declared.call.AskedFault.TheVariants as asks
 use Rattle.ngc_job_calls.specs.Notes.{note_text}
-use Rattle.ngc_job_calls.specs.Said.{job_words}
+use Rattle.ngc_job_calls.specs.Said.{SaysJob}
 use Rattle.ngc_job_calls.specs.declared.call.JobCall.{JobCall}
 use Rattle.ngc_job_calls.specs.declared.fault.CallFault.{CallFault}
 use Rattle.ngc_job_calls.specs.declared.fault.CallFault.TheVariants as faults
@@ -82,12 +82,13 @@ IsAlone words (Err _) = ⊥
 -- the words, with those that a job file with this name and this text adds, and the line on it
 abbrev pub IsCallBy : Text → Text → List Text → Call → Type 0
 IsCallBy name text words call =
-    (call.words ≡ words) × (job_words name text words ≡ Ok call.added)
+    (call.words ≡ words) × SaysJob name text words (λ says. says ≡ Ok call.added)
     × (call.note ≡ note_text name call.added)
 
 abbrev pub IsWithText : Text → Text → List Text → Result JobCall CallFault → Type 0
 IsWithText name text words (Ok call) = IsCallBy name text words (call_in call)
-IsWithText name text words (Err (faults.Refused said)) = job_words name text words ≡ Err said.items
+IsWithText name text words (Err (faults.Refused said)) =
+    SaysJob name text words (λ says. says ≡ Err said.items)
 IsWithText name text words (Err faults.Memory) = Unit {0}
 IsWithText name text words (Err _) = ⊥
 

@@ -4,6 +4,7 @@ use Rattle.std.specs.Prelude.{Bool, ◌&&◌, if◌then◌else◌}
 use Rattle.toml.specs.Data.{Data}
 use Rattle.ngc_machine_files.specs.Tree.{tree_of}
 use Rattle.ngc_machine_figures.specs.declared.refusal.FileRefusal.{FileRefusal}
+use Rattle.ngc_refused_files.specs.Stops.{Stop, StopsWhere}
 use Rattle.ngc_job_files.specs.Jobs.{Job, job_of, values_of}
 use Rattle.ngc_job_files.specs.declared.job.JobSheet.{JobSheet}
 use Rattle.ngc_job_words.specs.Added.{added_words}
@@ -30,8 +31,8 @@ words_of name job words = Ok (added_words (folder_of name) job words)
 abbrev pub refused : Text → Text → FileRefusal → Text
 refused name bytes refusal = refused_text name bytes refusal
 
-abbrev pub no_document : Text → Text
-no_document name = no_document_text name
+abbrev pub no_document : Text → Text → Stop → Text
+no_document name bytes stop = no_document_text name bytes stop
 
 abbrev pub words_said : Text → Text → List Text → Result Job FileRefusal → Result (List Text) Text
 words_said name bytes words (Ok job) = words_of name job words
@@ -40,17 +41,18 @@ words_said name bytes words (Err refusal) = Err (refused name bytes refusal)
 abbrev pub words_in : Text → Text → Data → List Text → Result (List Text) Text
 words_in name bytes tree words = words_said name bytes words (job_of tree)
 
-abbrev pub words_found : Text → Text → List Text → Option Data → Result (List Text) Text
-words_found name bytes words None = Err (no_document name)
-words_found name bytes words (Some tree) = words_in name bytes tree words
+abbrev pub words_found : Text → Text → List Text → Stop → Option Data → Result (List Text) Text
+words_found name bytes words stop None = Err (no_document name bytes stop)
+words_found name bytes words stop (Some tree) = words_in name bytes tree words
 
-abbrev pub words_by : Text → Text → List Text → Result (List Text) Text
-words_by name bytes words = words_found name bytes words (tree_of bytes)
+abbrev pub words_by : Text → Text → List Text → Stop → Result (List Text) Text
+words_by name bytes words stop = words_found name bytes words stop (tree_of bytes)
 
--- the words that a job file with this name and these bytes adds to the words of a call, or what is
--- printed if it is refused
-abbrev pub job_words : Text → Text → List Text → Result (List Text) Text
-job_words name bytes words = words_by name (without_mark bytes) words
+-- P of the words that a job file with this name and these bytes adds to the words of a call, or of what
+-- is printed if it is refused
+abbrev pub SaysJob : Text → Text → List Text → (Result (List Text) Text → Type 0) → Type 0
+SaysJob name bytes words P =
+    StopsWhere (without_mark bytes) (λ stop. P (words_by name (without_mark bytes) words stop))
 
 -- ---- a result, unless memory was refused
 

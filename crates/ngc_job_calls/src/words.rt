@@ -1,6 +1,7 @@
 //! The words that the bytes of a job file add.
 ghost use Rattle.std.specs.Prelude.{◌≡◌, map, option_map, string_bytes, IfOk};
 ghost use Rattle.toml.specs.View.{view};
+ghost use Rattle.ngc_refused_files.specs.Stops.{StopsWhere};
 ghost use Rattle.ngc_job_calls.specs.Said as spec;
 
 use crate::bytes::without_mark;
@@ -9,9 +10,10 @@ use crate::refusal::{no_document_text, refused_text};
 use ngc_job_files::{JobFault, JobSheet, read_job};
 use ngc_job_words::{added_words, folder_of};
 use ngc_machine_figures::FileRefusal;
-use ngc_machine_files::read_tree;
+use ngc_refused_files::read_document;
 use std::alloc::Global;
 use toml::Value;
+use toml::de::Error;
 
 // Returns the words that a job adds.
 fn words_of(
@@ -54,10 +56,11 @@ fn words_in(
     }
 }
 
-fn no_document(alloc: Global, name: &str) -> CallFault
-    ensures { spec.FaultIs result (spec.no_document name.now) }
+fn no_document(alloc: Global, name: &str, bytes: &[u8], error: &Error) -> CallFault
+    ensures { StopsWhere bytes.now (λ stop.
+        spec.FaultIs result (spec.no_document name.now bytes.now stop)) }
 {
-    match no_document_text(alloc, name.as_bytes()) {
+    match no_document_text(alloc, name.as_bytes(), bytes, error) {
         Ok(text) => CallFault::Refused(text),
         Err(_) => CallFault::Memory,
     }
@@ -69,12 +72,13 @@ fn words_by(
     bytes: &[u8],
     words: &[&str],
 ) -> Result<Vec<String>, CallFault>
-    ensures { spec.ResultIs (λ added. map string_bytes added.items) result (spec.words_by name.now bytes.now (map (λ w. w.now) words.now)) }
+    ensures { StopsWhere bytes.now (λ stop. spec.ResultIs (λ added. map string_bytes added.items)
+        result (spec.words_by name.now bytes.now (map (λ w. w.now) words.now) stop)) }
 {
-    match read_tree(alloc, bytes) {
-        Ok(Some(tree)) => words_in(alloc, name, bytes, &tree, words),
-        Ok(None) => Err(no_document(alloc, name)),
-        Err(_) => Err(CallFault::Memory),
+    match read_document(alloc, bytes) {
+        Ok(tree) => words_in(alloc, name, bytes, &tree, words),
+        Err(error) if error.is_memory() => Err(CallFault::Memory),
+        Err(error) => Err(no_document(alloc, name, bytes, &error)),
     }
 }
 
@@ -86,7 +90,8 @@ pub fn job_words(
     bytes: &[u8],
     words: &[&str],
 ) -> Result<Vec<String>, CallFault>
-    ensures { spec.ResultIs (λ added. map string_bytes added.items) result (spec.job_words name.now bytes.now (map (λ w. w.now) words.now)) }
+    ensures { spec.SaysJob name.now bytes.now (map (λ w. w.now) words.now)
+        (spec.ResultIs (λ added. map string_bytes added.items) result) }
 {
     words_by(alloc, name, without_mark(bytes), words)
 }

@@ -1,17 +1,18 @@
 //! The mistake of a machine file.
-ghost use Rattle.std.specs.Prelude.{◌≡◌, ◌⊎◌, Err, IfSome, OnOk, OnErr, option_map};
+ghost use Rattle.std.specs.Prelude.{◌≡◌, ◌⊎◌, Err, IfSome, OnOk, OnErr};
 ghost use Rattle.std.specs.Io.KnownBytes.{Appends, Keeps};
 ghost use Rattle.toml.specs.View.{view};
 ghost use Rattle.ngc_text.specs.Failures.{CountsFailure};
 ghost use Rattle.ngc_text.specs.Written.{AppendsPrefix};
 ghost use Rattle.ngc_sentences.specs.Saying.{Says};
+ghost use Rattle.ngc_refused_files.specs.Stops.{StopsWhere};
 ghost use Rattle.ngc_machine_mistakes.specs.Mistakes as spec;
 ghost use Rattle.ngc_written_machines.specs.Machines.{written_machine as machine_of};
 
 use crate::sentence::say_figures;
 use ngc_machine_figures::is_written;
-use ngc_machine_files::{FileFault, read_tree};
-use ngc_refused_files::{write_forgotten, write_refusal};
+use ngc_machine_files::FileFault;
+use ngc_refused_files::{read_document, write_forgotten, write_refusal, write_stop};
 use ngc_sentences::{Page, Part, say};
 use ngc_setup_sheet::write_machine_mistake;
 use ngc_text::{Sink, WriteFault};
@@ -123,30 +124,9 @@ fn write_in_tree<W: Sink>(
     }
 }
 
-fn write_by_tree<W: Sink>(
-    alloc: Global,
-    name: &[u8],
-    bytes: &[u8],
-    tree: &Option<Value>,
-    fault: FileFault,
-    sink: &mut W,
-) -> Result<(), WriteFault>
-    ensures ok { OnOk result (Appends (W.written sink.old) (W.written sink.new)
-        (spec.text_in name.now bytes.now fault (option_map view tree.now))
-        ⊎ Keeps (W.written sink.old) (W.written sink.new)) }
-    ensures fault { OnErr result (AppendsPrefix (W.written sink.old) (W.written sink.new)
-        (spec.text_in name.now bytes.now fault (option_map view tree.now))) }
-    ensures counts { CountsFailure (W.failures sink.old) (W.failures sink.new) result }
-{
-    match tree {
-        Some(tree) => write_in_tree(alloc, name, bytes, tree, fault, sink),
-        None => write_machine_mistake(alloc, bytes, fault, sink),
-    }
-}
-
 /// Writes the first mistake of a machine file that is refused with this fault. In a file of version 3
-/// it begins with the file's name and the line. A file with the tables of version 3 and without a
-/// version lacks `version = 3`.
+/// it begins with the file's name and the line, as it does where the reader of TOML stops. A file
+/// with the tables of version 3 and without a version lacks `version = 3`.
 ///
 /// If memory is refused, nothing is written. After a fault (902) a prefix of the text is written,
 /// and the sink has counted the failure.
@@ -157,14 +137,18 @@ pub fn write_mistake<W: Sink>(
     fault: FileFault,
     sink: &mut W,
 ) -> Result<(), WriteFault>
-    ensures ok { OnOk result (Appends (W.written sink.old) (W.written sink.new)
-        (spec.mistake_text name.now bytes.now fault) ⊎ Keeps (W.written sink.old) (W.written sink.new)) }
-    ensures fault { OnErr result (AppendsPrefix (W.written sink.old) (W.written sink.new)
-        (spec.mistake_text name.now bytes.now fault)) }
+    ensures ok { OnOk result (StopsWhere bytes.now (λ stop.
+        Appends (W.written sink.old) (W.written sink.new)
+        (spec.mistake_text name.now fault bytes.now stop))
+        ⊎ Keeps (W.written sink.old) (W.written sink.new)) }
+    ensures fault { OnErr result (StopsWhere bytes.now (λ stop.
+        AppendsPrefix (W.written sink.old) (W.written sink.new)
+        (spec.mistake_text name.now fault bytes.now stop))) }
     ensures counts { CountsFailure (W.failures sink.old) (W.failures sink.new) result }
 {
-    match read_tree(alloc, bytes) {
-        Ok(tree) => write_by_tree(alloc, name.as_bytes(), bytes, &tree, fault, sink),
-        Err(_) => Ok(()),
+    match read_document(alloc, bytes) {
+        Ok(tree) => write_in_tree(alloc, name.as_bytes(), bytes, &tree, fault, sink),
+        Err(error) if error.is_memory() => Ok(()),
+        Err(error) => write_stop(name.as_bytes(), bytes, &error, sink),
     }
 }

@@ -61,7 +61,7 @@ mod words;
 
 pub use form::Form;
 pub use marks::{letter_byte, mark_of, write_named, write_named_source, written_number};
-pub use quotes::write_line;
+pub use quotes::{say_escaped, write_line};
 pub use refusals::{collect_refusals_head, collect_refused_command};
 pub use report::{write_fit, write_refusal};
 pub use report_fault::ReportFault;

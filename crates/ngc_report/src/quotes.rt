@@ -28,7 +28,8 @@ pub(crate) fn line_bytes<A: Allocator>(program: &Program<A>, number: u32) -> Opt
     None
 }
 
-fn say_escaped<W: Sink>(byte: u8, page: &mut Page, output: &mut W)
+/// Says a byte of a JSON string: a quotation mark or a backslash after a backslash, any other as it is.
+pub fn say_escaped<W: Sink>(byte: u8, page: &mut Page, output: &mut W)
     ensures { Says (W.written output.old) (W.written output.new)
         (W.failures output.old) (W.failures output.new) page.old page.new (escaped byte) }
 {

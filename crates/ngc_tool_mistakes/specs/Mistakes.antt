@@ -7,6 +7,7 @@ use Rattle.ngc_machine_files.specs.Tree.{tree_of}
 use Rattle.ngc_machine_files.specs.declared.fault.FileFault.{FileFault}
 use Rattle.ngc_machine_files.specs.declared.tools.Tool.{Tool}
 use Rattle.ngc_refused_files.specs.Refusals as keys
+use Rattle.ngc_refused_files.specs.Stops.{Stop, stop_text}
 use Rattle.ngc_setup_sheet.specs.Mistakes.{tools_mistake_text}
 use Rattle.ngc_written_tools.specs.Reading.{written_tools}
 use Rattle.ngc_written_tools.specs.declared.refusal.ToolsRefusal.{ToolsRefusal}
@@ -52,10 +53,11 @@ tree_text name bytes fault tree =
     if is_written tree then third_text name bytes (written_tools tree) else (
     if forgets_version tree then keys.forgotten_text name bytes else tools_mistake_text bytes fault)
 
-abbrev pub text_in : List ℕ → List ℕ → FileFault → Option Data → List ℕ
-text_in name bytes fault None = tools_mistake_text bytes fault
-text_in name bytes fault (Some tree) = tree_text name bytes fault tree
+-- of a text that is no document it is where the reader stopped
+abbrev pub text_in : List ℕ → List ℕ → FileFault → Stop → Option Data → List ℕ
+text_in name bytes fault stop None = stop_text name bytes stop
+text_in name bytes fault stop (Some tree) = tree_text name bytes fault tree
 
 -- the first mistake of a table with this name that is refused with this fault
-abbrev pub mistake_text : List ℕ → List ℕ → FileFault → List ℕ
-mistake_text name bytes fault = text_in name bytes fault (tree_of bytes)
+abbrev pub mistake_text : List ℕ → FileFault → List ℕ → Stop → List ℕ
+mistake_text name fault bytes stop = text_in name bytes fault stop (tree_of bytes)

@@ -7,12 +7,14 @@ ghost use Rattle.toml.specs.View.{view};
 ghost use Rattle.ngc_text.specs.Failures.{CountsFailure};
 ghost use Rattle.ngc_text.specs.Written.{AppendsPrefix};
 ghost use Rattle.ngc_sentences.specs.Saying.{Says};
+ghost use Rattle.ngc_machine_files.specs.Tree.{tree_of};
+ghost use Rattle.ngc_refused_files.specs.Stops.{StopsWhere};
 ghost use Rattle.ngc_tool_mistakes.specs.Mistakes as spec;
 ghost use Rattle.ngc_written_tools.specs.Reading.{written_tools as tools_of};
 
 use ngc_machine_figures::is_written;
-use ngc_machine_files::{FileFault, read_tree};
-use ngc_refused_files::{write_forgotten, write_refusal};
+use ngc_machine_files::FileFault;
+use ngc_refused_files::{read_document, write_forgotten, write_refusal, write_stop};
 use ngc_sentences::{Page, Part, say};
 use ngc_setup_sheet::write_tools_mistake;
 use ngc_text::{Sink, WriteFault};
@@ -117,9 +119,38 @@ fn forgets_version(tree: &Value) -> bool
     }
 }
 
+// Writes the mistake of a table that is a document.
+fn write_in_tree<W: Sink>(
+    alloc: Global,
+    name: &[u8],
+    bytes: &[u8],
+    tree: &Value,
+    fault: FileFault,
+    sink: &mut W,
+) -> Result<(), WriteFault>
+    requires { Some (view tree.now) ≡ tree_of bytes.now }
+    ensures ok { OnOk result (Appends (W.written sink.old) (W.written sink.new)
+        (spec.tree_text name.now bytes.now fault (view tree.now))
+        ⊎ Keeps (W.written sink.old) (W.written sink.new)) }
+    ensures fault { OnErr result (AppendsPrefix (W.written sink.old) (W.written sink.new)
+        (spec.tree_text name.now bytes.now fault (view tree.now))) }
+    ensures blank { IsBlank bytes.now →
+        OnOk result (Appends (W.written sink.old) (W.written sink.new)
+        (spec.tree_text name.now bytes.now fault (view tree.now))) }
+    ensures counts { CountsFailure (W.failures sink.old) (W.failures sink.new) result }
+{
+    if is_written(tree) {
+        write_third(alloc, name, bytes, tree, sink)
+    } else if forgets_version(tree) {
+        write_forgotten(name, bytes, sink)
+    } else {
+        write_tools_mistake(alloc, bytes, fault, sink)
+    }
+}
+
 /// Writes the first mistake of a tool table that is refused with this fault. In a table of version 3
-/// it begins with the file's name and the line. A table whose first tool has a diameter with a unit,
-/// and that has no version, lacks `version = 3`.
+/// it begins with the file's name and the line, as it does where the reader of TOML stops. A table
+/// whose first tool has a diameter with a unit, and that has no version, lacks `version = 3`.
 ///
 /// If memory is refused, nothing is written. After a fault (902) a prefix of the text is written,
 /// and the sink has counted the failure.
@@ -130,23 +161,22 @@ pub fn write_mistake<W: Sink>(
     fault: FileFault,
     sink: &mut W,
 ) -> Result<(), WriteFault>
-    ensures ok { OnOk result (Appends (W.written sink.old) (W.written sink.new)
-        (spec.mistake_text name.now bytes.now fault) ⊎ Keeps (W.written sink.old) (W.written sink.new)) }
-    ensures fault { OnErr result (AppendsPrefix (W.written sink.old) (W.written sink.new)
-        (spec.mistake_text name.now bytes.now fault)) }
+    ensures ok { OnOk result (StopsWhere bytes.now (λ stop.
+        Appends (W.written sink.old) (W.written sink.new)
+        (spec.mistake_text name.now fault bytes.now stop))
+        ⊎ Keeps (W.written sink.old) (W.written sink.new)) }
+    ensures fault { OnErr result (StopsWhere bytes.now (λ stop.
+        AppendsPrefix (W.written sink.old) (W.written sink.new)
+        (spec.mistake_text name.now fault bytes.now stop))) }
     // A file with only white space and comments takes no memory.
-    ensures blank { IsBlank bytes.now →
-        OnOk result (Appends (W.written sink.old) (W.written sink.new)
-        (spec.mistake_text name.now bytes.now fault)) }
+    ensures blank { IsBlank bytes.now → OnOk result (StopsWhere bytes.now (λ stop.
+        Appends (W.written sink.old) (W.written sink.new)
+        (spec.mistake_text name.now fault bytes.now stop))) }
     ensures counts { CountsFailure (W.failures sink.old) (W.failures sink.new) result }
 {
-    let tree = match read_tree(alloc, bytes) {
-        Ok(tree) => tree,
-        Err(_) => return Ok(()),
-    };
-    match &tree {
-        Some(tree) if is_written(tree) => write_third(alloc, name.as_bytes(), bytes, tree, sink),
-        Some(tree) if forgets_version(tree) => write_forgotten(name.as_bytes(), bytes, sink),
-        _ => write_tools_mistake(alloc, bytes, fault, sink),
+    match read_document(alloc, bytes) {
+        Ok(tree) => write_in_tree(alloc, name.as_bytes(), bytes, &tree, fault, sink),
+        Err(error) if error.is_memory() => Ok(()),
+        Err(error) => write_stop(name.as_bytes(), bytes, &error, sink),
     }
 }

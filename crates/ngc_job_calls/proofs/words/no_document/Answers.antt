@@ -1,0 +1,1 @@
+use Rattle.ngc_job_calls.proofs.words.no_document.Goals as goal
