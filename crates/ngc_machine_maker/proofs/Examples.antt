@@ -93,6 +93,7 @@ numbers_of_a_small_router : numbers_of small_router ≡ Ok (record {
   ticks_per_second = 27000;
   max_rate = 493827;
   change = 21;
+  changes = three 32 32 21;
   corner = 59259;
   turn = 21947873;
   axis_rate = three 493827 493827 296296;
@@ -137,6 +138,7 @@ numbers_of_a_bench_mill : numbers_of bench_mill ≡ Ok (record {
   ticks_per_second = 24000;
   max_rate = 488035;
   change = 109;
+  changes = three 109 109 109;
   corner = 262384;
   turn = 54663448;
   axis_rate = three 488035 488035 349846;
@@ -180,6 +182,7 @@ numbers_of_a_large_router : numbers_of large_router ≡ Ok (record {
   ticks_per_second = 40000;
   max_rate = 787351;
   change = 17;
+  changes = three 23 23 17;
   corner = 47241;
   turn = 35430839;
   axis_rate = three 787351 787351 393675;

@@ -36,6 +36,7 @@ small_numbers = record {
   ticks_per_second = 27000;
   max_rate = 493827;
   change = 21;
+  changes = three 32 32 21;
   corner = 59259;
   turn = 21947873;
   axis_rate = three 493827 493827 296296;

@@ -1,8 +1,10 @@
 -- A machine's rates as speeds and accelerations. Our own.
-use Rattle.std.specs.Prelude.{ℕ, ◌+◌, ◌*◌, ◌/◌, max, unsigned_abs}
+use Rattle.std.specs.Prelude.{ℕ, ◌+◌, ◌*◌, ◌/◌, min, max, unsigned_abs, Option, Some, None}
 use Rattle.ngc_machine_files.specs.Machine.{MachineFile}
 use Rattle.ngc_machine_files.specs.declared.machine.ArcFeed.{ArcFeed}
 use Rattle.ngc_machine_files.specs.declared.machine.ArcFeed.TheVariants as arc_feeds
+use Rattle.ngc_machine_files.specs.declared.machine.AxisLimits.{AxisLimits}
+use Rattle.ngc_machine_files.specs.declared.machine.AxisRates.{AxisRates}
 use Rattle.ngc_motors.specs.declared.step.MotorStep.{MotorStep}
 
 -- a number in a unit, to the nearest; halves go up
@@ -21,6 +23,18 @@ speed m rate = rate * step_speed m
 -- an acceleration in steps per tick, per tick, as nanometres per second squared
 abbrev pub gain : MachineFile → ℕ → ℕ
 gain m steps = steps * (step_speed m * m.ticks_per_second)
+
+-- the change of the rate of a motion along each axis alone
+abbrev pub changes_by : Option AxisLimits → ℕ → AxisRates
+changes_by None change = record { x = change; y = change; z = change }
+changes_by (Some own) change = record {
+  x = min change own.changes.x;
+  y = min change own.changes.y;
+  z = min change own.changes.z;
+}
+
+abbrev pub axis_changes : MachineFile → AxisRates
+axis_changes m = changes_by m.own m.change
 
 -- ---- in thousandths of the units that a shop uses
 

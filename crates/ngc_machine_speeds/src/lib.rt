@@ -4,6 +4,6 @@
 mod speeds;
 
 pub use speeds::{
-    acceleration, arc_acceleration, gain, millimetres_a_minute, motor_steps_a_millimetre, pull,
-    speed, steps_a_millimetre,
+    acceleration, arc_acceleration, axis_changes, gain, millimetres_a_minute,
+    motor_steps_a_millimetre, pull, speed, steps_a_millimetre,
 };

@@ -2,13 +2,14 @@
 ghost use Rattle.std.specs.Prelude.{◌≡◌, ◌≤◌, ◌<◌, ◌*◌, ◌^◌, unsigned_abs};
 ghost use Rattle.ngc_fixed_length.specs.Length.{IsStep};
 ghost use Rattle.ngc_machine_files.specs.Machine.{file_of};
+ghost use Rattle.ngc_machine_files.specs.Ranges.{AreRates};
 ghost use Rattle.ngc_machine_speeds.specs.Speeds.{rounded, step_speed, speed, gain};
-ghost use Rattle.ngc_machine_speeds.specs.Speeds.{millimetres_a_minute, acceleration};
+ghost use Rattle.ngc_machine_speeds.specs.Speeds.{axis_changes, millimetres_a_minute, acceleration};
 ghost use Rattle.ngc_machine_speeds.specs.Speeds.{diagonal_turns, pull, arc_acceleration, steps_a_millimetre};
 ghost use Rattle.ngc_machine_speeds.specs.Speeds.{motor_steps_a_millimetre};
 
 use ngc_fixed_length::Nm;
-use ngc_machine_files::{ArcFeed, Machine};
+use ngc_machine_files::{ArcFeed, AxisRates, Machine};
 use ngc_motors::MotorStep;
 use std::alloc::Allocator;
 
@@ -80,11 +81,34 @@ pub fn millimetres_a_minute<A: Allocator>(machine: &Machine<A>, rate: u32) -> u1
     rounded(60 * u128::from(speed(machine, rate)), 1_000_000_000)
 }
 
-/// Returns the acceleration along the path, in thousandths of a millimetre per second squared.
-pub fn acceleration<A: Allocator>(machine: &Machine<A>) -> u128
-    ensures { result ≡ acceleration (file_of machine.now) (file_of machine.now).change }
+/// Returns the change of the rate of a motion along each axis alone, in millionths of a step per tick:
+/// that of the axis, or the machine's if it has no limits of each axis.
+pub fn axis_changes<A: Allocator>(machine: &Machine<A>) -> AxisRates
+    ensures value { result ≡ axis_changes (file_of machine.now) }
+    ensures range { AreRates result }
 {
-    rounded(gain(machine, u64::from(machine.change)), 1_000_000_000)
+    let change = machine.change;
+    match &machine.own {
+        None => AxisRates {
+            x: change,
+            y: change,
+            z: change,
+        },
+        Some(own) => AxisRates {
+            x: change.min(own.changes.x),
+            y: change.min(own.changes.y),
+            z: change.min(own.changes.z),
+        },
+    }
+}
+
+/// Returns the acceleration of a change of the rate, in thousandths of a millimetre per second
+/// squared.
+pub fn acceleration<A: Allocator>(machine: &Machine<A>, change: u32) -> u128
+    requires { change ≤ 1000000 }
+    ensures { result ≡ acceleration (file_of machine.now) change }
+{
+    rounded(gain(machine, u64::from(change)), 1_000_000_000)
 }
 
 /// Returns the greatest acceleration towards the centre of an arc that is aimed at, in turns.

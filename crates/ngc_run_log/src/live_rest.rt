@@ -15,7 +15,7 @@ use ngc_text::{Sink, Source, WriteFault};
 use std::alloc::Allocator;
 
 /// Brings the machine of a run to rest, and writes the results. If it moves, it is held, and ticks
-/// follow until its rate is 0. Each of them brakes by the machine file's `change`.
+/// follow until its rate is 0. Each of them brakes by the change of the motion.
 ///
 /// If a write fails (902), a prefix of the text is written. Feed nothing more then.
 pub fn brake<A: Allocator + Copy, W: Sink>(

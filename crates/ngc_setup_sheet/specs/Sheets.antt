@@ -16,6 +16,7 @@ use Rattle.ngc_fixed_length.specs.declared.points.Point3.{Point3}
 use Rattle.ngc_machine_files.specs.Machine.{MachineFile}
 use Rattle.ngc_machine_files.specs.declared.machine.ArcFeed.{ArcFeed}
 use Rattle.ngc_machine_files.specs.declared.machine.ArcFeed.TheVariants as arc_feeds
+use Rattle.ngc_machine_files.specs.declared.machine.AxisRates.{AxisRates}
 use Rattle.ngc_machine_files.specs.declared.machine.Fixture.{Fixture}
 use Rattle.ngc_machine_files.specs.declared.machine.Rapids.{Rapids}
 use Rattle.ngc_machine_files.specs.declared.machine.Rapids.TheVariants as ways
@@ -23,7 +24,7 @@ use Rattle.ngc_machine_files.specs.declared.machine.StockBox.{StockBox}
 use Rattle.ngc_machine_files.specs.declared.parts.Part.{Part}
 use Rattle.ngc_machine_files.specs.declared.tools.Tool.{Tool}
 use Rattle.ngc_machine_speeds.specs.Speeds.{motor_steps_a_millimetre, steps_a_millimetre}
-use Rattle.ngc_machine_speeds.specs.Speeds.{millimetres_a_minute, acceleration}
+use Rattle.ngc_machine_speeds.specs.Speeds.{millimetres_a_minute, acceleration, axis_changes}
 use Rattle.ngc_machine_speeds.specs.Speeds.{arc_acceleration}
 use Rattle.ngc_motors.specs.Counts.{is_grid_step}
 use Rattle.ngc_motors.specs.declared.step.MotorStep.{MotorStep}
@@ -167,17 +168,46 @@ block_lines (Some b) = lines.Fact facts.Stock (figures.Block b) ∷ []
 abbrev pub stock_facts : MachineFile → List Line
 stock_facts m = block_lines m.stock
 
-abbrev pub acceleration_facts : MachineFile → Option MachineFigures → List Line
-acceleration_facts m f =
-    lines.Fact facts.Acceleration (acceleration_figure (acceleration_of f) (acceleration m m.change)) ∷
-    lines.Fact facts.ArcAcceleration (acceleration_figure (turn_of f) (arc_acceleration m)) ∷ []
-
--- the speed of an axis, of all that are written
+-- the figure of an axis, of all that are written
 abbrev pub axis_written : Axis → Option AxisFigures → Option ℕ
 axis_written axis None = None
 axis_written axes.X (Some s) = Some s.x
 axis_written axes.Y (Some s) = Some s.y
 axis_written axes.Z (Some s) = Some s.z
+
+abbrev pub accelerations_of : Option MachineFigures → Option AxisFigures
+accelerations_of None = None
+accelerations_of (Some f) = Some f.accelerations
+
+abbrev pub are_alike : AxisFigures → Bool
+are_alike a = (a.x == a.y) && (a.y == a.z)
+
+-- the axes have the same change, and the same acceleration is written for all of them
+abbrev pub have_one_acceleration : AxisRates → Option AxisFigures → Bool
+have_one_acceleration c None = (c.x == c.y) && (c.y == c.z)
+have_one_acceleration c (Some a) = ((c.x == c.y) && (c.y == c.z)) && are_alike a
+
+abbrev pub axis_acceleration : MachineFile → Option AxisFigures → Axis → ℕ → Line
+axis_acceleration m a axis change =
+    lines.Fact (facts.AxisAcceleration axis)
+    (acceleration_figure (axis_written axis a) (acceleration m change))
+
+-- the acceleration of each axis, unless all have the same
+abbrev pub accelerations_by : Bool → MachineFile → Option MachineFigures → AxisRates → List Line
+accelerations_by one m f c =
+    if one
+    then lines.Fact facts.Acceleration (acceleration_figure (acceleration_of f) (acceleration m c.x)) ∷ []
+    else axis_acceleration m (accelerations_of f) axes.X c.x
+    ∷ axis_acceleration m (accelerations_of f) axes.Y c.y
+    ∷ axis_acceleration m (accelerations_of f) axes.Z c.z ∷ []
+
+abbrev pub acceleration_facts : MachineFile → Option MachineFigures → List Line
+acceleration_facts m f =
+    accelerations_by (have_one_acceleration (axis_changes m) (accelerations_of f)) m f (axis_changes m)
+
+abbrev pub arc_fact : MachineFile → Option MachineFigures → Line
+arc_fact m f =
+    lines.Fact facts.ArcAcceleration (acceleration_figure (turn_of f) (arc_acceleration m))
 
 abbrev pub axis_fact : MachineFile → Option AxisFigures → Axis → ℕ → Line
 axis_fact m s axis rate =
@@ -189,7 +219,7 @@ speed_facts m s =
     ∷ axis_fact m s axes.Z m.axis_rates.z ∷ []
 
 abbrev pub rate_facts : MachineFile → Option MachineFigures → List Line
-rate_facts m f = acceleration_facts m f ++ speed_facts m (speeds_of f)
+rate_facts m f = acceleration_facts m f ++ (arc_fact m f ∷ speed_facts m (speeds_of f))
 
 abbrev pub machine_places : MachineFile → List Line
 machine_places m =

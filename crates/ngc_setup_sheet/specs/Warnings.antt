@@ -1,11 +1,12 @@
 -- What looks wrong in a machine file or in a tool table, though it is within its range. Our own.
-use Rattle.std.specs.Prelude.{nat_lt, ℤ, pos, ◌-ℤ◌, ◌*ℤ◌, int_lt, List, length, Bool, ◌&&◌, ◌||◌}
+use Rattle.std.specs.Prelude.{ℕ, min, max, nat_lt, ℤ, pos, ◌-ℤ◌, ◌*ℤ◌, int_lt, List, length, Bool, ◌&&◌, ◌||◌}
 use Rattle.std.specs.List.{list_all}
 use Rattle.std.specs.Ordering.{int_eq}
 use Rattle.ngc_machine_files.specs.Machine.{MachineFile}
+use Rattle.ngc_machine_files.specs.declared.machine.AxisRates.{AxisRates}
 use Rattle.ngc_machine_files.specs.declared.machine.Fixture.{Fixture}
 use Rattle.ngc_machine_files.specs.declared.tools.Tool.{Tool}
-use Rattle.ngc_machine_speeds.specs.Speeds.{speed, gain, pull}
+use Rattle.ngc_machine_speeds.specs.Speeds.{speed, gain, pull, axis_changes}
 use Rattle.ngc_setup_sheet.specs.Reaches.{top_of}
 
 -- the greatest speed is below 0.1 mm/s or above 1,000 mm/s
@@ -13,10 +14,17 @@ abbrev pub is_odd_speed : MachineFile → Bool
 is_odd_speed m =
     nat_lt (speed m m.max_rate) 100000000000 || nat_lt 1000000000000000 (speed m m.max_rate)
 
--- the acceleration is below 1 mm/s² or above 20,000 mm/s²
+abbrev pub least_change : AxisRates → ℕ
+least_change c = min (min c.x c.y) c.z
+
+abbrev pub greatest_change : AxisRates → ℕ
+greatest_change c = max (max c.x c.y) c.z
+
+-- the acceleration of an axis is below 1 mm/s² or above 20,000 mm/s²
 abbrev pub is_odd_acceleration : MachineFile → Bool
 is_odd_acceleration m =
-    nat_lt (gain m m.change) 1000000000000 || nat_lt 20000000000000000 (gain m m.change)
+    nat_lt (gain m (least_change (axis_changes m))) 1000000000000
+    || nat_lt 20000000000000000 (gain m (greatest_change (axis_changes m)))
 
 -- the greatest acceleration towards the centre of an arc is below 1 mm/s², the least that is not
 -- odd of the acceleration along a path. An arc with a radius of 10 mm is then slower than 3.2 mm/s

@@ -53,10 +53,13 @@ pub enum Fact {
     Dialect,
     /// The block of material that is cut.
     Stock,
+    /// The acceleration along the path, where all axes have the same.
     Acceleration,
+    /// The acceleration of a motion along the axis alone.
+    AxisAcceleration(Axis),
     /// The greatest acceleration towards the centre of an arc that is aimed at.
     ArcAcceleration,
-    /// The greatest speed of a motion that may move the axis.
+    /// The greatest speed of the axis.
     Speed(Axis),
     Travel(Axis),
     Start,

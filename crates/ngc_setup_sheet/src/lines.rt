@@ -12,6 +12,7 @@ ghost use Rattle.ngc_setup_sheet.specs.Sheets.{jump_facts, ring_facts, arc_feed_
 ghost use Rattle.ngc_setup_sheet.specs.Sheets.{is_zero, origin_lines, next_system, origins_from};
 ghost use Rattle.ngc_setup_sheet.specs.Sheets.{machine_warnings, machine_lines, fixture_facts};
 ghost use Rattle.ngc_setup_sheet.specs.Sheets.{acceleration_facts, acceleration_figure, arc_warning};
+ghost use Rattle.ngc_setup_sheet.specs.Sheets.{accelerations_of, axis_acceleration, have_one_acceleration};
 ghost use Rattle.ngc_setup_sheet.specs.Sheets.{axis_fact, axis_written, corner_note_by, cutter_lines};
 ghost use Rattle.ngc_setup_sheet.specs.Sheets.{feed_lines, is_thousandths, limit_lines, short_warning};
 ghost use Rattle.ngc_setup_sheet.specs.Sheets.{speed_facts, speed_figure, thin_warning, turning_lines};
@@ -31,21 +32,21 @@ use ngc_file_figures::{
     limits_of, speeds_of, turn_of,
 };
 use ngc_fixed_length::{Nm, Point3, System};
-use ngc_machine_files::{ArcFeed, Fixture, Machine, Part, Parts, Rapids, Tool};
+use ngc_machine_files::{ArcFeed, AxisRates, Fixture, Machine, Part, Parts, Rapids, Tool};
 use ngc_machine_speeds::{
-    acceleration, arc_acceleration, millimetres_a_minute, motor_steps_a_millimetre,
+    acceleration, arc_acceleration, axis_changes, millimetres_a_minute, motor_steps_a_millimetre,
     steps_a_millimetre,
 };
 use ngc_motors::MotorStep;
 use std::alloc::Allocator;
 
 /// Space for the lines of a machine, of a fixture or of a tool.
-pub(crate) type Lines = ArrayVec<Line, 55>;
+pub(crate) type Lines = ArrayVec<Line, 57>;
 
 const SHORT_TRAVEL: i64 = 10_000_000;
 
 fn add_all(lines: &mut Lines, told: &[Line])
-    requires { array_vec_len lines.old + length told.now ≤ 55 }
+    requires { array_vec_len lines.old + length told.now ≤ 57 }
     ensures items { lines.new.items ≡ lines.old.items ++ told.now }
     ensures count { array_vec_len lines.new ≡ array_vec_len lines.old + length told.now }
 {
@@ -54,7 +55,7 @@ fn add_all(lines: &mut Lines, told: &[Line])
 
 /// Adds a line if a condition holds.
 fn add_where(lines: &mut Lines, holds: bool, line: Line)
-    requires { array_vec_len lines.old < 55 }
+    requires { array_vec_len lines.old < 57 }
     ensures items { lines.new.items ≡ lines.old.items ++ line_where holds line }
     ensures few { array_vec_len lines.new ≤ array_vec_len lines.old + 1 }
 {
@@ -64,7 +65,7 @@ fn add_where(lines: &mut Lines, holds: bool, line: Line)
 }
 
 fn warn(lines: &mut Lines, wrong: bool, warning: Warning)
-    requires { array_vec_len lines.old < 55 }
+    requires { array_vec_len lines.old < 57 }
     ensures items { lines.new.items ≡ lines.old.items ++ warned wrong warning }
     ensures few { array_vec_len lines.new ≤ array_vec_len lines.old + 1 }
 {
@@ -172,7 +173,7 @@ fn motor_fact(axis: Axis, step: &MotorStep) -> Line
 
 // Adds the step of each motor, unless it is that of the grid on all axes.
 fn add_motors<A: Allocator>(lines: &mut Lines, machine: &Machine<A>)
-    requires { array_vec_len lines.old + 3 ≤ 55 }
+    requires { array_vec_len lines.old + 3 ≤ 57 }
     ensures items { lines.new.items ≡ lines.old.items ++ motor_facts (file_of machine.now) }
     ensures few { array_vec_len lines.new ≤ array_vec_len lines.old + 3 }
 {
@@ -190,7 +191,7 @@ fn add_motors<A: Allocator>(lines: &mut Lines, machine: &Machine<A>)
 }
 
 fn add_jump<A: Allocator>(lines: &mut Lines, machine: &Machine<A>, written: &Option<MachineFigures>)
-    requires { array_vec_len lines.old < 55 }
+    requires { array_vec_len lines.old < 57 }
     ensures items { lines.new.items
         ≡ lines.old.items ++ jump_facts (file_of machine.now) written.now }
     ensures few { array_vec_len lines.new ≤ array_vec_len lines.old + 1 }
@@ -203,7 +204,7 @@ fn add_jump<A: Allocator>(lines: &mut Lines, machine: &Machine<A>, written: &Opt
 }
 
 fn add_ring<A: Allocator>(lines: &mut Lines, machine: &Machine<A>)
-    requires { array_vec_len lines.old < 55 }
+    requires { array_vec_len lines.old < 57 }
     ensures items { lines.new.items ≡ lines.old.items ++ ring_facts (file_of machine.now) }
     ensures few { array_vec_len lines.new ≤ array_vec_len lines.old + 1 }
 {
@@ -212,7 +213,7 @@ fn add_ring<A: Allocator>(lines: &mut Lines, machine: &Machine<A>)
 }
 
 fn add_arc_feed<A: Allocator>(lines: &mut Lines, machine: &Machine<A>)
-    requires { array_vec_len lines.old < 55 }
+    requires { array_vec_len lines.old < 57 }
     ensures items { lines.new.items ≡ lines.old.items ++ arc_feed_facts (file_of machine.now) }
     ensures few { array_vec_len lines.new ≤ array_vec_len lines.old + 1 }
 {
@@ -226,7 +227,7 @@ fn add_arc_feed<A: Allocator>(lines: &mut Lines, machine: &Machine<A>)
 }
 
 fn add_changer<A: Allocator>(lines: &mut Lines, machine: &Machine<A>)
-    requires { array_vec_len lines.old < 55 }
+    requires { array_vec_len lines.old < 57 }
     ensures items { lines.new.items ≡ lines.old.items ++ changer_facts (file_of machine.now) }
     ensures few { array_vec_len lines.new ≤ array_vec_len lines.old + 1 }
 {
@@ -238,7 +239,7 @@ fn add_changer<A: Allocator>(lines: &mut Lines, machine: &Machine<A>)
 }
 
 fn add_margin(lines: &mut Lines, fact: Fact, margin: Nm)
-    requires { array_vec_len lines.old < 55 }
+    requires { array_vec_len lines.old < 57 }
     ensures items { lines.new.items ≡ lines.old.items ++ margin_line fact margin }
     ensures few { array_vec_len lines.new ≤ array_vec_len lines.old + 1 }
 {
@@ -251,7 +252,7 @@ fn add_margin(lines: &mut Lines, fact: Fact, margin: Nm)
 }
 
 fn add_margins<A: Allocator>(lines: &mut Lines, machine: &Machine<A>)
-    requires { array_vec_len lines.old + 3 ≤ 55 }
+    requires { array_vec_len lines.old + 3 ≤ 57 }
     ensures items { lines.new.items ≡ lines.old.items ++ margin_facts (file_of machine.now) }
     ensures few { array_vec_len lines.new ≤ array_vec_len lines.old + 3 }
 {
@@ -274,7 +275,7 @@ fn is_free(rapids: Rapids) -> bool
 }
 
 fn add_dialect<A: Allocator>(lines: &mut Lines, machine: &Machine<A>)
-    requires { array_vec_len lines.old < 55 }
+    requires { array_vec_len lines.old < 57 }
     ensures items { lines.new.items ≡ lines.old.items ++ dialect_facts (file_of machine.now) }
     ensures few { array_vec_len lines.new ≤ array_vec_len lines.old + 1 }
 {
@@ -288,7 +289,7 @@ fn add_dialect<A: Allocator>(lines: &mut Lines, machine: &Machine<A>)
 }
 
 fn add_stock<A: Allocator>(lines: &mut Lines, machine: &Machine<A>)
-    requires { array_vec_len lines.old < 55 }
+    requires { array_vec_len lines.old < 57 }
     ensures items { lines.new.items ≡ lines.old.items ++ stock_facts (file_of machine.now) }
     ensures few { array_vec_len lines.new ≤ array_vec_len lines.old + 1 }
 {
@@ -298,29 +299,76 @@ fn add_stock<A: Allocator>(lines: &mut Lines, machine: &Machine<A>)
     }
 }
 
-fn acceleration_facts<A: Allocator>(
-    machine: &Machine<A>,
-    written: &Option<MachineFigures>,
-) -> [Line; 2]
-    ensures { result ≡ acceleration_facts (file_of machine.now) written.now }
+// Returns the figure of an axis, of all that are written.
+fn axis_written(axis: Axis, figures: &Option<AxisFigures>) -> Option<u64>
+    ensures { result ≡ axis_written axis figures.now }
 {
-    let along = acceleration_figure(acceleration_of(written), acceleration(machine));
-    let arcs = acceleration_figure(turn_of(written), arc_acceleration(machine));
-    [
-        Line::Fact(Fact::Acceleration, along),
-        Line::Fact(Fact::ArcAcceleration, arcs),
-    ]
+    match (figures, axis) {
+        (None, _) => None,
+        (Some(figures), Axis::X) => Some(figures.x),
+        (Some(figures), Axis::Y) => Some(figures.y),
+        (Some(figures), Axis::Z) => Some(figures.z),
+    }
 }
 
-// Returns the speed of an axis, of all that are written.
-fn axis_written(axis: Axis, speeds: &Option<AxisFigures>) -> Option<u64>
-    ensures { result ≡ axis_written axis speeds.now }
+fn accelerations_of(written: &Option<MachineFigures>) -> Option<AxisFigures>
+    ensures { result ≡ accelerations_of written.now }
 {
-    match (speeds, axis) {
-        (None, _) => None,
-        (Some(speeds), Axis::X) => Some(speeds.x),
-        (Some(speeds), Axis::Y) => Some(speeds.y),
-        (Some(speeds), Axis::Z) => Some(speeds.z),
+    match written {
+        None => None,
+        Some(written) => Some(written.accelerations),
+    }
+}
+
+// Returns whether the axes have the same change, and the same acceleration is written for all of them.
+fn have_one_acceleration(changes: &AxisRates, written: &Option<AxisFigures>) -> bool
+    ensures { result ≡ have_one_acceleration changes.now written.now }
+{
+    let one = changes.x == changes.y && changes.y == changes.z;
+    match written {
+        None => one,
+        Some(written) => one && (written.x == written.y && written.y == written.z),
+    }
+}
+
+fn axis_acceleration<A: Allocator>(
+    machine: &Machine<A>,
+    written: &Option<AxisFigures>,
+    axis: Axis,
+    change: u32,
+) -> Line
+    requires { IsRate change }
+    ensures { result ≡ axis_acceleration (file_of machine.now) written.now axis change }
+{
+    let figure = acceleration_figure(axis_written(axis, written), acceleration(machine, change));
+    Line::Fact(Fact::AxisAcceleration(axis), figure)
+}
+
+// Adds the acceleration of each axis, or one line if all have the same.
+fn add_accelerations<A: Allocator>(
+    lines: &mut Lines,
+    machine: &Machine<A>,
+    written: &Option<MachineFigures>,
+)
+    requires { array_vec_len lines.old + 3 ≤ 57 }
+    ensures items { lines.new.items
+        ≡ lines.old.items ++ acceleration_facts (file_of machine.now) written.now }
+    ensures few { array_vec_len lines.new ≤ array_vec_len lines.old + 3 }
+{
+    let changes = axis_changes(machine);
+    let axes = accelerations_of(written);
+    if have_one_acceleration(&changes, &axes) {
+        let along = acceleration_figure(acceleration_of(written), acceleration(machine, changes.x));
+        add_all(lines, &[Line::Fact(Fact::Acceleration, along)]);
+    } else {
+        add_all(
+            lines,
+            &[
+                axis_acceleration(machine, &axes, Axis::X, changes.x),
+                axis_acceleration(machine, &axes, Axis::Y, changes.y),
+                axis_acceleration(machine, &axes, Axis::Z, changes.z),
+            ],
+        );
     }
 }
 
@@ -353,12 +401,14 @@ fn add_rates<A: Allocator>(
     machine: &Machine<A>,
     written: &Option<MachineFigures>,
 )
-    requires { array_vec_len lines.old + 5 ≤ 55 }
+    requires { array_vec_len lines.old + 7 ≤ 57 }
     ensures items { lines.new.items
         ≡ lines.old.items ++ rate_facts (file_of machine.now) written.now }
-    ensures count { array_vec_len lines.new ≡ array_vec_len lines.old + 5 }
+    ensures few { array_vec_len lines.new ≤ array_vec_len lines.old + 7 }
 {
-    add_all(lines, &acceleration_facts(machine, written));
+    let arcs = acceleration_figure(turn_of(written), arc_acceleration(machine));
+    add_accelerations(lines, machine, written);
+    add_all(lines, &[Line::Fact(Fact::ArcAcceleration, arcs)]);
     add_all(lines, &speed_facts(machine, &speeds_of(written)));
 }
 
@@ -389,7 +439,7 @@ fn add_origin<A: Allocator>(
     system: System,
     origin: &Point3,
 )
-    requires room { array_vec_len lines.old + 2 ≤ 55 }
+    requires room { array_vec_len lines.old + 2 ≤ 57 }
     requires reach { IsReach reach.now }
     ensures items { lines.new.items ≡ lines.old.items
         ++ origin_lines (file_of machine.now) reach.now system origin.now }
@@ -419,7 +469,7 @@ fn add_corner_note<A: Allocator>(
     machine: &Machine<A>,
     written: &Option<MachineFigures>,
 )
-    requires { array_vec_len lines.old < 55 }
+    requires { array_vec_len lines.old < 57 }
     ensures items { lines.new.items
         ≡ lines.old.items ++ corner_notes (file_of machine.now) written.now }
     ensures few { array_vec_len lines.new ≤ array_vec_len lines.old + 1 }
@@ -461,7 +511,7 @@ fn add_origins<A: Allocator>(
     reach: &Reach,
     origins: &[Point3; 9],
 )
-    requires room { array_vec_len lines.old + 18 ≤ 55 }
+    requires room { array_vec_len lines.old + 18 ≤ 57 }
     requires reach { IsReach reach.now }
     ensures items { lines.new.items ≡ lines.old.items
         ++ origins_from (file_of machine.now) reach.now systems.First origins.now }
@@ -479,7 +529,7 @@ fn warn_of_machine<A: Allocator>(
     machine: &Machine<A>,
     written: &Option<MachineFigures>,
 )
-    requires { array_vec_len lines.old + 6 ≤ 55 }
+    requires { array_vec_len lines.old + 6 ≤ 57 }
     ensures { lines.new.items
         ≡ lines.old.items ++ machine_warnings (file_of machine.now) written.now }
 {
@@ -510,7 +560,7 @@ fn add_end<A: Allocator>(
     written: &Option<MachineFigures>,
     reach: &Reach,
 )
-    requires room { array_vec_len lines.old + 32 ≤ 55 }
+    requires room { array_vec_len lines.old + 32 ≤ 57 }
     requires reach { IsReach reach.now }
     ensures { lines.new.items
         ≡ lines.old.items ++ machine_end (file_of machine.now) written.now reach.now }
@@ -600,7 +650,7 @@ fn part_line(foot: i64, part: &Part) -> Line
 }
 
 fn add_parts(lines: &mut Lines, foot: Nm, parts: &Parts)
-    requires { array_vec_len lines.old + 4 ≤ 55 }
+    requires { array_vec_len lines.old + 4 ≤ 57 }
     ensures items { lines.new.items ≡ lines.old.items ++ part_lines foot parts.now }
     ensures few { array_vec_len lines.new ≤ array_vec_len lines.old + 4 }
 {
@@ -621,7 +671,7 @@ fn tool_facts(tool: &Tool) -> [Line; 2]
 }
 
 fn add_cutter(lines: &mut Lines, cutter: &Option<Cutter>)
-    requires { array_vec_len lines.old < 55 }
+    requires { array_vec_len lines.old < 57 }
     ensures items { lines.new.items ≡ lines.old.items ++ cutter_lines cutter.now }
     ensures few { array_vec_len lines.new ≤ array_vec_len lines.old + 1 }
 {
@@ -632,7 +682,7 @@ fn add_cutter(lines: &mut Lines, cutter: &Option<Cutter>)
 }
 
 fn add_turning(lines: &mut Lines, limits: &Option<Limits>)
-    requires { array_vec_len lines.old < 55 }
+    requires { array_vec_len lines.old < 57 }
     ensures items { lines.new.items ≡ lines.old.items ++ turning_lines limits.now }
     ensures few { array_vec_len lines.new ≤ array_vec_len lines.old + 1 }
 {
@@ -646,7 +696,7 @@ fn add_turning(lines: &mut Lines, limits: &Option<Limits>)
 }
 
 fn add_feeds(lines: &mut Lines, fact: Fact, limits: &Option<Limits>)
-    requires { array_vec_len lines.old < 55 }
+    requires { array_vec_len lines.old < 57 }
     ensures items { lines.new.items ≡ lines.old.items ++ feed_lines fact limits.now }
     ensures few { array_vec_len lines.new ≤ array_vec_len lines.old + 1 }
 {
@@ -658,7 +708,7 @@ fn add_feeds(lines: &mut Lines, fact: Fact, limits: &Option<Limits>)
 
 // Adds the cutter of a tool and its limits.
 fn add_limits(lines: &mut Lines, limits: &Option<ToolLimits>)
-    requires { array_vec_len lines.old + 4 ≤ 55 }
+    requires { array_vec_len lines.old + 4 ≤ 57 }
     ensures items { lines.new.items ≡ lines.old.items ++ limit_lines limits.now }
     ensures few { array_vec_len lines.new ≤ array_vec_len lines.old + 4 }
 {

@@ -9,7 +9,7 @@ ghost use Rattle.ngc_setup_sheet.specs.Warnings.{is_odd_offset, is_unset, are_un
 use crate::reach::top_of;
 use ngc_fixed_length::Nm;
 use ngc_machine_files::{Fixture, Machine, Tool};
-use ngc_machine_speeds::{gain, pull, speed};
+use ngc_machine_speeds::{axis_changes, gain, pull, speed};
 use std::alloc::Allocator;
 
 pub(crate) fn is_odd_speed<A: Allocator>(machine: &Machine<A>) -> bool
@@ -19,11 +19,15 @@ pub(crate) fn is_odd_speed<A: Allocator>(machine: &Machine<A>) -> bool
     greatest < 100_000_000_000 || 1_000_000_000_000_000 < greatest
 }
 
+/// Returns whether the acceleration of an axis isn't from 1 to 20,000 mm/s^2.
 pub(crate) fn is_odd_acceleration<A: Allocator>(machine: &Machine<A>) -> bool
     ensures { result ≡ is_odd_acceleration (file_of machine.now) }
 {
-    let greatest = gain(machine, u64::from(machine.change));
-    greatest < 1_000_000_000_000 || 20_000_000_000_000_000 < greatest
+    let changes = axis_changes(machine);
+    let least = changes.x.min(changes.y).min(changes.z);
+    let greatest = changes.x.max(changes.y).max(changes.z);
+    gain(machine, u64::from(least)) < 1_000_000_000_000
+        || 20_000_000_000_000_000 < gain(machine, u64::from(greatest))
 }
 
 /// Returns whether the greatest acceleration towards the centres of arcs is less than 1 mm/s^2.

@@ -103,20 +103,23 @@ class Listing {
   }
   // Reads a motion. Returns its feed in mm a minute and its duration in seconds.
   motion(words, kind) {
-    const { speeds, corner, acceleration, arcAcceleration } = this.scene.rates, { place } = this;
+    const { speeds, corner, accelerations, arcAcceleration } = this.scene.rates, { place } = this;
     const isClockwise = kind === ARC && words.word() === 'cw', plane = kind === ARC ? PLANES[words.word()] : null;
     const centre = kind === ARC ? [words.number() / 1e6, words.number() / 1e6] : null;
     if (kind === ARC) words.word();
     const end = words.point(), moved = end.map((it, axis) => it - place[axis]);
     words.word(); words.number(); words.number(); words.number();
     const isInverse = kind !== TRAVERSE && words.word() === 'inverse', written = kind === TRAVERSE ? 0 : words.number() / 1e6;
-    let length = Math.hypot(...moved), speed = Math.min(...speeds.map((it, axis) => (moved[axis] ? it * length / Math.abs(moved[axis]) : Infinity)));
+    // What the axes allow along the path, where each has its share.
+    const along = most => Math.min(...most.map((it, axis) => (moved[axis] ? it * length / Math.abs(moved[axis]) : Infinity)));
+    let length = Math.hypot(...moved), speed = along(speeds), acceleration = along(accelerations);
     if (kind === ARC) {
       const arc = arcPoints(place, end, plane, centre, isClockwise);
       let before = place;
       for (const point of arc.points) { this.draw(before, point); before = point; }
       length = arc.length;
       speed = Math.min(Math.sqrt(arcAcceleration * arc.radius), ...speeds);
+      acceleration = Math.min(...accelerations.filter((it, axis) => plane.indexOf(axis) < 2 || moved[axis]));
     } else if (length > 0) this.draw(place, end);
     const feed = kind === TRAVERSE ? speed * 60 : isInverse ? written * length : written;
     this.place = end;

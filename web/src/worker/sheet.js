@@ -15,7 +15,8 @@ function readMachine(scene, key, value, axis) {
   if (key.startsWith('travel on')) [scene.low[axis], scene.high[axis]] = numbers(value);
   else if (key.startsWith('speed of')) rates.speeds[axis] = speed(value);
   else if (key === 'speed at corners') rates.corner = speed(value);
-  else if (key === 'acceleration') rates.acceleration = acceleration(value);
+  else if (key === 'acceleration') rates.accelerations.fill(acceleration(value));
+  else if (key.startsWith('acceleration of')) rates.accelerations[axis] = acceleration(value);
   else if (key === 'acceleration on arcs') rates.arcAcceleration = acceleration(value);
   else if (key === 'start') scene.start = numbers(value);
   else if (key === 'step' || key === 'step of the path') [scene.step] = numbers(value);
@@ -40,7 +41,7 @@ function readTool(tool, key, value) {
 // Lengths are millimetres, speeds millimetres a second.
 export function readSheet(text) {
   const scene = { low: [0, 0, 0], high: [0, 0, 0], start: [0, 0, 0], origins: {}, fixtures: [], tools: [], warnings: [], step: 0.01, dialect: null, stock: null,
-    rates: { speeds: [40, 40, 40], corner: 5, acceleration: 1000, arcAcceleration: 1000 } };
+    rates: { speeds: [40, 40, 40], corner: 5, accelerations: [1000, 1000, 1000], arcAcceleration: 1000 } };
   let section = '', now = null;
   for (const line of text.split('\n')) {
     const head = /^(machine|fixture|tool)(?: (\d+))?(?: \((.*)\))?$/.exec(line);
