@@ -15,7 +15,7 @@ use Rattle.ngc_written_tools.specs.Reading.{any_tools}
 use Rattle.ngc_inputs.specs.Setups.{FileBytes, IfMachine, KeepsFiles}
 use Rattle.ngc_inputs.specs.Shops.{PlacedResultIs, ShopResultIs, IsPlaced}
 use Rattle.ngc_margins.specs.declared.changes.Changes.{Changes}
-use Rattle.ngc_inputs.specs.Faults.{OfCertifying, OfChecking, OfDrawing, OfListing, OfLiving, OfRunning}
+use Rattle.ngc_inputs.specs.Faults.{OfCertifying, OfChecking, OfDrawing, OfListing, OfLiving, OfMapping, OfRunning}
 use Rattle.ngc_inputs.specs.Unread.{Kind, OfMachine, OfTools, OfProgram, OfCertificate, OfEvents, OfSource, IsReadAs, Input, setup_input, shop_inputs, AtFirst}
 use Rattle.ngc_inputs.specs.Unread.{ReportsKindUnread, ReportsFirstUnread, FailsBy, FailsByInput, program_unread, certificate_unread, unread_by}
 use Rattle.ngc_inputs.specs.declared.fault.AnswerFault.{AnswerFault}
@@ -251,6 +251,14 @@ draw_told fails bytes files old new (answers.Check e) of same = same
 draw_told fails bytes files old new answers.Memory of same = same
 draw_told fails bytes files old new (answers.Write e) of same = same
 draw_told fails bytes files old new _ of same = absurd of
+
+pub map_told : (fails : Option (List ℕ) → Type 0) (bytes : FileBytes) (files : List Input) (old new : ℕ) (fault : AnswerFault)
+    → OfMapping fault → new ≡ old → ReportsIfUnread fails bytes files old new (unread_by fault)
+map_told fails bytes files old new (answers.Program e) of same = same
+map_told fails bytes files old new answers.Memory of same = same
+map_told fails bytes files old new answers.NoMap of same = same
+map_told fails bytes files old new (answers.Write e) of same = same
+map_told fails bytes files old new _ of same = absurd of
 
 -- a fault that concerns no file, where none is opened
 pub nothing_read : {T : Type 0} (fails : Option (List ℕ) → Type 0) (bytes : FileBytes) (files : List Input) (count : ℕ) (outcome : Result T AnswerFault)

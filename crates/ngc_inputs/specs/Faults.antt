@@ -60,6 +60,7 @@ answer_number answers.UnknownView = 723
 answer_number answers.UnknownForm = 727
 answer_number answers.UnknownSystem = 728
 answer_number answers.NoMaterial = 729
+answer_number answers.NoMap = 730
 answer_number answers.UnknownControl = 724
 answer_number answers.NoFigures = 726
 
@@ -204,6 +205,7 @@ answer_status answers.UnknownView = 3
 answer_status answers.UnknownForm = 3
 answer_status answers.UnknownSystem = 3
 answer_status answers.NoMaterial = 3
+answer_status answers.NoMap = 3
 answer_status answers.UnknownControl = 3
 answer_status answers.NoFigures = 3
 
@@ -274,6 +276,14 @@ OfDrawing (answers.Check e) = Unit {0}
 OfDrawing answers.Memory = Unit {0}
 OfDrawing (answers.Write e) = Unit {0}
 OfDrawing _ = ⊥
+
+-- of a map of the material that a program in memory leaves
+abbrev pub OfMapping : AnswerFault → Type 0
+OfMapping (answers.Program e) = Unit {0}
+OfMapping answers.Memory = Unit {0}
+OfMapping answers.NoMap = Unit {0}
+OfMapping (answers.Write e) = Unit {0}
+OfMapping _ = ⊥
 
 -- the same where the program and the certificate are read first
 abbrev pub OrOfReading : (AnswerFault → Type 0) → AnswerFault → Type 0

@@ -85,6 +85,10 @@ pub enum AnswerFault {
     /// A number of cells is requested, and there is no block of material: 729.
     #[error("no material for the cells")]
     NoMaterial,
+    /// A map is requested, and there is no block of material, or it or the end of a motion is more than
+    /// two metres from the machine's zero: 730.
+    #[error("no material for a map")]
+    NoMap,
 }
 
 impl AnswerFault {
@@ -112,12 +116,13 @@ impl AnswerFault {
             AnswerFault::UnknownForm => 727,
             AnswerFault::UnknownSystem => 728,
             AnswerFault::NoMaterial => 729,
+            AnswerFault::NoMap => 730,
         }
     }
 
     /// Returns the exit status: 1 for input, output and memory, 3 for a file or a program that is
-    /// refused, a name or number that isn't known and cells without material, 4 for a certificate that
-    /// is refused or isn't made.
+    /// refused, a name or number that isn't known, and cells or a map without material, 4 for a
+    /// certificate that is refused or isn't made.
     pub fn status(&self) -> u8
         ensures { result ≡ answer_status self.now }
     {
@@ -136,7 +141,8 @@ impl AnswerFault {
             | AnswerFault::NoFigures
             | AnswerFault::UnknownForm
             | AnswerFault::UnknownSystem
-            | AnswerFault::NoMaterial => 3,
+            | AnswerFault::NoMaterial
+            | AnswerFault::NoMap => 3,
         }
     }
 }

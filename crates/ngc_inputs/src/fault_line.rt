@@ -202,7 +202,8 @@ fn add_place(chunk: &mut Chunk, fault: &AnswerFault)
         | AnswerFault::NoFigures
         | AnswerFault::UnknownForm
         | AnswerFault::UnknownSystem
-        | AnswerFault::NoMaterial => {}
+        | AnswerFault::NoMaterial
+        | AnswerFault::NoMap => {}
     }
 }
 

@@ -47,8 +47,9 @@ abbrev pub is_flag : Text → Bool
 is_flag word =
     bytes_eq word (codes "--delete") || bytes_eq word (codes "--all")
     || bytes_eq word (codes "--json") || bytes_eq word (codes "--bodies")
-    || bytes_eq word (codes "--whole") || bytes_eq word (codes "--warnings")
-    || bytes_eq word (codes "--feed-ring") || bytes_eq word (codes "--abort")
+    || bytes_eq word (codes "--whole") || bytes_eq word (codes "--map")
+    || bytes_eq word (codes "--warnings") || bytes_eq word (codes "--feed-ring")
+    || bytes_eq word (codes "--abort")
 
 abbrev pub is_equals : ℕ → Bool
 is_equals b = b == 61

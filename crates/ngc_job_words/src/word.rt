@@ -35,6 +35,7 @@ fn is_flag(word: &str) -> bool
         || word == "--json"
         || word == "--bodies"
         || word == "--whole"
+        || word == "--map"
         || word == "--warnings"
         || word == "--feed-ring"
         || word == "--abort"

@@ -52,6 +52,8 @@ pub fn draw_options(view: u32, delete: bool) -> Options<'static>
         delete,
         bodies: false,
         whole: false,
+        map: false,
+        cells: None,
         changes: Changes::none(),
         dialect: None,
     })

@@ -54,7 +54,7 @@ use Rattle.ngc_simulator.proofs.ListLaws.{Means}
 use Rattle.ngc_simulator.proofs.RunLaws.{on_two_files}
 use Rattle.ngc_inputs.proofs.SetupLaws.{on_placed}
 
-is_meaning : (setup : Setup) (bytes : List ℕ) (block_delete : Bool) (text : ProgramText) (says : Result (List Command) ProgramFault)
+pub is_meaning : (setup : Setup) (bytes : List ℕ) (block_delete : Bool) (text : ProgramText) (says : Result (List Command) ProgramFault)
     → program_of bytes ≡ Ok text → HaveReadings text.lines → Means text setup block_delete says → IsMeaning setup bytes block_delete says
 is_meaning setup bytes block_delete text says is_text have means = record {
   text = text;

@@ -34,3 +34,5 @@ pub mod DialectRunLaws
 pub mod DialectReportLaws
 -- The picture of a program for another control, from the results of its parts.
 pub mod DialectPictureLaws
+-- The result of mapping what a program leaves, from the results of its parts.
+pub mod MapLaws

@@ -33,7 +33,8 @@ use Rattle.ngc_simulator.specs.declared.done.Done.TheVariants.{Quietly, RunThrou
 use Rattle.ngc_program_report.specs.declared.run_time.RunTime.{RunTime}
 use Rattle.ngc_simulator.specs.Guides.{Guides, version_text}
 use Rattle.ngc_inputs.specs.Faults.{FailsByOutput, OfCertifying, OfChecking, OfDrawing}
-use Rattle.ngc_inputs.specs.Faults.{OfListing, OfLiving, OfReporting, OfRunning, OfExplaining, OfWriting}
+use Rattle.ngc_inputs.specs.Faults.{OfListing, OfLiving, OfMapping, OfReporting, OfRunning, OfExplaining}
+use Rattle.ngc_inputs.specs.Faults.{OfWriting}
 use Rattle.ngc_inputs.specs.Faults.{OrOfReading, answer_status, fault_line}
 use Rattle.ngc_simulator.specs.declared.writing.Writing.{Writing}
 use Rattle.ngc_simulator.specs.Writing.{writing_named}
@@ -62,6 +63,7 @@ use Rattle.ngc_margins.specs.declared.changes.Changes.{Changes}
 use Rattle.ngc_inputs.specs.Shops.{PlacedResultIs, RefusesPlaced, RefusesShop}
 use Rattle.ngc_inputs.specs.declared.setup.Shop.{Shop}
 use Rattle.ngc_machine_files.specs.Machine.{file_of}
+use Rattle.ngc_simulator.specs.Mapping.{MapsDialect, MapsProgram}
 use Rattle.ngc_simulator.specs.Mistaken.{ReportsPlacedRefusal, ReportsRefusal}
 use Rattle.ngc_simulator.specs.Cells.{ReportsNoMaterial, is_idle}
 use Rattle.ngc_stock_report.specs.Placed.{USUAL_CELLS}
@@ -139,6 +141,22 @@ DrawsFrom bytes options view old new outcome =
     IfSome (bytes (Some certificate))
     (λ given. DrawsNamed setup text given options.delete (look_of options view) old new
     outcome))))
+
+-- the most cells of a map: those that are requested, or the usual number
+abbrev pub map_cells : DrawOptions → ℕ
+map_cells options = unwrap_or options.cells USUAL_CELLS
+
+-- a map of what the program leaves of the block of material, by what the tool table says of the cutters
+abbrev pub MapsFrom : FileBytes → DrawOptions → Option (List ℕ) → Option (List ℕ) →
+    Result (Unit {0}) AnswerFault → Type 0
+MapsFrom bytes options old new outcome =
+    (figures : FigureValues) × AreFiguresIn bytes (Some options.machine.now)
+    (Some options.tools.now) figures ×
+    OnPlaced bytes (Some options.machine.now) (Some options.tools.now) options.changes
+    (λ setup.
+    IfSome (bytes (option_map (λ name. name.now) options.program))
+    (λ text. MapsProgram (map_cells options) figures.tools setup text options.delete old new
+    outcome))
 
 abbrev pub ShowsOn : FileBytes → ShowOptions → Option (List ℕ) → Option (List ℕ) →
     Result (Unit {0}) AnswerFault → Type 0
@@ -382,11 +400,59 @@ DrawResultIn (Some control) bytes options view old new outcome =
     DialectDrawResult control bytes options view old new outcome
 
 -- a view that isn't known is rejected before a file is read
+abbrev pub PictureResult : FileBytes → DrawOptions → Option View → Option (List ℕ) →
+    Option (List ℕ) → Result Done AnswerFault → Type 0
+PictureResult bytes options None old new outcome =
+    (outcome ≡ Err answers.UnknownView) × Keeps old new
+PictureResult bytes options (Some view) old new outcome =
+    DrawResultIn (option_map (λ name. name.now) options.dialect) bytes options view old new outcome
+
+abbrev pub OwnMapResult : FileBytes → DrawOptions → Option (List ℕ) → Option (List ℕ) →
+    Result Done AnswerFault → Type 0
+OwnMapResult bytes options old new outcome =
+    Comes (StopsPlaced bytes (Some options.machine.now) (Some options.tools.now) options.changes
+    old new)
+    (OrOfReading OfMapping) (MapsFrom bytes options old new) outcome
+
+abbrev pub DialectMapsFrom : List ℕ → FileBytes → DrawOptions → Option (List ℕ) →
+    Option (List ℕ) → Result Done AnswerFault → Type 0
+DialectMapsFrom control bytes options old new outcome =
+    (figures : FigureValues) × AreFiguresIn bytes (Some options.machine.now)
+    (Some options.tools.now) figures ×
+    OnDialect control bytes (Some options.machine.now) (Some options.tools.now) options.changes
+    (option_map (λ name. name.now) options.program)
+    (λ d setup source. MapsDialect (map_cells options) figures.tools d setup options.delete source
+    old new outcome)
+
+abbrev pub DialectMapResult : List ℕ → FileBytes → DrawOptions → Option (List ℕ) →
+    Option (List ℕ) → Result Done AnswerFault → Type 0
+DialectMapResult control bytes options old new outcome =
+    DialectComes (StopsDialect control bytes (Some options.machine.now) (Some options.tools.now)
+    options.changes) (DialectMapsFrom control bytes options old new) old new outcome
+
+abbrev pub MapResultIn : Option (List ℕ) → FileBytes → DrawOptions → Option (List ℕ) →
+    Option (List ℕ) → Result Done AnswerFault → Type 0
+MapResultIn None bytes options old new outcome = OwnMapResult bytes options old new outcome
+MapResultIn (Some control) bytes options old new outcome =
+    DialectMapResult control bytes options old new outcome
+
+abbrev pub MapResult : FileBytes → DrawOptions → Option (List ℕ) → Option (List ℕ) →
+    Result Done AnswerFault → Type 0
+MapResult bytes options old new outcome =
+    MapResultIn (option_map (λ name. name.now) options.dialect) bytes options old new outcome
+
+-- a map is seen from no side, so that its view isn't looked up
+abbrev pub DrawResultBy : Bool → FileBytes → DrawOptions → Option View → Option (List ℕ) →
+    Option (List ℕ) → Result Done AnswerFault → Type 0
+DrawResultBy false bytes options view old new outcome =
+    PictureResult bytes options view old new outcome
+DrawResultBy true bytes options view old new outcome = MapResult bytes options old new outcome
+
+-- a map if one is requested, and otherwise a picture
 abbrev pub DrawResult : FileBytes → DrawOptions → Option View → Option (List ℕ) → Option (List ℕ) →
     Result Done AnswerFault → Type 0
-DrawResult bytes options None old new outcome = (outcome ≡ Err answers.UnknownView) × Keeps old new
-DrawResult bytes options (Some view) old new outcome =
-    DrawResultIn (option_map (λ name. name.now) options.dialect) bytes options view old new outcome
+DrawResult bytes options view old new outcome =
+    DrawResultBy options.map bytes options view old new outcome
 
 abbrev pub ShowResult : FileBytes → ShowOptions → Option (List ℕ) → Option (List ℕ) →
     Result Done AnswerFault → Type 0
@@ -852,10 +918,32 @@ draw_inputs_in (Some control) options =
     ++ certificate_inputs (option_map (λ name. name.now) options.certificate)
 
 -- where the view is known
-abbrev pub draw_inputs : DrawOptions → Option View → List Input
-draw_inputs options None = []
-draw_inputs options (Some view) =
+abbrev pub picture_inputs : DrawOptions → Option View → List Input
+picture_inputs options None = []
+picture_inputs options (Some view) =
     draw_inputs_in (option_map (λ name. name.now) options.dialect) options
+
+-- no certificate is read for a map
+abbrev pub own_map_inputs : DrawOptions → List Input
+own_map_inputs options =
+    shop_inputs (Some options.machine.now) (Some options.tools.now)
+    ++ program_input (option_map (λ name. name.now) options.program) ∷ []
+
+abbrev pub map_inputs_in : Option (List ℕ) → DrawOptions → List Input
+map_inputs_in None options = own_map_inputs options
+map_inputs_in (Some control) options =
+    dialect_inputs (Some options.machine.now) (Some options.tools.now)
+    (option_map (λ name. name.now) options.program)
+
+abbrev pub map_inputs : DrawOptions → List Input
+map_inputs options = map_inputs_in (option_map (λ name. name.now) options.dialect) options
+
+abbrev pub draw_inputs_by : Bool → DrawOptions → Option View → List Input
+draw_inputs_by false options view = picture_inputs options view
+draw_inputs_by true options view = map_inputs options
+
+abbrev pub draw_inputs : DrawOptions → Option View → List Input
+draw_inputs options view = draw_inputs_by options.map options view
 
 abbrev pub show_inputs : ShowOptions → List Input
 show_inputs options =

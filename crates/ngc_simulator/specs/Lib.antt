@@ -19,6 +19,7 @@ pub mod DialectRuns
 pub mod DialectRefusals
 pub mod DialectReports
 pub mod DialectPictures
+pub mod Mapping
 pub mod Certifying
 pub mod Placing
 pub mod Answers

@@ -80,6 +80,9 @@ pub(crate) fn read_sent<F: Files>(
     files: &mut F,
 ) -> Result<Sent, AnswerFault>
     ensures sent { IfOk result (IsSent names.now (F.bytes files.old)) }
+    ensures figures { IfOk result (λ sent. AreFiguresIn (F.bytes files.old)
+        (option_map (λ n. n.now) names.now.machine) (option_map (λ n. n.now) names.now.tools)
+        (stored sent.shop.figures)) }
     ensures stops { IfErr result (StopsSending names.now (F.bytes files.old)) }
     ensures keeps { IsSome names.now.program → KeepsFiles (F.bytes files.old) (F.bytes files.new) }
     ensures named { KeepsNamed (F.bytes files.old) (F.bytes files.new) }

@@ -1,7 +1,7 @@
 //! Pictures of programs, from the files that the command line names.
 ghost use Rattle.std.specs.Prelude.{◌≡◌, Ok, Some, option_map};
-ghost use Rattle.ngc_simulator.specs.Answers.{DrawResult, OwnDrawResult, draw_inputs};
-ghost use Rattle.ngc_simulator.specs.Answers.{own_draw_inputs};
+ghost use Rattle.ngc_simulator.specs.Answers.{DrawResult, OwnDrawResult, PictureResult};
+ghost use Rattle.ngc_simulator.specs.Answers.{draw_inputs, own_draw_inputs, picture_inputs};
 ghost use Rattle.ngc_simulator.specs.Drawing.{look_of, view_named};
 ghost use Rattle.ngc_inputs.specs.Faults.{FailsByOutput};
 ghost use Rattle.ngc_inputs.specs.Unread.{FailsByInput, SourceFails};
@@ -9,6 +9,7 @@ ghost use Rattle.ngc_inputs.specs.Unread.{FailsByInput, SourceFails};
 use crate::dialect_pictures::draw_dialect;
 use crate::done::Done;
 use crate::drawing::{draw_certified, draw_program, view_of};
+use crate::mapping::map_files;
 use ngc_command_line::DrawOptions;
 use ngc_drawing::{Look, View};
 use ngc_inputs::{AnswerFault, Files, read_certificate, read_placed, read_program};
@@ -119,7 +120,32 @@ fn draw_own<F: Files, W: Sink>(
     }
 }
 
-/// Draws a picture of a program. The view is looked up before a file is read.
+// Draws a picture of a program. The view is looked up before a file is read.
+fn draw_picture<F: Files, W: Sink>(
+    alloc: Global,
+    options: &DrawOptions<'_>,
+    files: &mut F,
+    output: &mut W,
+) -> Result<Done, AnswerFault>
+    ensures comes { PictureResult (F.bytes files.old) options.now
+        (view_named (option_map (λ name. name.now) options.now.view)) (W.written output.old)
+        (W.written output.new) result }
+    ensures unread { FailsByInput (SourceFails F.R.remaining F.R.failures) (F.bytes files.old)
+        (picture_inputs options.now (view_named (option_map (λ name. name.now) options.now.view)))
+        (F.failures files.old) (F.failures files.new) result }
+    ensures sink { FailsByOutput result (W.failures output.old) (W.failures output.new) }
+{
+    let Some(view) = view_of(options.view) else {
+        return Err(AnswerFault::UnknownView);
+    };
+    match options.dialect {
+        None => draw_own(alloc, options, view, files, output),
+        Some(control) => draw_dialect(alloc, control, options, view, files, output),
+    }
+}
+
+/// Draws a program: a map of what it leaves of the block of material if one is requested, otherwise a
+/// picture.
 pub(crate) fn draw_files<F: Files, W: Sink>(
     alloc: Global,
     options: &DrawOptions<'_>,
@@ -134,11 +160,9 @@ pub(crate) fn draw_files<F: Files, W: Sink>(
         (F.failures files.old) (F.failures files.new) result }
     ensures sink { FailsByOutput result (W.failures output.old) (W.failures output.new) }
 {
-    let Some(view) = view_of(options.view) else {
-        return Err(AnswerFault::UnknownView);
-    };
-    match options.dialect {
-        None => draw_own(alloc, options, view, files, output),
-        Some(control) => draw_dialect(alloc, control, options, view, files, output),
+    if options.map {
+        map_files(alloc, options, files, output)
+    } else {
+        draw_picture(alloc, options, files, output)
     }
 }

@@ -22,6 +22,7 @@ mod lister;
 mod live_request;
 mod living;
 mod making;
+mod mapping;
 mod mistaken_files;
 mod place_request;
 mod placing;

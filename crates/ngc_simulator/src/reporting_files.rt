@@ -28,8 +28,8 @@ pub(crate) fn requested_form(json: bool) -> Form
     if json { Form::Json } else { Form::Words }
 }
 
-// Returns the most cells of a report: those that are requested, or the usual number.
-fn cells_of(requested: Option<u32>) -> u32
+/// Returns the most cells of a block: those that are requested, or the usual number.
+pub(crate) fn cells_of(requested: Option<u32>) -> u32
     ensures { result ≡ unwrap_or requested USUAL_CELLS }
 {
     match requested {
