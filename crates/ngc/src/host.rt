@@ -33,12 +33,30 @@ impl Source for HostSource {
 pub struct HostFiles<'a> {
     rt: &'a HostRuntime,
     failures: u64,
+    asked: String,
 }
 
 impl<'a> HostFiles<'a> {
     /// Returns the files of this computer, with no failure yet.
     pub fn new(rt: &'a HostRuntime) -> HostFiles<'a> {
-        HostFiles { rt, failures: 0 }
+        HostFiles {
+            rt,
+            failures: 0,
+            asked: String::new(rt.alloc()),
+        }
+    }
+
+    /// Returns the name of the first file that couldn't be opened, or else of the one that was asked for
+    /// last. It is empty where memory was refused for it.
+    pub fn asked(&self) -> &str {
+        self.asked.as_str()
+    }
+
+    fn remember(&mut self, name: &str) {
+        if self.failures == 0 {
+            let alloc = self.rt.alloc();
+            self.asked = name.to_string(alloc).unwrap_or(String::new(alloc));
+        }
     }
 }
 
@@ -52,6 +70,7 @@ impl Files for HostFiles<'_> {
     ghost bytes = { λ _ _. None };
 
     fn source(&mut self, name: Option<&str>) -> Result<HostSource, ReadFault> {
+        self.remember(name.unwrap_or("standard input"));
         let Some(name) = name else {
             return Ok(HostSource::Input(Device::new(self.rt.stdin())));
         };

@@ -48,9 +48,19 @@ fn tell(rt: &HostRuntime, text: &[u8]) {
     let _ = write_all(&mut Device::new(rt.stderr()), text);
 }
 
+// Prints a fault's line, and below 901 the name of the file.
+fn tell_fault(rt: &HostRuntime, line: &[u8], file: &str) {
+    tell(rt, line);
+    if line == b"ngc: fault 901\n" && !file.is_empty() {
+        tell(rt, b"ngc: ");
+        tell(rt, file.as_bytes());
+        tell(rt, b" can't be opened or read, or is too long\n");
+    }
+}
+
 // Prints why a call isn't begun, and returns the status.
-fn refuse(rt: &HostRuntime, fault: &CallFault) -> u8 {
-    tell(rt, fault.text());
+fn refuse(rt: &HostRuntime, fault: &CallFault, files: &HostFiles<'_>) -> u8 {
+    tell_fault(rt, fault.text(), files.asked());
     fault.status()
 }
 
@@ -79,7 +89,7 @@ fn answer_options(
     );
     note_wide(is_wide.get(), status, &mut told);
     if !output.is_closed() {
-        tell(rt, told.into_inner().as_slice());
+        tell_fault(rt, told.into_inner().as_slice(), files.inner.asked());
     }
     Ok(status)
 }
@@ -93,9 +103,10 @@ fn answer_job(rt: &HostRuntime, job: &JobCall<'_>, out: Option<&str>) -> Result<
 }
 
 fn answer_call(rt: &HostRuntime, call: &CallWords<'_>) -> Result<u8, UsageFault> {
-    match with_job(rt.alloc(), call.words.as_slice(), &mut HostFiles::new(rt)) {
+    let mut files = HostFiles::new(rt);
+    match with_job(rt.alloc(), call.words.as_slice(), &mut files) {
         Ok(job) => answer_job(rt, &job, call.out),
-        Err(fault) => Ok(refuse(rt, &fault)),
+        Err(fault) => Ok(refuse(rt, &fault, &files)),
     }
 }
 

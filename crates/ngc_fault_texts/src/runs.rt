@@ -78,11 +78,11 @@ pub(crate) fn shell() -> &'static [Row]
             number: 720,
             rule: "The command line is wrong: write it as `ngc --help` and the help of each command say (our own).\n\
              An option `--help` counts as 720 too.",
-            example: "command `ngc list plate.ngc`",
+            example: "command `ngc list --prog plate.ngc`",
             answer: "a text on standard error that begins with `error: unexpected argument`; the number\n\
              isn't written",
             place: Some("2"),
-            mend: "Name the file with `--program`: `ngc list --program plate.ngc`.",
+            mend: "Correct the name of the option: `ngc list --program plate.ngc`.",
         },
         Row {
             number: 721,
@@ -182,7 +182,7 @@ pub(crate) fn shell() -> &'static [Row]
             example: "command `ngc list --program none.ngc`",
             answer: "`ngc: fault 901`",
             place: Some("1"),
-            mend: "The message doesn't say which file it is. A folder can't be read. `-` is a name like any other:\n\
+            mend: "A second line names the file. A folder can't be read. `-` is a name like any other:\n\
              for standard input leave `--program` out.",
         },
         Row {

@@ -135,7 +135,13 @@ fn write_words<W: Sink>(
 {
     match refusal.file {
         RefusedFile::Machine => write_mistake(alloc, refusal.name, bytes, refusal.fault, output),
-        RefusedFile::Tools => write_tools_mistake(alloc, refusal.name, bytes, refusal.fault, output),
+        RefusedFile::Tools => write_tools_mistake(
+            alloc,
+            refusal.name,
+            bytes,
+            refusal.fault,
+            output,
+        ),
     }
 }
 

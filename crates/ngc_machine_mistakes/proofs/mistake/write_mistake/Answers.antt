@@ -18,12 +18,12 @@ returns-in-Ok-clause-fault g c =
 
 pub returns-in-Err-2-clause-ok : goal.returns-in-Err-2-clause-ok
 returns-in-Err-2-clause-ok g c =
-    rw (← c.as_bytes.ensures.value)
-    (unread_either c.args.bytes.now (text_in c.as_bytes.result.now c.args.bytes.now c.args.fault) (c.in-Err.ensures.refused (search rules)) _ _ _
+    rw (← c.as_bytes-in-Err-2.ensures.value)
+    (unread_either c.args.bytes.now (text_in c.as_bytes-in-Err-2.result.now c.args.bytes.now c.args.fault) (c.in-Err.ensures.refused (search rules)) _ _ _
     c.write_stop.ensures.ok)
 
 pub returns-in-Err-2-clause-fault : goal.returns-in-Err-2-clause-fault
 returns-in-Err-2-clause-fault g c =
-    rw (← c.as_bytes.ensures.value)
-    (unread_fault c.args.bytes.now (text_in c.as_bytes.result.now c.args.bytes.now c.args.fault) (c.in-Err.ensures.refused (search rules)) _ _ _
+    rw (← c.as_bytes-in-Err-2.ensures.value)
+    (unread_fault c.args.bytes.now (text_in c.as_bytes-in-Err-2.result.now c.args.bytes.now c.args.fault) (c.in-Err.ensures.refused (search rules)) _ _ _
     c.write_stop.ensures.fault)
