@@ -2,11 +2,13 @@
 use Rattle.std.specs.Prelude.{ℕ, ◌+◌, ◌*◌, min, max, nat_lt, nat_le, ℤ, int_lt, unsigned_abs, List, []}
 use Rattle.std.specs.Prelude.{◌∷◌, ◌++◌}
 use Rattle.std.specs.Prelude.{length, Option, Some, None, Bool, true, false, not, ◌&&◌, ◌||◌}
-use Rattle.std.specs.Prelude.{if◌then◌else◌}
+use Rattle.std.specs.Prelude.{◌==◌, ◌/◌, if◌then◌else◌}
 use Rattle.std.specs.List.{list_any}
 use Rattle.std.specs.Ordering.{int_eq}
 use Rattle.ngc_file_figures.specs.declared.figures.AxisFigures.{AxisFigures}
-use Rattle.ngc_fixed_length.specs.Grid.{grid}
+use Rattle.ngc_fixed_length.specs.Grid.{grid, distance}
+use Rattle.ngc_fixed_length.specs.declared.modes.Plane.{Plane}
+use Rattle.ngc_fixed_length.specs.declared.modes.Plane.TheVariants.{XY, ZX, YZ}
 use Rattle.ngc_fixed_length.specs.declared.points.GridBox.{GridBox}
 use Rattle.ngc_fixed_length.specs.declared.points.Point2.{Point2}
 use Rattle.ngc_fixed_length.specs.declared.points.Point3.{Point3}
@@ -33,6 +35,7 @@ use Rattle.ngc_findings.specs.declared.line.Line as told
 use Rattle.ngc_findings.specs.declared.line.Line.TheVariants as lines
 use Rattle.ngc_findings.specs.declared.tool_state.Entry.{Entry}
 use Rattle.ngc_findings.specs.declared.tool_state.ToolState.{ToolState}
+use Rattle.ngc_findings.specs.declared.warnings.AxisExtent.{AxisExtent}
 use Rattle.ngc_findings.specs.declared.warnings.Concern.{Concern}
 use Rattle.ngc_findings.specs.declared.warnings.Concern.TheVariants.{NoTool, IdleSpindle}
 use Rattle.ngc_findings.specs.declared.warnings.Concern.TheVariants.{FastFeed, NearlyFull, LowHome}
@@ -97,17 +100,50 @@ is_above_rate machine way feed =
 abbrev pub greatest_of : AxisFigures → ℕ
 greatest_of s = max (max s.x s.y) s.z
 
--- the greatest speed of a motion with this box, by the speeds of the axes as they are written
-abbrev pub greatest_written : AxisFigures → GridBox → ℕ
-greatest_written s b =
-    rate_on_axis b.low.x b.high.x s.x
-    (rate_on_axis b.low.y b.high.y s.y
-    (rate_on_axis b.low.z b.high.z s.z (greatest_of s)))
+-- ---- by speeds as they are written, which count by component
+
+-- how far a box extends along each axis, in steps, and along which it extends farthest
+abbrev pub extent_of : GridBox → AxisExtent
+extent_of b = record {
+  x = distance b.low.x b.high.x;
+  y = distance b.low.y b.high.y;
+  z = distance b.low.z b.high.z;
+}
+
+abbrev pub longest : AxisExtent → ℕ
+longest e = max (max e.x e.y) e.z
+
+-- an axis of an arc's plane has the whole speed somewhere, if it moves
+abbrev pub whole : ℕ → ℕ → ℕ
+whole n d = if d == 0 then 0 else n
+
+abbrev pub whole_in_plane : Plane → ℕ → AxisExtent → AxisExtent
+whole_in_plane XY n e = record { x = whole n e.x; y = whole n e.y; z = e.z }
+whole_in_plane ZX n e = record { x = whole n e.x; y = e.y; z = whole n e.z }
+whole_in_plane YZ n e = record { x = e.x; y = whole n e.y; z = whole n e.z }
+
+abbrev pub shares_of : Way → AxisExtent → AxisExtent
+shares_of (Line start end) e = e
+shares_of (Arc a) e = whole_in_plane a.plane (longest e) e
+
+-- a speed of the axis that moves n steps, limited so that one that moves d steps keeps its own speed
+abbrev pub speed_by_share : ℕ → ℕ → ℕ → ℕ → ℕ
+speed_by_share n d of_axis speed = if d == 0 then speed else min (of_axis * n / d) speed
+
+-- the greatest speed along the axis that moves most
+abbrev pub speed_by_shares : AxisFigures → ℕ → AxisExtent → ℕ
+speed_by_shares s n shares =
+    speed_by_share n shares.x s.x
+    (speed_by_share n shares.y s.y (speed_by_share n shares.z s.z (greatest_of s)))
+
+abbrev pub greatest_written : AxisFigures → Way → AxisExtent → ℕ
+greatest_written s way e = speed_by_shares s (longest e) (shares_of way e)
 
 -- where speeds are written, none is rounded
 abbrev pub is_above : MachineFile → Option AxisFigures → Way → ℕ → Bool
 is_above machine None way feed = is_above_rate machine way feed
-is_above machine (Some s) way feed = nat_lt (greatest_written s (reach machine.step way)) feed
+is_above machine (Some s) way feed =
+    nat_lt (greatest_written s way (extent_of (reach machine.step way))) feed
 
 abbrev pub is_fast : MachineFile → Option AxisFigures → Way → Pace → Bool
 is_fast machine speeds way (Feed (PerMinute feed)) = is_above machine speeds way feed

@@ -9,6 +9,8 @@ ghost use Rattle.ngc_machine_files.specs.Machine.{file_of};
 ghost use Rattle.ngc_findings.specs.Warnings.{leaves, is_unarmed, step_speed, greatest_speed};
 ghost use Rattle.ngc_findings.specs.Warnings.{rate_on_axis, greatest_rate, greatest_of};
 ghost use Rattle.ngc_findings.specs.Warnings.{is_above_rate, is_above, greatest_written};
+ghost use Rattle.ngc_findings.specs.Warnings.{extent_of, longest, whole, whole_in_plane, shares_of};
+ghost use Rattle.ngc_findings.specs.Warnings.{speed_by_share, speed_by_shares};
 ghost use Rattle.ngc_findings.specs.Warnings.{is_idle, square_apart, ends_meet, is_nearly_full};
 ghost use Rattle.ngc_findings.specs.Warnings.{is_fast, is_at, goes_home, is_low, comes_low};
 ghost use Rattle.ngc_findings.specs.Warnings.{is_low_home, concerns, is_concerned, line_of};
@@ -24,7 +26,7 @@ use ngc_arc_geometry::Arc;
 use ngc_collision::Solid;
 use ngc_commands::{Action, Command, Feed, Motion, Pace, Way};
 use ngc_file_figures::AxisFigures;
-use ngc_fixed_length::{GridBox, Nm, Point2, Point3, StepPos};
+use ngc_fixed_length::{GridBox, Nm, Plane, Point2, Point3, StepPos};
 use ngc_machine_files::{Machine, Tool};
 use std::alloc::Allocator;
 
@@ -35,9 +37,9 @@ pub enum Concern {
     NoTool,
     /// Feeds with a tool while the spindle is off, or at speed 0.
     IdleSpindle,
-    /// Feeds per minute above the greatest speed that the machine has along an axis on this motion: by
-    /// these speeds of its file in nanometres per minute, or else by its rates. Inverse time feeds and
-    /// traverses don't count.
+    /// Feeds per minute above the greatest speed that the machine has on this motion along the axis that
+    /// moves most: by these speeds of its file in nanometres per minute, of which each axis needs its
+    /// share, or else by the rates of the axes that move. Inverse time feeds and traverses don't count.
     FastFeed(Option<AxisFigures>),
     /// Arcs of more than 359 degrees, but no full circles, whose ends lie less than 0.01 mm apart
     /// in the plane: usually an arc of less than a degree whose ends were rounded.
@@ -177,26 +179,97 @@ fn greatest_of(speeds: &AxisFigures) -> u64
     greater(greater(speeds.x, speeds.y), speeds.z)
 }
 
-// Returns a speed, limited to that of an axis along which a motion goes from `low` to `high`.
-fn speed_on_axis(low: i32, high: i32, of_axis: u64, speed: u64) -> u64
-    ensures { result ≡ rate_on_axis low high of_axis speed }
+/// How far a motion goes along each axis, in steps.
+#[derive(Clone, Copy)]
+struct AxisExtent {
+    x: u32,
+    y: u32,
+    z: u32,
+}
+
+fn extent_of(bounds: &GridBox) -> AxisExtent
+    ensures { result ≡ extent_of bounds.now }
 {
-    if low == high {
-        speed
-    } else {
-        speed.min(of_axis)
+    let (low, high) = (&bounds.low, &bounds.high);
+    AxisExtent {
+        x: low.x.abs_diff(high.x),
+        y: low.y.abs_diff(high.y),
+        z: low.z.abs_diff(high.z),
     }
 }
 
-// Returns the least of the speeds of the axes along which a box extends, or the greatest of all where
-// it is a point.
-fn greatest_written(speeds: &AxisFigures, bounds: &GridBox) -> u64
-    ensures { result ≡ greatest_written speeds.now bounds.now }
+fn longest(extent: AxisExtent) -> u32
+    ensures { result ≡ longest extent }
 {
-    let (low, high) = (&bounds.low, &bounds.high);
-    let z = speed_on_axis(low.z, high.z, speeds.z, greatest_of(speeds));
-    let y = speed_on_axis(low.y, high.y, speeds.y, z);
-    speed_on_axis(low.x, high.x, speeds.x, y)
+    extent.x.max(extent.y).max(extent.z)
+}
+
+fn whole(most: u32, steps: u32) -> u32
+    ensures { result ≡ whole most steps }
+{
+    if steps == 0 { 0 } else { most }
+}
+
+// Returns the extent of an arc, with the whole of it on each axis of the plane that moves: there such
+// an axis has the whole speed somewhere.
+fn whole_in_plane(plane: Plane, most: u32, extent: AxisExtent) -> AxisExtent
+    ensures { result ≡ whole_in_plane plane most extent }
+{
+    let AxisExtent { x, y, z } = extent;
+    match plane {
+        Plane::XY => AxisExtent {
+            x: whole(most, x),
+            y: whole(most, y),
+            z,
+        },
+        Plane::ZX => AxisExtent {
+            x: whole(most, x),
+            y,
+            z: whole(most, z),
+        },
+        Plane::YZ => AxisExtent {
+            x,
+            y: whole(most, y),
+            z: whole(most, z),
+        },
+    }
+}
+
+fn shares_of(way: &Way, extent: AxisExtent) -> AxisExtent
+    ensures { result ≡ shares_of way.now extent }
+{
+    match way {
+        Way::Line { .. } => extent,
+        Way::Arc(arc) => whole_in_plane(arc.plane(), longest(extent), extent),
+    }
+}
+
+// Returns a speed of the axis that moves `most` steps, limited so that one that moves `steps` steps
+// keeps its own speed.
+fn speed_by_share(most: u32, steps: u32, of_axis: u64, speed: u64) -> u64
+    ensures { result ≡ speed_by_share most steps of_axis speed }
+{
+    if steps == 0 {
+        return speed;
+    }
+    let allowed = u128::from(of_axis) * u128::from(most) / u128::from(steps);
+    allowed.min(u128::from(speed)) as u64
+}
+
+fn speed_by_shares(speeds: &AxisFigures, most: u32, shares: AxisExtent) -> u64
+    ensures { result ≡ speed_by_shares speeds.now most shares }
+{
+    let z = speed_by_share(most, shares.z, speeds.z, greatest_of(speeds));
+    let y = speed_by_share(most, shares.y, speeds.y, z);
+    speed_by_share(most, shares.x, speeds.x, y)
+}
+
+// Returns the greatest speed of a motion along the axis that moves most, by the speeds of the axes as
+// they are written.
+fn greatest_written(speeds: &AxisFigures, way: &Way, extent: AxisExtent) -> u64
+    ensures { result ≡ greatest_written speeds.now way.now extent }
+{
+    speed_by_shares(speeds, longest(extent), shares_of(way, extent))
 }
 
 fn is_above<A: Allocator>(
@@ -209,7 +282,10 @@ fn is_above<A: Allocator>(
 {
     match speeds {
         None => is_above_rate(machine, way, feed),
-        Some(speeds) => greatest_written(speeds, &reach(machine.step, way)) < feed,
+        Some(speeds) => {
+            let extent = extent_of(&reach(machine.step, way));
+            greatest_written(speeds, way, extent) < feed
+        }
     }
 }
 
