@@ -1,5 +1,5 @@
 -- Fixtures that overlap the block of material. Our own.
-use Rattle.std.specs.Prelude.{ℕ, ◌+◌, ℤ, ◌+ℤ◌, ◌-ℤ◌, int_lt, List, [], ◌∷◌, ◌++◌, codes, decimal, Option, Some, None, Bool, ◌&&◌, if◌then◌else◌}
+use Rattle.std.specs.Prelude.{ℕ, ◌+◌, ℤ, ◌+ℤ◌, ◌-ℤ◌, int_lt, List, [], ◌∷◌, ◌++◌, codes, decimal, Option, Some, None, Bool, not, ◌&&◌, if◌then◌else◌}
 use Rattle.ngc_fixed_length.specs.declared.points.Point3.{Point3}
 use Rattle.ngc_machine_files.specs.Machine.{MachineFile}
 use Rattle.ngc_machine_files.specs.declared.machine.Fixture.{Fixture}
@@ -15,13 +15,21 @@ abbrev pub is_across : ℤ → ℤ → ℤ → ℤ → ℤ → ℤ → Bool
 is_across margin low high origin from to =
     int_lt (low +ℤ margin) (origin +ℤ to) && int_lt (origin +ℤ from) (high -ℤ margin)
 
--- so do they along each axis: the fixture, without the margin by which it is larger on every side, and the block
--- overlap. Boxes that only touch don't
-abbrev pub is_overlapping : ℤ → Point3 → StockBox → Fixture → Bool
-is_overlapping margin o b f =
+-- so do they along each axis
+abbrev pub is_inside : ℤ → Point3 → StockBox → Fixture → Bool
+is_inside margin o b f =
     is_across margin f.low.x f.high.x o.x b.low.x b.high.x
     && is_across margin f.low.y f.high.y o.y b.low.y b.high.y
     && is_across margin f.low.z f.high.z o.z b.low.z b.high.z
+
+-- the fixture, without the margin, reaches above the block's top, as a clamp does that holds the block
+abbrev pub is_above : ℤ → Point3 → StockBox → Fixture → Bool
+is_above margin o b f = int_lt (o.z +ℤ b.high.z) (f.high.z -ℤ margin)
+
+-- The fixture, without the margin by which it is larger on every side, and the block overlap. Boxes that only touch
+-- don't, and a clamp may be drawn down to the table, through the block's edge
+abbrev pub is_overlapping : ℤ → Point3 → StockBox → Fixture → Bool
+is_overlapping margin o b f = is_inside margin o b f && not (is_above margin o b f)
 
 -- ---- what is said
 

@@ -64,7 +64,11 @@ pub fn find_marks<A: Allocator + Copy>(alloc: A, walk: &Walk<A>) -> Result<Vec<b
     let grid = &walk.stock.grid;
     let count = grid.columns as usize * grid.rows as usize;
     let mut levels = vec![in alloc; 1u32; count]?;
-    mark_all(grid, levels.as_mut_slice(), walk.touches.traverses.as_slice());
+    mark_all(
+        grid,
+        levels.as_mut_slice(),
+        walk.touches.traverses.as_slice(),
+    );
     mark_all(grid, levels.as_mut_slice(), walk.touches.feeds.as_slice());
     are_zero(alloc, levels.as_slice())
 }

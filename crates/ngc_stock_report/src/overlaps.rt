@@ -56,6 +56,34 @@ fn is_across(margin: Nm, low: Nm, high: Nm, origin: Nm, from: Nm, to: Nm) -> boo
         && is_below(sum(origin, from), high_end(margin, high))
 }
 
+// Returns whether a fixture, without its margin, and a block have more than their surfaces in common.
+fn is_inside(margin: Nm, origin: &Point3, block: &StockBox, fixture: &Fixture) -> bool
+    requires margin { IsFrom (pos 0) MARGIN_LIMIT margin }
+    requires origin { IsSized PLACE_LIMIT origin.now }
+    requires block { IsStock block.now }
+    requires fixture { IsFixture fixture.now }
+    ensures { result ≡ spec.is_inside margin origin.now block.now fixture.now }
+{
+    let (low, high) = (&fixture.low, &fixture.high);
+    is_across(margin, low.x, high.x, origin.x, block.low.x, block.high.x)
+        && is_across(margin, low.y, high.y, origin.y, block.low.y, block.high.y)
+        && is_across(margin, low.z, high.z, origin.z, block.low.z, block.high.z)
+}
+
+// Returns whether a fixture, without its margin, reaches above a block's top.
+fn is_above(margin: Nm, origin: &Point3, block: &StockBox, fixture: &Fixture) -> bool
+    requires margin { IsFrom (pos 0) MARGIN_LIMIT margin }
+    requires origin { IsSized PLACE_LIMIT origin.now }
+    requires block { IsStock block.now }
+    requires fixture { IsFixture fixture.now }
+    ensures { result ≡ spec.is_above margin origin.now block.now fixture.now }
+{
+    is_below(
+        sum(origin.z, block.high.z),
+        high_end(margin, fixture.high.z),
+    )
+}
+
 // Returns whether a fixture, without its margin, and a block overlap. The block's system has this origin.
 fn is_overlapping(margin: Nm, origin: &Point3, block: &StockBox, fixture: &Fixture) -> bool
     requires margin { IsFrom (pos 0) MARGIN_LIMIT margin }
@@ -64,10 +92,7 @@ fn is_overlapping(margin: Nm, origin: &Point3, block: &StockBox, fixture: &Fixtu
     requires fixture { IsFixture fixture.now }
     ensures { result ≡ spec.is_overlapping margin origin.now block.now fixture.now }
 {
-    let (low, high) = (&fixture.low, &fixture.high);
-    is_across(margin, low.x, high.x, origin.x, block.low.x, block.high.x)
-        && is_across(margin, low.y, high.y, origin.y, block.low.y, block.high.y)
-        && is_across(margin, low.z, high.z, origin.z, block.low.z, block.high.z)
+    is_inside(margin, origin, block, fixture) && !is_above(margin, origin, block, fixture)
 }
 
 #[tactic(auto, unfolding(ngc_report::specs::Words::bracketed))]
