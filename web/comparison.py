@@ -85,7 +85,9 @@ class Comparison:
         written = made.stdout
         for name, kind in called.items():
             written = kind.encode() + written[len(name):] if written.startswith(f"{name}:".encode()) else written
-        theirs = (made.returncode, written, made.stderr[:1 << 16])
+        # Only the program, which opens the files, has a line on which of them 901 is about.
+        said = b"ngc: fault 901\n" if made.stderr.startswith(b"ngc: fault 901\n") else made.stderr
+        theirs = (made.returncode, written, said[:1 << 16])
         kind = (words[0], made.returncode)
         self.seen[kind] = self.seen.get(kind, 0) + 1
         self.count(ours == theirs, f"{' '.join(words)}\n  page {ours[0], ours[1][:100], ours[2][:200]}\n  program {theirs[0], theirs[1][:100], theirs[2][:200]}")
