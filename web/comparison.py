@@ -85,6 +85,7 @@ class Comparison:
         written = made.stdout
         for name, kind in called.items():
             written = kind.encode() + written[len(name):] if written.startswith(f"{name}:".encode()) else written
+            written = written.replace(f'"fact":"reason","text":"{name}:'.encode(), f'"fact":"reason","text":"{kind}:'.encode())
         # Only the program, which opens the files, has a line on which of them 901 is about.
         said = b"ngc: fault 901\n" if made.stderr.startswith(b"ngc: fault 901\n") else made.stderr
         theirs = (made.returncode, written, said[:1 << 16])
