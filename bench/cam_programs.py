@@ -168,6 +168,33 @@ def trochoid():
     return lines
 
 
+def ramps():
+    """A slot by ramps of 1 in 20, to and fro, in three passes side by side."""
+    lines, z = ["G21 G90 G17 G94", "G0 Z5", "G0 X0 Y0", "G1 Z0 F600", "F2400"], 0.0
+    for k in range(60):
+        z -= 0.15
+        y = 2.0 * (k // 20)
+        lines.append(f"G1 X{60 if k % 2 == 0 else 0:.4f} Y{y:.4f} Z{z:.4f}")
+        if k % 20 == 19:
+            lines += ["G0 Z5", f"G0 X0 Y{y + 8:.4f}", "G1 Z0 F600", "F2400"]
+            z = 0.0
+    return [*lines, "G0 Z5"]
+
+
+def relief():
+    """A relief with steep flanks, scanned along X."""
+
+    def height(x, y):
+        return -2.0 + 2.0 * math.tanh(6 * math.sin(x / 3.0 + y / 9.0)) + 0.3 * math.sin(x * 1.3)
+
+    lines = ["G21 G90 G17 G94", "G0 Z5", "G0 X0 Y0", f"G1 Z{height(0, 0):.3f} F600", "F3000"]
+    for row in range(40):
+        y = row * 0.4
+        columns = [k * 0.2 for k in range(301)]
+        lines += [f"X{x:.3f} Y{y:.3f} Z{height(x, y):.3f}" for x in (columns if row % 2 == 0 else columns[::-1])]
+    return [*lines, "G0 Z5"]
+
+
 PROGRAMS = {
     "contour of 0.02 mm lines, F6000": contour,
     "zigzag of 2 mm lines, F4800": zigzag,
@@ -179,4 +206,6 @@ PROGRAMS = {
     "spiral pocket, F3000": spiral_pocket,
     "500 drilled holes, F300": drilling,
     "circle of 0.02 mm chords, F6000": fine_circle,
+    "ramps of 1 in 20, F2400": ramps,
+    "relief of 0.2 mm, F3000": relief,
 }
