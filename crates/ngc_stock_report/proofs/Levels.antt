@@ -86,11 +86,11 @@ both_marked g xs ys a b c first later = record {
       };
 }
 
-pub marks_next : (g : Grid) (xs : List Found) (i : ℕ) (x : Found) (a b c : List ℕ) → i < length xs → x ≡ get_or xs i x →
-    AreLevels g (take i xs) a b → AreLevels g (x ∷ []) b c → AreLevels g (take (i + 1) xs) a c
-marks_next g xs i x a b c inside found first later =
-    subst (λ (fs : List Found). AreLevels g fs a c) (ap (λ (y : Found). take i xs ++ y ∷ []) found ∙ sym (take_more xs i x inside))
-    (both_marked g (take i xs) (x ∷ []) a b c first later)
+pub marks_next : (g : Grid) (xs : List Found) (i : ℕ) (d : Found) (a b c : List ℕ) → i < length xs →
+    AreLevels g (take i xs) a b → AreLevels g (get_or xs i d ∷ []) b c → AreLevels g (take (i + 1) xs) a c
+marks_next g xs i d a b c inside first later =
+    subst (λ (fs : List Found). AreLevels g fs a c) (sym (take_more xs i d inside))
+    (both_marked g (take i xs) (get_or xs i d ∷ []) a b c first later)
 
 pub marks_all : (g : Grid) (xs : List Found) (i : ℕ) (a b : List ℕ) → length xs ≤ i → AreLevels g (take i xs) a b → AreLevels g xs a b
 marks_all g xs i a b ends h = subst (λ (fs : List Found). AreLevels g fs a b) (take_all i xs ends) h
@@ -100,10 +100,17 @@ marks_all g xs i a b ends h = subst (λ (fs : List Found). AreLevels g fs a b) (
 not_zero : (n : ℕ) → n ≡ 1 → (n == 0) ≡ false
 not_zero n e = ap (λ (m : ℕ). m == 0) e
 
+-- every cell has a level
+pub all_ones : (w v : WalkData) (levels : List ℕ) → v ≡ w → levels ≡ replicate (w.stock.grid.columns * w.stock.grid.rows) 1 →
+    length levels ≡ v.stock.grid.columns * v.stock.grid.rows
+all_ones w v levels same ones =
+    ap (λ (l : List ℕ). length l) ones ∙ length-replicate (w.stock.grid.columns * w.stock.grid.rows) 1
+    ∙ sym (ap (λ (x : WalkData). x.stock.grid.columns * x.stock.grid.rows) same)
+
 -- first the traverses, and then the feeds
-pub whole_marks : (w : WalkData) (a b c : List ℕ) (marks : List Bool) → a ≡ replicate (w.stock.grid.columns * w.stock.grid.rows) 1 →
+marks_of : (w : WalkData) (a b c : List ℕ) (marks : List Bool) → a ≡ replicate (w.stock.grid.columns * w.stock.grid.rows) 1 →
     AreLevels w.stock.grid w.found a b → AreLevels w.stock.grid w.feeds b c → marks ≡ map (λ (n : ℕ). n == 0) c → AreMarks w marks
-whole_marks w a b c marks first traverses feeds is =
+marks_of w a b c marks first traverses feeds is =
     let n : ℕ = w.stock.grid.columns * w.stock.grid.rows in
     let whole : length a ≡ n = ap (λ (l : List ℕ). length l) first ∙ length-replicate n 1 in
     let same : length marks ≡ length c = ap (λ (l : List Bool). length l) is ∙ length-map c (λ (m : ℕ). m == 0) in
@@ -124,3 +131,11 @@ whole_marks w a b c marks first traverses feeds is =
             other = λ none. mark ∙ not_zero (slice_index c k) (q.other (λ m. none (inr m)) ∙ p.other (λ m. none (inl m)) ∙ one);
           };
     }
+
+pub whole_marks : (w v : WalkData) (found feeds : List Found) (a b c : List ℕ) (marks : List Bool) → v ≡ w → found ≡ v.found → feeds ≡ v.feeds →
+    a ≡ replicate (w.stock.grid.columns * w.stock.grid.rows) 1 → AreLevels v.stock.grid found a b → AreLevels v.stock.grid feeds b c →
+    marks ≡ map (λ (n : ℕ). n == 0) c → AreMarks w marks
+whole_marks w v found feeds a b c marks same is_found is_feeds ones first later is =
+    let p = subst (λ (x : WalkData). AreLevels x.stock.grid x.found a b) same (subst (λ (fs : List Found). AreLevels v.stock.grid fs a b) is_found first) in
+    let q = subst (λ (x : WalkData). AreLevels x.stock.grid x.feeds b c) same (subst (λ (fs : List Found). AreLevels v.stock.grid fs b c) is_feeds later) in
+    marks_of w a b c marks ones p q is

@@ -1,5 +1,5 @@
 //! The cells of a map near which motions may touch material.
-ghost use Rattle.std.specs.Prelude.{◌≡◌, ◌==◌, ◌*◌, ◌≤◌, ◌∷◌, [], IfOk, length, map};
+ghost use Rattle.std.specs.Prelude.{◌≡◌, ◌==◌, ◌*◌, ◌≤◌, ◌∷◌, [], IfOk, length, map, replicate};
 ghost use Rattle.ngc_cells.specs.Grids.{IsGrid};
 ghost use Rattle.ngc_cells.specs.Stretches.{RADIUS_LIMIT};
 ghost use Rattle.ngc_stock_report.specs.Levels.{AreLevels};
@@ -54,6 +54,31 @@ fn are_zero<A: Allocator>(alloc: A, levels: &[u32]) -> Result<Vec<bool, A>, Allo
     levels.iter().map(|level| *level == 0).collect(alloc)
 }
 
+// Returns the level of cells that aren't marked, for each cell.
+fn ones<A: Allocator>(alloc: A, grid: &Grid) -> Result<Vec<u32, A>, AllocError>
+    requires { IsGrid grid.now }
+    ensures { IfOk result (λ v. v.items ≡ replicate (grid.now.columns * grid.now.rows) 1) }
+{
+    let count = grid.columns as usize * grid.rows as usize;
+    let levels = vec![in alloc; 1u32; count]?;
+    Ok(levels)
+}
+
+// Marks cells, first for the traverses of a walk and then for its feeds.
+fn marks_in<A: Allocator>(
+    alloc: A,
+    levels: &mut [u32],
+    walk: &Walk<A>,
+) -> Result<Vec<bool, A>, AllocError>
+    requires { levels.old ≡ replicate (walk.now.stock.grid.columns * walk.now.stock.grid.rows) 1 }
+    ensures { IfOk result (λ v. AreMarks walk.now v.items) }
+{
+    let grid = &walk.stock.grid;
+    mark_all(grid, levels, walk.touches.traverses.as_slice());
+    mark_all(grid, levels, walk.touches.feeds.as_slice());
+    are_zero(alloc, levels)
+}
+
 /// Returns for each cell whether it is marked: its centre is at most two and a half cells, and at most a metre,
 /// from a place where a traverse or a feed of the walk may touch material.
 ///
@@ -61,14 +86,6 @@ fn are_zero<A: Allocator>(alloc: A, levels: &[u32]) -> Result<Vec<bool, A>, Allo
 pub fn find_marks<A: Allocator + Copy>(alloc: A, walk: &Walk<A>) -> Result<Vec<bool, A>, AllocError>
     ensures { IfOk result (λ v. AreMarks walk.now v.items) }
 {
-    let grid = &walk.stock.grid;
-    let count = grid.columns as usize * grid.rows as usize;
-    let mut levels = vec![in alloc; 1u32; count]?;
-    mark_all(
-        grid,
-        levels.as_mut_slice(),
-        walk.touches.traverses.as_slice(),
-    );
-    mark_all(grid, levels.as_mut_slice(), walk.touches.feeds.as_slice());
-    are_zero(alloc, levels.as_slice())
+    let mut levels = ones(alloc, &walk.stock.grid)?;
+    marks_in(alloc, levels.as_mut_slice(), walk)
 }

@@ -10,8 +10,8 @@ loop-one-preserved c =
     let v = c.loop-one.invariant in
     record {
       count = c.mark.ensures.count ∙ v.count;
-      marks = marks_next c.args.grid.now c.args.found.now c.loop-one.one-index c.one-item.result c.args.levels.now c.loop-one.levels c.mark.new.levels
-          c.loop-one-test.true c.one-item.is v.marks c.mark.ensures;
+      marks = marks_next c.args.grid.now c.args.found.now c.loop-one.one-index _ c.args.levels.now c.loop-one.levels c.mark.new.levels
+          c.loop-one-test.true v.marks c.mark.ensures;
     }
 
 pub returns : goal.returns

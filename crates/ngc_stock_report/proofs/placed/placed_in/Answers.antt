@@ -1,6 +1,6 @@
 use Rattle.std.proofs.Common.{◌<◌, arith, subst, sym}
 use Rattle.ngc_stock.specs.declared.stock.Stock.{Stock}
-use Rattle.ngc_stock_report.proofs.Cells.{placed_cells}
+use Rattle.ngc_stock_report.proofs.Covering.{placed_cells}
 use Rattle.ngc_stock_report.proofs.placed.placed_in.Goals as goal
 
 pub returns-clause-cells : goal.returns-clause-cells
