@@ -14,5 +14,5 @@ lower-requires-clause-stretch c =
 pub returns : goal.returns
 returns c =
     let low = subst (λ (r : ℕ). AreLowered c.args.grid.now (at_spot c.args.found.now.touch.place) r 0 c.args.levels.now c.lower.new.heights)
-        c.mark_radius.ensures.value c.lower.ensures in
+    c.mark_radius.ensures.value c.lower.ensures in
     one_marked c.args.grid.now c.args.found.now c.args.levels.now c.lower.new.heights (c.is_near.ensures.0 c.if-not-is_near.false) low
