@@ -1,5 +1,5 @@
 -- Marks, one motion after another.
-use Rattle.std.proofs.Common.{◌≡◌, ℕ, zero, suc, ◌+◌, ◌*◌, ◌<◌, ◌≤◌, ◌⊎◌, inl, inr, refl, sym, subst, ap, arith, ◌∙◌, eq-eqb, List, [], ◌∷◌, ◌++◌, length, take, get_or, Bool, true, false}
+use Rattle.std.proofs.Common.{◌≡◌, ℕ, zero, suc, ◌+◌, ◌*◌, ◌<◌, ◌≤◌, ◌⊎◌, inl, inr, refl, sym, subst, ap, arith, ◌∙◌, eq-eqb, List, [], ◌∷◌, ◌++◌, length, take, get_or, Bool, false}
 use Rattle.std.proofs.lemmas.List.{get_or-map, get_or-replicate, length-map, length-replicate, take_all, take_more}
 use Rattle.std.specs.Prelude.{◌==◌, map, replicate, slice_index}
 use Rattle.ngc_cells.specs.declared.grid.Grid.{Grid}
@@ -7,7 +7,7 @@ use Rattle.ngc_cells.specs.Stretches.{IsNear, IsSpot}
 use Rattle.ngc_cells.specs.Grids.{AreLowered, centre}
 use Rattle.ngc_material.specs.declared.walk.Found.{Found}
 use Rattle.ngc_stock_report.specs.Levels.{AreLevels, IsLevel}
-use Rattle.ngc_stock_report.specs.Marks.{AreMarks, IsMarked, IsMarkedByAny, at_spot, mark_radius}
+use Rattle.ngc_stock_report.specs.Marks.{AreMarks, IsMarkedByAny, at_spot, mark_radius}
 use Rattle.ngc_stock_report.specs.Walked.{WalkData}
 
 zero_or : (n : ℕ) → ¬ (¬ (n ≡ 0)) → n ≡ 0
