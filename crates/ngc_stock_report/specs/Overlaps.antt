@@ -28,7 +28,7 @@ is_above margin o b f = int_lt (o.z +ℤ b.high.z) (f.high.z -ℤ margin)
 
 -- The fixture, without the margin by which it is larger on every side, and the block overlap. Boxes that only touch
 -- don't, and a clamp may be drawn down to the table, through the block's edge
-abbrev pub is_overlapping : ℤ → Point3 → StockBox → Fixture → Bool
+unfoldable pub is_overlapping : ℤ → Point3 → StockBox → Fixture → Bool
 is_overlapping margin o b f = is_inside margin o b f && not (is_above margin o b f)
 
 -- ---- what is said

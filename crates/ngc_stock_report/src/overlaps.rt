@@ -85,6 +85,7 @@ fn is_above(margin: Nm, origin: &Point3, block: &StockBox, fixture: &Fixture) ->
 }
 
 // Returns whether a fixture, without its margin, and a block overlap. The block's system has this origin.
+#[tactic(auto, unfolding(crate::specs::Overlaps::is_overlapping))]
 fn is_overlapping(margin: Nm, origin: &Point3, block: &StockBox, fixture: &Fixture) -> bool
     requires margin { IsFrom (pos 0) MARGIN_LIMIT margin }
     requires origin { IsSized PLACE_LIMIT origin.now }
