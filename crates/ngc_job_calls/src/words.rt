@@ -1,5 +1,5 @@
 //! The words that the bytes of a job file add.
-ghost use Rattle.std.specs.Prelude.{◌≡◌, map, option_map, string_bytes, IfOk};
+ghost use Rattle.std.specs.Prelude.{map, string_bytes};
 ghost use Rattle.toml.specs.View.{view};
 ghost use Rattle.ngc_refused_files.specs.Stops.{StopsWhere};
 ghost use Rattle.ngc_job_calls.specs.Said as spec;

@@ -37,7 +37,7 @@ unfoldable pub mistake_fact : List ℕ → List ℕ
 mistake_fact text = codes ",\n{\"fact\":\"reason\",\"text\":\"" ++ flat_map quoted_byte text ++ codes "\"}"
 
 -- a document with a mistake in words, and with the fault's number
-abbrev pub mistake_document : ℕ → List ℕ → List ℕ
+unfoldable pub mistake_document : ℕ → List ℕ → List ℕ
 mistake_document number text = opening Json ++ (mistake_fact text ++ ending Json number)
 
 -- the report of a mistake in words: as it is, or as a document

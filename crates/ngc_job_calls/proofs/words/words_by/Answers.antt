@@ -10,10 +10,9 @@ returns-in-Ok c =
     c.in-Ok.ensures.tree c.words_in.ensures
 
 pub returns-in-Err : goal.returns-in-Err
-returns-in-Err c =
-    without_memory (λ added. map string_bytes added.items) c.args.name.now c.args.bytes.now (map (λ w. w.now) c.args.words.now)
+returns-in-Err c = without_memory c.args.name.now c.args.bytes.now (map (λ w. w.now) c.args.words.now)
 
 pub returns-in-Err-2 : goal.returns-in-Err-2
 returns-in-Err-2 c =
-    unread (λ added. map string_bytes added.items) c.args.name.now c.args.bytes.now (map (λ w. w.now) c.args.words.now) c.no_document.result
-    (c.in-Err.ensures.refused (search rules)) c.no_document.ensures
+    unread c.args.name.now c.args.bytes.now (map (λ w. w.now) c.args.words.now) c.no_document.result (c.in-Err.ensures.refused (search rules))
+    c.no_document.ensures

@@ -24,4 +24,4 @@ returns-clause-maps g c = λ bytes is_text have.
     let setup = setup_of c.args.shop.now.machine c.args.shop.now.tools in
     mapped_program c.args.most _ setup bytes c.args.block_delete (text_in c.args.program.now) c.in_ok-commands.commands.items c.as_slice.result.now _ _
     c.map_commands.result c.as_slice.ensures.value is_text have c.in_ok-commands.ensures.commands
-    (rw (<- c.as_slice-table.ensures.value) c.map_commands.ensures.maps)
+    (rw (← c.as_slice-table.ensures.value) c.map_commands.ensures.maps)

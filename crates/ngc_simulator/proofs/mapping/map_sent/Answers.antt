@@ -18,7 +18,7 @@ returns-in_err-map_commands-in-Ok-clause-maps g c =
     c.from_residual-in_err-map_commands-in-Ok.ensures.1
     (dialect_unmapped c.args.most table sent.dialect setup c.args.block_delete sent.text.items c.in-Ok.framed.commands.items c.as_slice-commands.result.now
     old new fault c.as_slice-commands.ensures.value means
-    (rw (<- c.as_slice-table.ensures.value) c.in_err-map_commands-in-Ok.ensures.maps))
+    (rw (← c.as_slice-table.ensures.value) c.in_err-map_commands-in-Ok.ensures.maps))
 
 pub returns-in_ok-map_commands-in-Ok-clause-maps : goal.returns-in_ok-map_commands-in-Ok-clause-maps
 returns-in_ok-map_commands-in-Ok-clause-maps g c =
@@ -26,4 +26,4 @@ returns-in_ok-map_commands-in-Ok-clause-maps g c =
     let (means, framed) = rw (c.in-Ok.is, c.as_slice-text.ensures.value) at c.in_ok-framed.ensures.executed in
     dialect_mapped c.args.most sent.shop.figures.tools.items sent.dialect (setup_of sent.shop.machine sent.shop.tools) c.args.block_delete sent.text.items
     c.in-Ok.framed.commands.items c.as_slice-commands.result.now (g.W.Sink.written c.args.output.now) (g.W.Sink.written c.map_commands.new.output)
-    c.as_slice-commands.ensures.value means (rw (<- c.as_slice-table.ensures.value) c.in_ok-map_commands-in-Ok.ensures.maps)
+    c.as_slice-commands.ensures.value means (rw (← c.as_slice-table.ensures.value) c.in_ok-map_commands-in-Ok.ensures.maps)
