@@ -1,7 +1,8 @@
-use Rattle.std.proofs.Common.{ℕ, List, Option}
+use Rattle.std.proofs.Common.{ℕ, List, Option, Err, subst}
 use Rattle.ngc_canonical.specs.Interpreter.{setup_of}
+use Rattle.ngc_file_figures.specs.declared.limits.ToolLimits.{ToolLimits}
 use Rattle.ngc_report.proofs.Converted.{turned}
-use Rattle.ngc_simulator.specs.Mapping.{MapsDialect}
+use Rattle.ngc_simulator.specs.Mapping.{MapsCommands, MapsDialect}
 use Rattle.ngc_simulator.proofs.MapLaws.{dialect_mapped, dialect_unmapped}
 use Rattle.ngc_simulator.proofs.mapping.map_sent.Goals as goal
 
@@ -18,7 +19,8 @@ returns-in_err-map_commands-in-Ok-clause-maps g c =
     c.from_residual-in_err-map_commands-in-Ok.ensures.1
     (dialect_unmapped c.args.most table sent.dialect setup c.args.block_delete sent.text.items c.in-Ok.framed.commands.items c.as_slice-commands.result.now
     old new fault c.as_slice-commands.ensures.value means
-    (rw (← c.as_slice-table.ensures.value) c.in_err-map_commands-in-Ok.ensures.maps))
+    (subst (λ (t : List ToolLimits). MapsCommands c.args.most t setup.machine c.as_slice-commands.result.now old new (Err fault))
+    c.as_slice-table.ensures.value c.in_err-map_commands-in-Ok.ensures.maps))
 
 pub returns-in_ok-map_commands-in-Ok-clause-maps : goal.returns-in_ok-map_commands-in-Ok-clause-maps
 returns-in_ok-map_commands-in-Ok-clause-maps g c =
