@@ -51,7 +51,7 @@ fn tell(rt: &HostRuntime, text: &[u8]) {
 // Prints a fault's line, and below 901 the name of the file.
 fn tell_fault(rt: &HostRuntime, line: &[u8], file: &str) {
     tell(rt, line);
-    if line == b"ngc: fault 901\n" && !file.is_empty() {
+    if line == b"ngc: fault 901\n".as_slice() && !file.is_empty() {
         tell(rt, b"ngc: ");
         tell(rt, file.as_bytes());
         tell(rt, b" can't be opened or read, or is too long\n");
