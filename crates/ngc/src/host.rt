@@ -46,18 +46,17 @@ impl<'a> HostFiles<'a> {
         }
     }
 
-    /// Returns the name of the first file that couldn't be opened, or else of the one that was asked for
-    /// last. It is empty where memory was refused for it.
+    /// Returns the name of the file that was asked for last. It is empty where memory was refused for it.
     pub fn asked(&self) -> &str {
         self.asked.as_str()
     }
+}
 
-    fn remember(&mut self, name: &str) {
-        if self.failures == 0 {
-            let alloc = self.rt.alloc();
-            self.asked = name.to_string(alloc).unwrap_or(String::new(alloc));
-        }
-    }
+// Returns a copy of a file's name, or an empty text where memory is refused.
+fn name_of(rt: &HostRuntime, name: Option<&str>) -> String {
+    let alloc = rt.alloc();
+    let name = name.unwrap_or("standard input");
+    name.to_string(alloc).unwrap_or(String::new(alloc))
 }
 
 impl Files for HostFiles<'_> {
@@ -70,7 +69,7 @@ impl Files for HostFiles<'_> {
     ghost bytes = { λ _ _. None };
 
     fn source(&mut self, name: Option<&str>) -> Result<HostSource, ReadFault> {
-        self.remember(name.unwrap_or("standard input"));
+        self.asked = name_of(self.rt, name);
         let Some(name) = name else {
             return Ok(HostSource::Input(Device::new(self.rt.stdin())));
         };
