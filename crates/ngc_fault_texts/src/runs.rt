@@ -158,12 +158,13 @@ pub(crate) fn shell() -> &'static [Row]
         Row {
             number: 730,
             rule: "`ngc draw --map` needs a block of material: name one with `--stock`, or leave `--map` out\n\
-             (our own). It is 730 too if the block, or the end of a motion, is more than 2 m from the machine's\n\
-             zero.",
+             (our own). It is 730 too if the block, or the end of a motion, is more than 2 m from the\n\
+             machine's zero.",
             example: "command `ngc draw --map` with a machine file without `stock`",
             answer: "`ngc: fault 730`",
             place: Some("3"),
-            mend: "The block may also be in the machine file or in the job file. `ngc report` says if it is too far.",
+            mend: "The block may also be in the machine file or in the job file. `ngc report` says if it is\n\
+             too far.",
         },
         Row {
             number: 900,
