@@ -26,7 +26,7 @@ up_to_whole x = (x + (MILLION - 1)) / MILLION
 
 -- On a machine with limits of each axis an axis has a share of a motion's rate. Its path is within a
 -- step of the line, whose ends are within half a step of grid points: so at each end of a window of
--- ticks it may be one and a half steps ahead of its share or behind.
+-- ticks it may be up to one and a half steps from its share.
 abbrev pub uneven : Option AxisLimits → ℕ
 uneven None = 0
 uneven (Some limits) = 3
