@@ -64,11 +64,25 @@ fn refuse(rt: &HostRuntime, fault: &CallFault, files: &HostFiles<'_>) -> u8 {
     fault.status()
 }
 
-// Executes the command with these options, and returns the status.
+// Returns whether a fault of this command is one line alone.
+fn is_one_line(options: &Options<'_>) -> bool {
+    matches!(
+        options,
+        Options::List(_)
+            | Options::Certify(_)
+            | Options::Check(_)
+            | Options::Run(_)
+            | Options::RunThrough(_)
+    )
+}
+
+// Executes the command with these options, and returns the status. With a job file a fault may have more
+// than one line.
 fn answer_options(
     rt: &HostRuntime,
     options: &Options<'_>,
     out: Option<&str>,
+    has_job: bool,
 ) -> Result<u8, UsageFault> {
     let is_wide = Cell::new(false);
     let mut files = SavedFiles::new(HostFiles::new(rt), options, &is_wide);
@@ -88,8 +102,10 @@ fn answer_options(
         &mut told,
     );
     note_wide(is_wide.get(), status, &mut told);
+    let names_file = has_job || !is_one_line(options);
+    let file = if names_file { files.inner.asked() } else { "" };
     if !output.is_closed() {
-        tell_fault(rt, told.into_inner().as_slice(), files.inner.asked());
+        tell_fault(rt, told.into_inner().as_slice(), file);
     }
     Ok(status)
 }
@@ -99,7 +115,7 @@ fn answer_job(rt: &HostRuntime, job: &JobCall<'_>, out: Option<&str>) -> Result<
     let words = job.all_words(rt.alloc()).map_err(|_| UsageFault::Memory)?;
     tell(rt, job.note.as_slice());
     let options = read_options(rt.alloc(), words.as_slice())?;
-    answer_options(rt, &options, out)
+    answer_options(rt, &options, out, !job.note.as_slice().is_empty())
 }
 
 fn answer_call(rt: &HostRuntime, call: &CallWords<'_>) -> Result<u8, UsageFault> {
