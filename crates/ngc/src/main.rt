@@ -3,10 +3,12 @@
 #![tactic(auto)]
 
 mod host;
+mod meaning;
 mod output;
 mod outputs;
 
 use crate::host::HostFiles;
+use crate::meaning::meaning_of;
 use crate::output::Output;
 use crate::outputs::HostOutputs;
 use ngc_job_calls::{CallFault, JobCall, with_job};
@@ -48,9 +50,22 @@ fn tell(rt: &HostRuntime, text: &[u8]) {
     let _ = write_all(&mut Device::new(rt.stderr()), text);
 }
 
-// Prints a fault's line, and below 901 the name of the file.
+// Prints what is wrong, in one line.
+fn tell_meaning(rt: &HostRuntime, meaning: &str) {
+    tell(rt, b"ngc:");
+    for line in meaning.lines() {
+        tell(rt, b" ");
+        tell(rt, line.as_bytes());
+    }
+    tell(rt, b"\n");
+}
+
+// Prints a fault's line. Below it is what is wrong with the command line, or for 901 the name of the file.
 fn tell_fault(rt: &HostRuntime, line: &[u8], file: &str) {
     tell(rt, line);
+    if let Some(meaning) = meaning_of(line) {
+        tell_meaning(rt, meaning.trim_end());
+    }
     if line == b"ngc: fault 901\n".as_slice() && !file.is_empty() {
         tell(rt, b"ngc: ");
         tell(rt, file.as_bytes());
