@@ -68,7 +68,14 @@ fn greatest_of(changes: &PerAxis<u32>) -> u32
     changes.x.max(changes.y).max(changes.z)
 }
 
-// Returns the numbers of a file. The machine's change is the greatest of the axes' changes.
+fn greatest_turn(turns: &PerAxis<u64>) -> u64
+    ensures { result ≡ greatest_of turns.now }
+{
+    turns.x.max(turns.y).max(turns.z)
+}
+
+// Returns the numbers of a file. The machine's change is the greatest of the axes' changes, and its
+// turn that of their turns.
 fn numbers(head: &HeadSheet, rates: &Rates) -> MachineNumbers
     requires { AreInFile rates.now }
     ensures { result ≡ spec.numbers head.now rates.now }
@@ -80,7 +87,7 @@ fn numbers(head: &HeadSheet, rates: &Rates) -> MachineNumbers
         max_rate: i64::from(rates.max_rate),
         change: i64::from(greatest_of(&rates.changes)),
         corner: i64::from(rates.corner),
-        turn: rates.turn as i64,
+        turn: greatest_turn(&rates.turns) as i64,
         optional: optional_numbers(head, rates),
     }
 }
@@ -115,18 +122,17 @@ fn axis_rates(rates: &PerAxis<u32>) -> Coordinates
     }
 }
 
-// Returns the limits of each axis: the change of its own acceleration, and the machine's turn.
+// Returns the limits of each axis: the change of its own acceleration, and the turn of that on arcs.
 fn own_limits(rates: &Rates) -> LimitNumbers
     requires { AreInFile rates.now }
     ensures { result ≡ spec.own_limits rates.now }
 {
-    let turn = rates.turn as i64;
     LimitNumbers {
         changes: axis_rates(&rates.changes),
         turns: Coordinates {
-            x: turn,
-            y: turn,
-            z: turn,
+            x: rates.turns.x as i64,
+            y: rates.turns.y as i64,
+            z: rates.turns.z as i64,
         },
     }
 }
