@@ -265,11 +265,7 @@ fn turn_by(
     limited_turn(figures.arc_feed, scale, ticks, acceleration)
 }
 
-fn turns_of(
-    scale: &Scale,
-    ticks: u32,
-    figures: &Figures,
-) -> Result<PerAxis<u64>, FigureRefusal>
+fn turns_of(scale: &Scale, ticks: u32, figures: &Figures) -> Result<PerAxis<u64>, FigureRefusal>
     requires scale { IsScale scale.now }
     requires ticks { IsRate ticks }
     ensures value { result ≡ each_turn scale.now ticks figures.now }

@@ -1,8 +1,9 @@
 //! The contents of a machine file of what is written in one of version 3.
-ghost use Rattle.std.specs.Prelude.{◌≡◌, ◌<◌, IfOk, map};
+ghost use Rattle.std.specs.Prelude.{◌≡◌, ◌<◌, ◌≤◌, IfOk, map};
 ghost use Rattle.ngc_machine_files.specs.MachineText.{values_of};
 ghost use Rattle.ngc_machine_maker.specs.Formulas.{greatest_of};
 ghost use Rattle.ngc_machine_maker.specs.InFile.{AreInFile};
+ghost use Rattle.ngc_machine_maker.specs.Ranges.{AreTurns};
 ghost use Rattle.ngc_machine_figures.specs.Files.{values_of as sheet_values};
 ghost use Rattle.ngc_written_machines.specs.Contents as spec;
 ghost use Rattle.ngc_written_machines.specs.Corners.{fixture as fixture_of};
@@ -69,7 +70,9 @@ fn greatest_of(changes: &PerAxis<u32>) -> u32
 }
 
 fn greatest_turn(turns: &PerAxis<u64>) -> u64
-    ensures { result ≡ greatest_of turns.now }
+    requires { AreTurns turns.now }
+    ensures value { result ≡ greatest_of turns.now }
+    ensures bound { result ≤ 1000000000000 }
 {
     turns.x.max(turns.y).max(turns.z)
 }
@@ -122,6 +125,17 @@ fn axis_rates(rates: &PerAxis<u32>) -> Coordinates
     }
 }
 
+fn axis_turns(turns: &PerAxis<u64>) -> Coordinates
+    requires { AreTurns turns.now }
+    ensures { result ≡ spec.axis_rates turns.now }
+{
+    Coordinates {
+        x: turns.x as i64,
+        y: turns.y as i64,
+        z: turns.z as i64,
+    }
+}
+
 // Returns the limits of each axis: the change of its own acceleration, and the turn of that on arcs.
 fn own_limits(rates: &Rates) -> LimitNumbers
     requires { AreInFile rates.now }
@@ -129,11 +143,7 @@ fn own_limits(rates: &Rates) -> LimitNumbers
 {
     LimitNumbers {
         changes: axis_rates(&rates.changes),
-        turns: Coordinates {
-            x: rates.turns.x as i64,
-            y: rates.turns.y as i64,
-            z: rates.turns.z as i64,
-        },
+        turns: axis_turns(&rates.turns),
     }
 }
 
