@@ -26,7 +26,7 @@ use Rattle.ngc_frames.specs.declared.change.FrameChange.{FrameChange}
 use Rattle.ngc_frames.specs.declared.frame.Frame.{Frame}
 use Rattle.ngc_report.specs.Words.{bracketed}
 use Rattle.ngc_report.specs.declared.form.Form.TheVariants.{Words, Json}
-use Rattle.ngc_length_warnings.specs.BoxTexts.{block_fact, box_warnings, cut_facts, cut_words, each_words, first_fact, lower_words, more_words, number_words}
+use Rattle.ngc_length_warnings.specs.BoxTexts.{box_warnings, cut_facts, cut_words, each_words, first_fact, lower_words, more_words, number_words}
 
 abbrev point : ℤ → ℤ → Point3
 point x z = record { x = x; y = pos 0; z = z }
@@ -90,7 +90,7 @@ unfolding digits number_text system_text bracketed number_words more_words each_
 in_words = refl
 
 in_facts : box_warnings Json clamped (frame First (pos 0)) (second_from_line_5 (pos 0)) (slot mill) ≡ codes ",\n{\"fact\":\"warning\",\"text\":\"a fixture counts from a system in which the program cuts without a tool length offset\",\"count\":2,\"fixture\":1,\"line\":4,\"system\":\"G54\",\"tool\":1,\"lower\":38000000},\n{\"fact\":\"warning\",\"text\":\"the block of material counts from a system in which the program cuts without a tool length offset\",\"line\":6,\"system\":\"G55\",\"tool\":1,\"lower\":38000000}"
-unfolding digits system_text first_fact block_fact cut_facts
+unfolding digits system_text first_fact cut_facts
 in_facts = refl
 
 -- one fixture, in G55: the first cut there is in line 6

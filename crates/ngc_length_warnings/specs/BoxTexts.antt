@@ -68,9 +68,13 @@ first_fact f =
     codes ",\n{\"fact\":\"warning\",\"text\":\"a fixture counts from a system in which the program cuts without a tool length offset\",\"count\":"
     ++ decimal (f.more + 1) ++ codes ",\"fixture\":" ++ decimal f.number
 
-unfoldable pub block_fact : List ℕ
-block_fact =
+abbrev pub fixture_fact : BareCut → FirstFixture → List ℕ
+fixture_fact cut f = first_fact f ++ cut_facts cut
+
+abbrev pub block_fact : BareCut → List ℕ
+block_fact cut =
     codes ",\n{\"fact\":\"warning\",\"text\":\"the block of material counts from a system in which the program cuts without a tool length offset\""
+    ++ cut_facts cut
 
 -- ---- the line of a cut
 
@@ -78,11 +82,11 @@ block_fact =
 abbrev pub fixture_line : Form → BareCut → Option FirstFixture → List ℕ
 fixture_line form cut None = []
 fixture_line Words cut (Some f) = fixture_words cut f
-fixture_line Json cut (Some f) = first_fact f ++ cut_facts cut
+fixture_line Json cut (Some f) = fixture_fact cut f
 
 abbrev pub block_line : Form → BareCut → List ℕ
 block_line Words cut = block_words cut
-block_line Json cut = block_fact ++ cut_facts cut
+block_line Json cut = block_fact cut
 
 abbrev pub cut_line : Form → Boxes → List Fixture → BareCut → List ℕ
 cut_line form Fixtures fs cut = fixture_line form cut (first_from cut.system 0 fs)

@@ -5,7 +5,7 @@ ghost use Rattle.ngc_sentences.specs.Saying.{Says};
 ghost use Rattle.ngc_report.specs.Words.{bracketed};
 ghost use Rattle.ngc_length_warnings.specs.BoxTexts.{block_fact, block_line, block_words, cut_facts};
 ghost use Rattle.ngc_length_warnings.specs.BoxTexts.{cut_line, cut_words, each_words, first_fact};
-ghost use Rattle.ngc_length_warnings.specs.BoxTexts.{first_words, fixture_line, fixture_words};
+ghost use Rattle.ngc_length_warnings.specs.BoxTexts.{first_words, fixture_fact, fixture_line, fixture_words};
 ghost use Rattle.ngc_length_warnings.specs.BoxTexts.{line_of, lower_words, more_words, number_words};
 
 use crate::boxes::first_from;
@@ -86,12 +86,7 @@ fn say_lower<W: Sink>(cut: &BareCut, each: &[u8], page: &mut Page, output: &mut 
     say!(page, output; b"If the part was touched off with tool ", Part::Number(u128::from(cut.tool)), b", ", Part::Text(each), b" is ", Part::Size(u128::from(cut.reach)), b" mm lower than it is tested: write its corners that much lower, in machine coordinates.\n");
 }
 
-fn say_fixture_words<W: Sink>(
-    cut: &BareCut,
-    first: &FirstFixture,
-    page: &mut Page,
-    output: &mut W,
-)
+fn say_fixture_words<W: Sink>(cut: &BareCut, first: &FirstFixture, page: &mut Page, output: &mut W)
     ensures { Says (W.written output.old) (W.written output.new)
         (W.failures output.old) (W.failures output.new) page.old page.new
         (fixture_words cut.now first.now) }
@@ -127,11 +122,21 @@ fn say_first_fact<W: Sink>(first: &FirstFixture, page: &mut Page, output: &mut W
     say!(page, output; b",\n{\"fact\":\"warning\",\"text\":\"a fixture counts from a system in which the program cuts without a tool length offset\",\"count\":", Part::Number(first.more as u128 + 1), b",\"fixture\":", Part::Number(first.number as u128));
 }
 
-#[tactic(auto, unfolding(crate::specs::BoxTexts::block_fact))]
-fn block_fact() -> &'static [u8]
-    ensures { result.now ≡ block_fact }
+fn say_fixture_fact<W: Sink>(cut: &BareCut, first: &FirstFixture, page: &mut Page, output: &mut W)
+    ensures { Says (W.written output.old) (W.written output.new)
+        (W.failures output.old) (W.failures output.new) page.old page.new
+        (fixture_fact cut.now first.now) }
 {
-    b",\n{\"fact\":\"warning\",\"text\":\"the block of material counts from a system in which the program cuts without a tool length offset\""
+    say_first_fact(first, page, output);
+    say_cut_facts(cut, page, output);
+}
+
+fn say_block_fact<W: Sink>(cut: &BareCut, page: &mut Page, output: &mut W)
+    ensures { Says (W.written output.old) (W.written output.new)
+        (W.failures output.old) (W.failures output.new) page.old page.new (block_fact cut.now) }
+{
+    say!(page, output; b",\n{\"fact\":\"warning\",\"text\":\"the block of material counts from a system in which the program cuts without a tool length offset\"");
+    say_cut_facts(cut, page, output);
 }
 
 fn say_fixture_line<W: Sink>(
@@ -148,10 +153,7 @@ fn say_fixture_line<W: Sink>(
     match (form, first) {
         (_, None) => {}
         (Form::Words, Some(first)) => say_fixture_words(cut, first, page, output),
-        (Form::Json, Some(first)) => {
-            say_first_fact(first, page, output);
-            say_cut_facts(cut, page, output);
-        }
+        (Form::Json, Some(first)) => say_fixture_fact(cut, first, page, output),
     }
 }
 
@@ -162,10 +164,7 @@ fn say_block_line<W: Sink>(form: Form, cut: &BareCut, page: &mut Page, output: &
 {
     match form {
         Form::Words => say_block_words(cut, page, output),
-        Form::Json => {
-            say!(page, output; Part::Text(block_fact()));
-            say_cut_facts(cut, page, output);
-        }
+        Form::Json => say_block_fact(cut, page, output),
     }
 }
 

@@ -599,7 +599,10 @@ fn fixture_facts(number: usize, fixture: &Fixture) -> [Line; 4]
     ensures { result ≡ fixture_facts number fixture.now }
 {
     let Fixture {
-        low, high, name, ..
+        low,
+        high,
+        name,
+        ..
     } = *fixture;
     [
         Line::Fixture(number, name),
