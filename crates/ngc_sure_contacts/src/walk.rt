@@ -1,0 +1,115 @@
+//! A walk over the commands of a program, as far as the last traverse that was found.
+ghost use Rattle.std.specs.Prelude.{◌≡◌, IfOk, OnOk, IfSome, IsTrue};
+ghost use Rattle.ngc_cells.specs.Grids.{IsGrid};
+ghost use Rattle.ngc_material.specs.Heights.{are_reached};
+ghost use Rattle.ngc_sure_contacts.specs.Contacts.{AreContacts, IsContactWith};
+ghost use Rattle.ngc_sure_contacts.specs.Maps.{IsBefore, IsUnder};
+ghost use Rattle.ngc_commands.specs.declared.reached.Reached.{Reached};
+
+use crate::contact::{Contact, FoundTraverse};
+use crate::ground::Ground;
+use ngc_commands::{Command, Reached};
+use ngc_file_figures::ToolLimits;
+use ngc_material::Found;
+use ngc_stock::Stock;
+use std::alloc::{AllocError, Allocator};
+
+// Follows the commands from a position up to the one before another. Returns that position, or the number of
+// commands if there are fewer.
+fn advance<A: Allocator + Copy>(
+    ground: &mut Ground<A>,
+    alloc: A,
+    commands: &[Command],
+    from: usize,
+    to: usize,
+) -> Result<usize, AllocError>
+    requires { IsTrue (are_reached commands.now) }
+    ensures stock { OnOk result (ground.new.stock ≡ ground.old.stock) }
+    ensures before { (start : Reached) → IsBefore ground.old.stock start commands.now from ground.old.reached ground.old.heights.items
+        → IfOk result (λ p. IsBefore ground.old.stock start commands.now p ground.new.reached ground.new.heights.items) }
+{
+    let mut position = from;
+    while position < to {
+        let Some(command) = commands.get(position) else {
+            return Ok(position);
+        };
+        ground.follow(alloc, &command.action)?;
+        position += 1;
+    }
+    Ok(position)
+}
+
+// Returns the contact of a traverse that was found, in the state before the command at a position.
+fn contact_of<A: Allocator + Copy>(
+    ground: &Ground<A>,
+    alloc: A,
+    table: &[ToolLimits],
+    commands: &[Command],
+    position: usize,
+    found: &Found,
+) -> Result<Option<Contact>, AllocError>
+    requires { IsTrue (are_reached commands.now) }
+    ensures contact { IfOk result (λ o. IfSome o (IsContactWith ground.now.stock (IsUnder ground.now.stock ground.now.heights.items)
+        table.now ground.now.reached.tool commands.now found.now)) }
+    ensures here { IfOk result (λ o. IfSome o (λ c. found.now.command ≡ position)) }
+{
+    if position != found.command {
+        return Ok(None);
+    }
+    match commands.get(position) {
+        Some(command) => ground.contact(alloc, table, &command.action, found.part),
+        None => Ok(None),
+    }
+}
+
+fn walk<A: Allocator + Copy>(
+    alloc: A,
+    stock: &Stock,
+    table: &[ToolLimits],
+    start: &Reached,
+    commands: &[Command],
+    found: &[Found],
+) -> Result<Vec<FoundTraverse, A>, AllocError>
+    requires grid { IsGrid stock.now.grid }
+    requires near { IsTrue (are_reached commands.now) }
+    ensures { IfOk result (λ v. AreContacts stock.now table.now start.now commands.now found.now v.items) }
+{
+    let mut traverses = Vec::with_capacity(alloc, found.len())?;
+    let mut ground = Ground::new(alloc, stock, start)?;
+    let mut position = 0;
+    for one in found {
+        position = advance(&mut ground, alloc, commands, position, one.command)?;
+        let contact = contact_of(&ground, alloc, table, commands, position, one)?;
+        traverses.push(FoundTraverse {
+            found: *one,
+            contact,
+        })?;
+    }
+    Ok(traverses)
+}
+
+/// Returns each traverse that was found, with where it surely goes through material: the deepest of the cells
+/// that show it, or `None` where that isn't known. `found` are traverses of a walk over `commands`, in order: the
+/// program's commands at a setting of block delete, from a state with the material uncut. Each motion before
+/// the traverse counts, a feed or a traverse, with all parts of its tool as cylinders; along an arc in the plane
+/// of X and Y all points within its outer radius, and along another arc everything. Without a found traverse no
+/// memory is taken.
+///
+/// It fails if memory is refused.
+pub fn find_contacts<A: Allocator + Copy>(
+    alloc: A,
+    stock: &Stock,
+    table: &[ToolLimits],
+    start: &Reached,
+    commands: &[Command],
+    found: &[Found],
+) -> Result<Vec<FoundTraverse, A>, AllocError>
+    requires grid { IsGrid stock.now.grid }
+    requires near { IsTrue (are_reached commands.now) }
+    ensures { IfOk result (λ v. AreContacts stock.now table.now start.now commands.now found.now v.items) }
+{
+    if found.is_empty() {
+        return Ok(Vec::new(alloc));
+    }
+    walk(alloc, stock, table, start, commands, found)
+}
