@@ -6,3 +6,5 @@ pub mod Sinking
 pub mod Seeing
 -- The state before each command, and the contacts of the traverses that were found.
 pub mod Walking
+-- The parts of a tool, one after another.
+pub mod Bodies

@@ -99,9 +99,9 @@ seen_end s t a b r level heights c size within er el found =
     (end_tip a.z b.z t.bottom)
 
 -- a peak is a cell that is seen
-pub peak_seen : (s : Stock) (heights : List ℕ) (t : Stretch) (r tip limit depth : ℕ) (p : Peak) (c : Contact) → length heights ≡ s.grid.columns * s.grid.rows → tip + 10000 ≤ limit →
+pub peak_seen : (s : Stock) (heights : List ℕ) (t : Stretch) (r tip limit : ℕ) (p : Peak) (c : Contact) → length heights ≡ s.grid.columns * s.grid.rows → tip + 10000 ≤ limit →
     IsPeak s.grid t r limit heights p → c.place ≡ centre s.grid p.cell → c.depth ≡ p.height - tip → IsSeen s heights t r tip c
-peak_seen s heights t r tip limit depth p c size far peak place deep = record {
+peak_seen s heights t r tip limit p c size far peak place deep = record {
   cell = p.cell;
   within = omega (arith, size, peak.found.cell);
   near = peak.found.near;

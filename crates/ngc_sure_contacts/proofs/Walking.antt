@@ -181,3 +181,7 @@ contact_in s table start commands (f ∷ fs) (x ∷ xs) zero t c h at has =
     (subst (λ (g : Found). IfSome t.contact (IsContact s table start commands g)) same
     (subst (λ (y : FoundTraverse). IfSome y.contact (IsContact s table start commands f)) e h.1))
 contact_in s table start commands (f ∷ fs) (x ∷ xs) (suc i) t c h at has = contact_in s table start commands fs xs i t c h.2 at has
+
+pub none_found : (s : Stock) (table : List ToolLimits) (start : Reached) (commands : List Command) (fs : List Found) → length fs ≡ 0 → AreContacts s table start commands fs []
+none_found s table start commands [] e = tt
+none_found s table start commands (f ∷ fs) e = absurd (omega (arith, e))

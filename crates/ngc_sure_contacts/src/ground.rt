@@ -90,10 +90,10 @@ impl<A: Allocator + Copy> Ground<A> {
         ensures swept { OnOk result (AreSwept self.old.stock (IsSweptIn self.old.reached.tool action.now) self.old.heights.items self.new.heights.items) }
     {
         self.sweep_action(action);
-        self.reached = self.reached.after(action);
         if let Action::Mount(tool) = action {
             self.body = body_in(alloc, tool)?;
         }
+        self.reached = self.reached.after(action);
         Ok(())
     }
 

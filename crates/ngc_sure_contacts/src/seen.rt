@@ -74,12 +74,7 @@ fn piece_level(stock: &Stock, cylinder: &Cylinder, line: &Line, part: u32) -> u3
     level_of(stock, line.highest_tip(cylinder, part))
 }
 
-fn end_contact(
-    stock: &Stock,
-    heights: &[u32],
-    cylinder: &Cylinder,
-    line: &Line,
-) -> Option<Contact>
+fn end_contact(stock: &Stock, heights: &[u32], cylinder: &Cylinder, line: &Line) -> Option<Contact>
     requires heights { AreHeights stock.now heights.now }
     requires within { AreWithin stock.now heights.now }
     requires end { IsTrue (is_reached line.now.end) }
@@ -116,12 +111,7 @@ fn piece_contact(
 }
 
 // Returns where a cylinder goes through material deepest along a line, as the heights show it.
-fn line_contact(
-    stock: &Stock,
-    heights: &[u32],
-    cylinder: &Cylinder,
-    line: &Line,
-) -> Option<Contact>
+fn line_contact(stock: &Stock, heights: &[u32], cylinder: &Cylinder, line: &Line) -> Option<Contact>
     requires heights { AreHeights stock.now heights.now }
     requires within { AreWithin stock.now heights.now }
     requires start { IsTrue (is_reached line.now.start) }

@@ -1,5 +1,5 @@
 //! A walk over the commands of a program, as far as the last traverse that was found.
-ghost use Rattle.std.specs.Prelude.{◌≡◌, IfOk, OnOk, IfSome, IsTrue};
+ghost use Rattle.std.specs.Prelude.{◌≡◌, IfOk, OnOk, IfSome, IsTrue, slice_get};
 ghost use Rattle.ngc_cells.specs.Grids.{IsGrid};
 ghost use Rattle.ngc_material.specs.Heights.{are_reached};
 ghost use Rattle.ngc_sure_contacts.specs.Contacts.{AreContacts, IsContactWith};
@@ -13,6 +13,15 @@ use ngc_file_figures::ToolLimits;
 use ngc_material::Found;
 use ngc_stock::Stock;
 use std::alloc::{AllocError, Allocator};
+
+fn command_at(commands: &[Command], index: usize) -> Option<Command>
+    ensures { result ≡ slice_get commands.now index }
+{
+    match commands.get(index) {
+        Some(command) => Some(*command),
+        None => None,
+    }
+}
 
 // Follows the commands from a position up to the one before another. Returns that position, or the number of
 // commands if there are fewer.
@@ -30,7 +39,7 @@ fn advance<A: Allocator + Copy>(
 {
     let mut position = from;
     while position < to {
-        let Some(command) = commands.get(position) else {
+        let Some(command) = command_at(commands, position) else {
             return Ok(position);
         };
         ground.follow(alloc, &command.action)?;
@@ -56,7 +65,7 @@ fn contact_of<A: Allocator + Copy>(
     if position != found.command {
         return Ok(None);
     }
-    match commands.get(position) {
+    match command_at(commands, position) {
         Some(command) => ground.contact(alloc, table, &command.action, found.part),
         None => Ok(None),
     }
@@ -78,7 +87,8 @@ fn walk<A: Allocator + Copy>(
     let mut ground = Ground::new(alloc, stock, start)?;
     let mut position = 0;
     for one in found {
-        position = advance(&mut ground, alloc, commands, position, one.command)?;
+        let next = advance(&mut ground, alloc, commands, position, one.command)?;
+        position = next;
         let contact = contact_of(&ground, alloc, table, commands, position, one)?;
         traverses.push(FoundTraverse {
             found: *one,
