@@ -3,7 +3,7 @@
 import { CONTROLS } from './controls.js';
 import { keptOf } from './facts.js';
 import { AXES } from './systems.js';
-import { atLeast, duration, atLeast, enough, length, plural } from './units.js';
+import { atLeast, duration, enough, length, plural } from './units.js';
 
 const FREE_RAPIDS = ' Rapids may take any way within the box of their ends.';
 const direction = (axis, isPlus) => `${AXES[axis]}${isPlus ? '+' : '\u2212'}`;
