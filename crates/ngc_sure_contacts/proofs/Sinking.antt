@@ -126,26 +126,30 @@ swept_line s t a b n old new grid size all sunk = record {
 }
 
 -- a foot that is nowhere below the stock's top
-pub above_line : (s : Stock) (t : Cylinder) (a b : Point3) (heights : List ℕ) → s.height ≤ level_of s (lower_tip t a b) → AreSwept s (IsCutBy t a b) heights heights
-above_line s t a b heights high = record {
+pub above_line : (s : Stock) (t : Cylinder) (a b : Point3) (heights : List ℕ) (level : ℕ) → level ≡ level_of s (lower_tip t a b) → s.height ≤ level → AreSwept s (IsCutBy t a b) heights heights
+above_line s t a b heights level el high = record {
   count = refl;
   kept = λ k less. omega arith;
   each = λ q u cut.
       let least = lower_than t cut.n cut.k a b q.z cut.some cut.within cut.low in
-      let below = level_under s (lower_tip t a b) q.z s.height u.bottom u.top high in
+      let below = level_under s (lower_tip t a b) q.z s.height u.bottom u.top (subst (λ (l : ℕ). s.height ≤ l) el high) in
       omega (arith, ints, below, least);
 }
 
 -- ---- an arc
 
-pub above_arc : (s : Stock) (t : Cylinder) (a : ArcShape) (heights : List ℕ) → s.height ≤ level_of s (lower_tip t a.start a.end) → AreSwept s (IsSweptAlong t a) heights heights
-above_arc s t a heights high = record {
+above_arc_at : (s : Stock) (t : Cylinder) (a : ArcShape) (heights : List ℕ) → s.height ≤ level_of s (lower_tip t a.start a.end) → AreSwept s (IsSweptAlong t a) heights heights
+above_arc_at s t a heights high = record {
   count = refl;
   kept = λ k less. omega arith;
   each = λ q u along.
       let below = level_under s (lower_tip t a.start a.end) q.z s.height u.bottom u.top high in
       omega (arith, ints, below, along.low);
 }
+
+pub above_arc : (s : Stock) (t : Cylinder) (a : ArcShape) (p q : Point3) (heights : List ℕ) (level : ℕ) → p ≡ a.start → q ≡ a.end → level ≡ level_of s (lower_tip t p q) → s.height ≤ level →
+    AreSwept s (IsSweptAlong t a) heights heights
+above_arc s t a p q heights level ep eq el high = above_arc_at s t a heights (rw (← ep, ← eq) (subst (λ (l : ℕ). s.height ≤ l) el high))
 
 joined : (x d : ℤ) → (x -ℤ d) +ℤ d ≡ x
 joined x d = omega (arith, ints)
@@ -171,10 +175,10 @@ round_reach t a c q ex ey h =
     subst (λ (z : ℤ). (square z +ℤ square (ahead n 0 c.y c.y q.y)) ≤ℤ pos ((n * (radius t + outer_radius a)) * (n * (radius t + outer_radius a)))) (sym fx)
     (subst (λ (z : ℤ). (square x +ℤ square z) ≤ℤ pos ((n * (radius t + outer_radius a)) * (n * (radius t + outer_radius a)))) (sym fy) all)
 
-pub swept_round : (s : Stock) (t : Cylinder) (a : ArcShape) (c : Spot) (r level : ℕ) (old new : List ℕ) → IsGrid s.grid → length old ≡ s.grid.columns * s.grid.rows →
+swept_round_at : (s : Stock) (t : Cylinder) (a : ArcShape) (c : Spot) (r level : ℕ) (old new : List ℕ) → IsGrid s.grid → length old ≡ s.grid.columns * s.grid.rows →
     c.x ≡ a.centre.u → c.y ≡ a.centre.v → r ≡ (radius t + kappa s.grid) + outer_radius a → level ≡ level_of s (lower_tip t a.start a.end) →
     AreSunk s.grid (record { start = c; end = c; parts = 1; part = 0 }) r level old new → AreSwept s (IsSweptAlong t a) old new
-swept_round s t a c r level old new grid size ex ey er el sunk = record {
+swept_round_at s t a c r level old new grid size ex ey er el sunk = record {
   count = sunk.count;
   kept = sunk.kept;
   each = λ q u along.
@@ -188,6 +192,12 @@ swept_round s t a c r level old new grid size ex ey er el sunk = record {
       let below = level_under s (lower_tip t a.start a.end) q.z (slice_index new u.cell) u.bottom u.below most in
       omega (arith, ints, below, along.low);
 }
+
+pub swept_round : (s : Stock) (t : Cylinder) (a : ArcShape) (p q : Point3) (x y : ℤ) (r level : ℕ) (old new : List ℕ) → IsGrid s.grid → length old ≡ s.grid.columns * s.grid.rows →
+    p ≡ a.start → q ≡ a.end → x ≡ a.centre.u → y ≡ a.centre.v → r ≡ (radius t + kappa s.grid) + outer_radius a → level ≡ level_of s (lower_tip t p q) →
+    AreSunk s.grid (record { start = spot x y; end = spot x y; parts = 1; part = 0 }) r level old new → AreSwept s (IsSweptAlong t a) old new
+swept_round s t a p q x y r level old new grid size ep eq ex ey er el sunk =
+    swept_round_at s t a (spot x y) r level old new grid size ex ey er (rw (← ep, ← eq) el) sunk
 
 -- an arc in the plane of X and Y
 pub swept_arc : (s : Stock) (t : Cylinder) (a : ArcShape) (old new : List ℕ) → a.plane ≡ XY → AreSwept s (IsSweptAlong t a) old new → AreSwept s (IsSweptByArc t a) old new

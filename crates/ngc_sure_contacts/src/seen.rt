@@ -39,6 +39,7 @@ fn deeper(first: Option<Contact>, second: Option<Contact>) -> Option<Contact>
 }
 
 // Returns a highest cell of those that a probe finds, or `None` if no foot is 0.01 mm deep in any.
+#[tactic(auto, using(crate::proofs::Seeing::peak_seen))]
 fn contact_at(stock: &Stock, heights: &[u32], probe: &Probe) -> Option<Contact>
     requires heights { AreHeights stock.now heights.now }
     requires stretch { IsStretch probe.now.stretch }

@@ -18,6 +18,7 @@ pub(crate) fn clear(heights: &mut [u32])
 
 /// Lowers the cells whose centres are at most `radius` from a stretch, to a level at most. No cell is
 /// raised. If the radius is more than a metre, all cells are lowered to 0.
+#[tactic(auto, using(crate::proofs::Sinking::sunk_of, crate::proofs::Sinking::sunk_cleared))]
 pub(crate) fn sink(grid: &Grid, heights: &mut [u32], stretch: &Stretch, radius: u64, level: u32)
     requires grid { IsGrid grid.now }
     requires count { length heights.old ≡ grid.now.columns * grid.now.rows }

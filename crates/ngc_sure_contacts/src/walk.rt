@@ -106,6 +106,7 @@ fn walk<A: Allocator + Copy>(
 /// memory is taken.
 ///
 /// It fails if memory is refused.
+#[tactic(auto, using(crate::proofs::Walking::none_found))]
 pub fn find_contacts<A: Allocator + Copy>(
     alloc: A,
     stock: &Stock,
