@@ -3,9 +3,8 @@ ghost use Rattle.std.specs.Prelude.{◌≡◌};
 ghost use Rattle.ngc_material.specs.Heights.{AreHeights, AreWithin};
 ghost use Rattle.ngc_sure_contacts.specs.Swept.{body_in};
 
-use crate::body::body_in;
+use crate::body::{body_in, inside};
 use crate::contact::Contact;
-use crate::discs::discs_of;
 use crate::line::Line;
 use crate::seen::deepest_contact;
 use crate::sweep::sweep;
@@ -97,27 +96,6 @@ impl<A: Allocator + Copy> Ground<A> {
         Ok(())
     }
 
-    // Returns cylinders that are inside a part of a tool: the discs of its cutter, or the part itself.
-    fn inside(
-        &self,
-        alloc: A,
-        table: &[ToolLimits],
-        tool: &Tool,
-        part: usize,
-    ) -> Result<Vec<Cylinder, A>, AllocError>
-        ensures { IfOk result (λ v. v.items ≡ inside table.now tool.now part) }
-    {
-        if part == 0 {
-            return discs_of(alloc, table, tool);
-        }
-        let body = body_in(alloc, &Some(*tool))?;
-        let mut one = Vec::new(alloc);
-        if let Some(cylinder) = body.as_slice().get(part) {
-            one.push(*cylinder)?;
-        }
-        Ok(one)
-    }
-
     fn traverse_contact(
         &self,
         alloc: A,
@@ -133,7 +111,7 @@ impl<A: Allocator + Copy> Ground<A> {
         match (motion.pace, &motion.way) {
             (Pace::Rapid, Way::Line { start, end }) => {
                 let (start, end) = (*start, *end);
-                let cylinders = self.inside(alloc, table, tool, part)?;
+                let cylinders = inside(alloc, table, tool, part)?;
                 Ok(deepest_contact(
                     &self.stock,
                     self.heights.as_slice(),

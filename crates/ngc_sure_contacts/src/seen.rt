@@ -101,6 +101,7 @@ fn piece_contact(
     requires start { IsTrue (is_reached line.now.start) }
     requires end { IsTrue (is_reached line.now.end) }
     requires part { part < pieces line.now.start line.now.end }
+    requires few { pieces line.now.start line.now.end ≤ 1000 }
     ensures { IfSome result (IsThrough stock.now (IsUnder stock.now heights.now) cylinder.now line.now.start line.now.end) }
 {
     let probe = Probe {
