@@ -41,7 +41,7 @@ pub record IsThrough (s : Stock) (There : Point3 → Type 0) (t : Cylinder) (a b
   pub some : 0 < n
   pub within : k ≤ n
   pub over : IsAround n k (flat a) (flat b) (radius t) c.place
-  pub there : (z : ℤ) → s.bottom ≤ℤ z → z <ℤ height → There (at_place c.place z)
+  pub whole : (z : ℤ) → s.bottom ≤ℤ z → z <ℤ height → There (at_place c.place z)
   pub least : LEAST_DEPTH ≤ c.depth
   pub high : (s.bottom +ℤ pos c.depth) ≤ℤ height
   pub deep : (tip t n k a b +ℤ pos (n * c.depth)) ≤ℤ (pos n *ℤ height)
