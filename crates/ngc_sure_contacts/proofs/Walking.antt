@@ -24,7 +24,7 @@ use Rattle.ngc_material.specs.Heights.{is_action_reached, are_reached}
 use Rattle.ngc_material.specs.declared.walk.Found.{Found}
 use Rattle.ngc_sure_contacts.specs.declared.contact.Contact.{Contact}
 use Rattle.ngc_sure_contacts.specs.declared.contact.FoundTraverse.{FoundTraverse}
-use Rattle.ngc_sure_contacts.specs.Contacts.{IsThrough, IsThroughByAny, IsThroughOn, IsThroughIn, IsContactWith, IsContact, AreContacts, inside}
+use Rattle.ngc_sure_contacts.specs.Contacts.{IsThrough, IsThroughByAny, IsThroughOn, IsThroughIn, IsContactWith, IsContact, AreContacts, at_place, inside}
 use Rattle.ngc_sure_contacts.specs.Maps.{IsBefore, IsUnder, AreSwept}
 use Rattle.ngc_sure_contacts.specs.Swept.{IsSweptIn, IsSweptInAny, IsUnswept}
 use Rattle.ngc_sure_contacts.proofs.Sinking.{under_before}
@@ -89,7 +89,7 @@ through_as s There Also t a b c f h = record {
   some = h.some;
   within = h.within;
   over = h.over;
-  whole = λ z low below. f _ (h.whole z low below);
+  whole = λ z low below. f (at_place c.place z) (h.whole z low below);
   least = h.least;
   high = h.high;
   deep = h.deep;
