@@ -185,3 +185,7 @@ contact_in s table start commands (f ∷ fs) (x ∷ xs) (suc i) t c h at has = c
 pub none_found : (s : Stock) (table : List ToolLimits) (start : Reached) (commands : List Command) (fs : List Found) → length fs ≡ 0 → AreContacts s table start commands fs []
 none_found s table start commands [] e = tt
 none_found s table start commands (f ∷ fs) e = absurd (omega (arith, e))
+
+pub no_contacts : (s : Stock) (table : List ToolLimits) (start : Reached) (commands : List Command) (fs : List Found) (ts : List FoundTraverse) → ts ≡ [] →
+    AreContacts s table start commands (take 0 fs) ts
+no_contacts s table start commands fs ts e = subst (λ (xs : List FoundTraverse). AreContacts s table start commands [] xs) (sym e) tt

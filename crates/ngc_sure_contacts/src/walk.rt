@@ -1,10 +1,9 @@
 //! A walk over the commands of a program, as far as the last traverse that was found.
-ghost use Rattle.std.specs.Prelude.{◌≡◌, IfOk, OnOk, IfSome, IsTrue, slice_get};
+ghost use Rattle.std.specs.Prelude.{◌≡◌, IfOk, IfSome, IsTrue, slice_get};
 ghost use Rattle.ngc_cells.specs.Grids.{IsGrid};
 ghost use Rattle.ngc_material.specs.Heights.{are_reached};
 ghost use Rattle.ngc_sure_contacts.specs.Contacts.{AreContacts, IsContactWith};
-ghost use Rattle.ngc_sure_contacts.specs.Maps.{IsBefore, IsUnder};
-ghost use Rattle.ngc_commands.specs.declared.reached.Reached.{Reached};
+ghost use Rattle.ngc_sure_contacts.specs.Maps.{IsUnder};
 
 use crate::contact::{Contact, FoundTraverse};
 use crate::ground::Ground;
@@ -23,29 +22,35 @@ fn command_at(commands: &[Command], index: usize) -> Option<Command>
     }
 }
 
-// Follows the commands from a position up to the one before another. Returns that position, or the number of
-// commands if there are fewer.
-fn advance<A: Allocator + Copy>(
-    ground: &mut Ground<A>,
-    alloc: A,
-    commands: &[Command],
-    from: usize,
-    to: usize,
-) -> Result<usize, AllocError>
-    requires { IsTrue (are_reached commands.now) }
-    ensures stock { OnOk result (ground.new.stock ≡ ground.old.stock) }
-    ensures before { (start : Reached) → IsBefore ground.old.stock start commands.now from ground.old.reached ground.old.heights.items
-        → IfOk result (λ p. IsBefore ground.old.stock start commands.now p ground.new.reached ground.new.heights.items) }
-{
-    let mut position = from;
-    while position < to {
-        let Some(command) = command_at(commands, position) else {
-            return Ok(position);
-        };
-        ground.follow(alloc, &command.action)?;
-        position += 1;
+/// The state before a command, and the command's index.
+#[derive(Drop)]
+struct Walk<A: Allocator> {
+    ground: Ground<A>,
+    position: usize,
+}
+
+impl<A: Allocator + Copy> Walk<A> {
+    ghost use Rattle.std.specs.Prelude.{◌≡◌, OnOk, IsTrue};
+    ghost use Rattle.ngc_commands.specs.declared.reached.Reached.{Reached};
+    ghost use Rattle.ngc_material.specs.Heights.{are_reached};
+    ghost use Rattle.ngc_sure_contacts.specs.Maps.{IsBefore};
+
+    // Follows the commands up to the one before an index, or all if there are fewer.
+    fn advance(&mut self, alloc: A, commands: &[Command], to: usize) -> Result<(), AllocError>
+        requires { IsTrue (are_reached commands.now) }
+        ensures stock { OnOk result (self.new.ground.stock ≡ self.old.ground.stock) }
+        ensures before { (start : Reached) → IsBefore self.old.ground.stock start commands.now self.old.position self.old.ground.reached self.old.ground.heights.items
+            → OnOk result (IsBefore self.old.ground.stock start commands.now self.new.position self.new.ground.reached self.new.ground.heights.items) }
+    {
+        while self.position < to {
+            let Some(command) = command_at(commands, self.position) else {
+                return Ok(());
+            };
+            self.ground.follow(alloc, &command.action)?;
+            self.position += 1;
+        }
+        Ok(())
     }
-    Ok(position)
 }
 
 // Returns the contact of a traverse that was found, in the state before the command at a position.
@@ -71,7 +76,7 @@ fn contact_of<A: Allocator + Copy>(
     }
 }
 
-fn walk<A: Allocator + Copy>(
+fn contacts_of<A: Allocator + Copy>(
     alloc: A,
     stock: &Stock,
     table: &[ToolLimits],
@@ -83,13 +88,15 @@ fn walk<A: Allocator + Copy>(
     requires near { IsTrue (are_reached commands.now) }
     ensures { IfOk result (λ v. AreContacts stock.now table.now start.now commands.now found.now v.items) }
 {
-    let mut traverses = Vec::with_capacity(alloc, found.len())?;
-    let mut ground = Ground::new(alloc, stock, start)?;
-    let mut position = 0;
+    let mut traverses = Vec::new(alloc);
+    let ground = Ground::new(alloc, stock, start)?;
+    let mut walk = Walk {
+        ground,
+        position: 0,
+    };
     for one in found {
-        let next = advance(&mut ground, alloc, commands, position, one.command)?;
-        position = next;
-        let contact = contact_of(&ground, alloc, table, commands, position, one)?;
+        walk.advance(alloc, commands, one.command)?;
+        let contact = contact_of(&walk.ground, alloc, table, commands, walk.position, one)?;
         traverses.push(FoundTraverse {
             found: *one,
             contact,
@@ -122,5 +129,5 @@ pub fn find_contacts<A: Allocator + Copy>(
     if found.is_empty() {
         return Ok(Vec::new(alloc));
     }
-    walk(alloc, stock, table, start, commands, found)
+    contacts_of(alloc, stock, table, start, commands, found)
 }
