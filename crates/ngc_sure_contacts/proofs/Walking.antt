@@ -1,6 +1,6 @@
 -- The state before each command, and the contacts of the traverses that were found.
 use Rattle.std.proofs.Common.{◌≡◌, ℕ, zero, suc, ◌+◌, ◌*◌, ◌<◌, ◌≤◌, ◌⊎◌, inl, inr, refl, sym, ◌∙◌, ap, subst, arith, List, [], ◌∷◌, ◌++◌, length, take, get_or, Option, Some, None, Bool, true, false, ◌&&◌}
-use Rattle.std.specs.Prelude.{slice_get, slice_index, IfSome}
+use Rattle.std.specs.Prelude.{slice_get, slice_index, IfOk, IfSome, Result, Ok, Err}
 use Rattle.std.proofs.lemmas.List.{get_or-replicate, length-replicate, take_more, take_all}
 use Rattle.std.proofs.lemmas.Option.{same_Some}
 use Rattle.std.proofs.lemmas.Bool.{false≢true}
@@ -189,3 +189,25 @@ none_found s table start commands (f ∷ fs) e = absurd (omega (arith, e))
 pub no_contacts : (s : Stock) (table : List ToolLimits) (start : Reached) (commands : List Command) (fs : List Found) (ts : List FoundTraverse) → ts ≡ [] →
     AreContacts s table start commands (take 0 fs) ts
 no_contacts s table start commands fs ts e = subst (λ (xs : List FoundTraverse). AreContacts s table start commands [] xs) (sym e) tt
+
+-- ---- the command of a traverse
+
+with_command : (s : Stock) (There : Point3 → Type 0) (table : List ToolLimits) (tool : Option Tool) (commands : List Command) (f : Found) (command : Command) (o : Option Contact) →
+    slice_get commands f.command ≡ Some command → IfSome o (IsThroughIn s There table tool command.action f.part) → IfSome o (IsContactWith s There table tool commands f)
+with_command s There table tool commands f command None at h = h
+with_command s There table tool commands f command (Some c) at h = record { command = command; at = at; through = h }
+
+pub contact_ok : {E : Type 0} (s : Stock) (There : Point3 → Type 0) (table : List ToolLimits) (tool : Option Tool) (commands : List Command) (f : Found) (p : ℕ) (command : Command)
+    (r : Result (Option Contact) E) → p ≡ f.command → Some command ≡ slice_get commands p → IfOk r (λ o. IfSome o (IsThroughIn s There table tool command.action f.part)) →
+    IfOk r (λ o. IfSome o (IsContactWith s There table tool commands f))
+contact_ok s There table tool commands f p command (Ok o) e at h =
+    with_command s There table tool commands f command o (subst (λ (n : ℕ). slice_get commands n ≡ Some command) e (sym at)) h
+contact_ok s There table tool commands f p command (Err x) e at h = h
+
+here : (f : Found) (p : ℕ) (o : Option Contact) → p ≡ f.command → IfSome o (λ c. f.command ≡ p)
+here f p None e = tt
+here f p (Some c) e = sym e
+
+pub contact_here : {E : Type 0} (f : Found) (p : ℕ) (r : Result (Option Contact) E) → p ≡ f.command → IfOk r (λ o. IfSome o (λ c. f.command ≡ p))
+contact_here f p (Ok o) e = here f p o e
+contact_here f p (Err x) e = tt

@@ -13,6 +13,7 @@ use ngc_material::Found;
 use ngc_stock::Stock;
 use std::alloc::{AllocError, Allocator};
 
+// Returns the command with an index, if there is one.
 fn command_at(commands: &[Command], index: usize) -> Option<Command>
     ensures { result ≡ slice_get commands.now index }
 {
@@ -54,6 +55,7 @@ impl<A: Allocator + Copy> Walk<A> {
 }
 
 // Returns the contact of a traverse that was found, in the state before the command at a position.
+#[tactic(auto, using(crate::proofs::Walking::contact_ok, crate::proofs::Walking::contact_here, crate::proofs::Walking::reached_at))]
 fn contact_of<A: Allocator + Copy>(
     ground: &Ground<A>,
     alloc: A,
