@@ -5,6 +5,7 @@ The calls go through the page's own worker, with every option that the page has.
 import base64
 import json
 import random
+import re
 import subprocess
 
 from browsers import Fault
@@ -86,8 +87,8 @@ class Comparison:
         for name, kind in called.items():
             written = kind.encode() + written[len(name):] if written.startswith(f"{name}:".encode()) else written
             written = written.replace(f'"fact":"reason","text":"{name}:'.encode(), f'"fact":"reason","text":"{kind}:'.encode())
-        # Only the program, which opens the files, has a line on which of them 901 is about.
-        said = b"ngc: fault 901\n" if made.stderr.startswith(b"ngc: fault 901\n") else made.stderr
+        # Only the program has the second line of a fault of the command line, and of 901.
+        said = re.sub(rb"(?m)^(ngc: fault (?:72[1-8]|730|901)\n)ngc: .*\n", rb"\1", made.stderr)
         theirs = (made.returncode, written, said[:1 << 16])
         kind = (words[0], made.returncode)
         self.seen[kind] = self.seen.get(kind, 0) + 1

@@ -3,10 +3,12 @@
 #![tactic(auto)]
 
 mod host;
+mod meaning;
 mod output;
 mod outputs;
 
 use crate::host::HostFiles;
+use crate::meaning::meaning_of;
 use crate::output::Output;
 use crate::outputs::HostOutputs;
 use ngc_job_calls::{CallFault, JobCall, with_job};
@@ -48,9 +50,22 @@ fn tell(rt: &HostRuntime, text: &[u8]) {
     let _ = write_all(&mut Device::new(rt.stderr()), text);
 }
 
-// Prints a fault's line, and below 901 the name of the file.
+// Prints what is wrong, in one line.
+fn tell_meaning(rt: &HostRuntime, meaning: &str) {
+    tell(rt, b"ngc:");
+    for line in meaning.lines() {
+        tell(rt, b" ");
+        tell(rt, line.as_bytes());
+    }
+    tell(rt, b"\n");
+}
+
+// Prints a fault's line. Below it is what is wrong with the command line, or for 901 the name of the file.
 fn tell_fault(rt: &HostRuntime, line: &[u8], file: &str) {
     tell(rt, line);
+    if let Some(meaning) = meaning_of(line) {
+        tell_meaning(rt, meaning.trim_end());
+    }
     if line == b"ngc: fault 901\n".as_slice() && !file.is_empty() {
         tell(rt, b"ngc: ");
         tell(rt, file.as_bytes());
@@ -64,11 +79,25 @@ fn refuse(rt: &HostRuntime, fault: &CallFault, files: &HostFiles<'_>) -> u8 {
     fault.status()
 }
 
-// Executes the command with these options, and returns the status.
+// Returns whether a fault of this command is one line alone.
+fn is_one_line(options: &Options<'_>) -> bool {
+    matches!(
+        options,
+        Options::List(_)
+            | Options::Certify(_)
+            | Options::Check(_)
+            | Options::Run(_)
+            | Options::RunThrough(_)
+    )
+}
+
+// Executes the command with these options, and returns the status. With a job file a fault may have more
+// than one line.
 fn answer_options(
     rt: &HostRuntime,
     options: &Options<'_>,
     out: Option<&str>,
+    has_job: bool,
 ) -> Result<u8, UsageFault> {
     let is_wide = Cell::new(false);
     let mut files = SavedFiles::new(HostFiles::new(rt), options, &is_wide);
@@ -88,8 +117,10 @@ fn answer_options(
         &mut told,
     );
     note_wide(is_wide.get(), status, &mut told);
+    let names_file = has_job || !is_one_line(options);
+    let file = if names_file { files.inner.asked() } else { "" };
     if !output.is_closed() {
-        tell_fault(rt, told.into_inner().as_slice(), files.inner.asked());
+        tell_fault(rt, told.into_inner().as_slice(), file);
     }
     Ok(status)
 }
@@ -99,7 +130,7 @@ fn answer_job(rt: &HostRuntime, job: &JobCall<'_>, out: Option<&str>) -> Result<
     let words = job.all_words(rt.alloc()).map_err(|_| UsageFault::Memory)?;
     tell(rt, job.note.as_slice());
     let options = read_options(rt.alloc(), words.as_slice())?;
-    answer_options(rt, &options, out)
+    answer_options(rt, &options, out, !job.note.as_slice().is_empty())
 }
 
 fn answer_call(rt: &HostRuntime, call: &CallWords<'_>) -> Result<u8, UsageFault> {

@@ -25,6 +25,7 @@ in_machine origins f = record {
   low = plus f.place.low (origin_of origins f.place.system);
   high = plus f.place.high (origin_of origins f.place.system);
   name = f.name;
+  system = f.place.system;
 }
 
 abbrev pub stock_or : Option StockBox → Option StockBox → Option StockBox

@@ -56,6 +56,7 @@ fn in_machine(origins: &[Point3; 9], added: &AddedFixture) -> Fixture
         low: moved(&added.place.low, &origin),
         high: moved(&added.place.high, &origin),
         name: added.name,
+        system: added.place.system,
     }
 }
 

@@ -1,3 +1,4 @@
+//! Heights of holes, and sums and products of lengths in nanometres.
 ghost use Rattle.std.specs.Prelude.{◌≡◌, ◌≤◌, ◌+◌, int_lt, pos, ◌*ℤ◌, unsigned_abs};
 ghost use Rattle.ngc_fixed_length.specs.Limits.{IsLength};
 ghost use Rattle.ngc_fixed_length.specs.Signed.{greater, same};
@@ -9,41 +10,45 @@ ghost use Rattle.ngc_canned_cycles.specs.Heights.{site_of, AreLengths};
 use crate::cycle::{Cycle, Site, Start};
 use ngc_fixed_length::{Distance, Nm, Point2, RetractMode};
 
-pub(crate) fn length(nanometres: i128) -> Nm
+/// Returns a number of nanometres as a length.
+pub fn length(nanometres: i128) -> Nm
     requires { IsLength nanometres }
     ensures { result ≡ nanometres }
 {
     Nm::from_nanometres(nanometres).unwrap()
 }
 
-pub(crate) fn is_below(a: Nm, b: Nm) -> bool
+/// Returns whether a length is less than another one.
+pub fn is_below(a: Nm, b: Nm) -> bool
     ensures { result ≡ int_lt a b }
 {
     a.nanometres() < b.nanometres()
 }
 
-pub(crate) fn is_same(a: Nm, b: Nm) -> bool
+/// Returns whether two lengths are the same.
+pub fn is_same(a: Nm, b: Nm) -> bool
     ensures { result ≡ same a b }
 {
     a.nanometres() == b.nanometres()
 }
 
-pub(crate) fn higher(a: Nm, b: Nm) -> Nm
+/// Returns the greater of two lengths.
+pub fn higher(a: Nm, b: Nm) -> Nm
     ensures { result ≡ greater a b }
 {
     if is_below(a, b) { b } else { a }
 }
 
 /// Returns `count` times a length, in nanometres.
-pub(crate) fn times(count: u64, length: Nm) -> i128
+pub fn times(count: u64, length: Nm) -> i128
     ensures value { result ≡ pos count *ℤ length }
     ensures bound { unsigned_abs result ≤ 2000000000000000000000000000000 }
 {
     i128::from(count) * i128::from(length.nanometres())
 }
 
-// Returns a length unchanged in G90, or added to the height `base` in G91.
-fn relative(distance: Distance, base: i128, length: Nm) -> i128
+/// Returns a height in nanometres: a length unchanged in G90, or added to the height `base` in G91.
+pub fn relative(distance: Distance, base: i128, length: Nm) -> i128
     requires { unsigned_abs base ≤ 200000000000 }
     ensures value { result ≡ relative_to distance base length }
     ensures bound { unsigned_abs result ≤ unsigned_abs base + 100000000000 }

@@ -3,7 +3,7 @@
 
 mod cycle;
 mod fault;
-mod heights;
+pub mod heights;
 mod holes;
 mod moves;
 mod refusals;

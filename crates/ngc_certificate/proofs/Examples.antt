@@ -36,7 +36,7 @@ abbrev line : ℕ → GridBox → Piece
 line t b = record { end = Part t; bounds = b }
 
 abbrev with_fixture : Point3 → Point3 → MachineFile
-with_fixture low high = record built_in_machine { fixtures = record { low = low; high = high; name = [] } ∷ [] }
+with_fixture low high = record built_in_machine { fixtures = record { low = low; high = high; name = []; system = 0 } ∷ [] }
 
 -- from zero, along X to x
 abbrev along_x : ℤ → Way

@@ -111,3 +111,11 @@ dividend_within p n small less = omega (arith, ints)
 
 pub divisor_kept : (n : ℕ) → n ≤ 80000000000000000000000 → to_z w128 (of_z w128 (pos 2 *ℤ to_z w128 n)) ≡ pos (2 * n)
 divisor_kept n less = omega (arith, ints)
+
+-- ---- differences of squares
+
+pub difference_kept : (m n : ℕ) → m ≤ 8 * 10 ^ 22 → n ≤ 8 * 10 ^ 22 → to_z w128 (of_z w128 (to_z w128 m -ℤ to_z w128 n)) ≡ pos m -ℤ pos n
+difference_kept m n less small = omega (arith, ints)
+
+pub difference_within : (m n : ℕ) → m ≤ 8 * 10 ^ 22 → n ≤ 8 * 10 ^ 22 → unsigned_abs (pos m -ℤ pos n) ≤ 8 * 10 ^ 22
+difference_within m n less small = omega (arith, ints)

@@ -131,6 +131,17 @@ ranged_some least s some h =
 ranged_limit : (least s : ℕ) → is_in_range least s ≡ true → s ≤ SQUARE_LIMIT
 ranged_limit least s h = leb-true s SQUARE_LIMIT (and_right _ _ h)
 
+-- the squares at a centre that is in range
+pub start_limit : (least : ℕ) (end given centre : Point2) → in_range least end given ≡ Ok centre → start_square centre ≤ SQUARE_LIMIT
+start_limit least end given centre h =
+    let r = ranged least end given centre h in
+    subst (λ c. start_square c ≤ SQUARE_LIMIT) r.is (ranged_limit least (start_square given) r.at_start)
+
+pub end_limit : (least : ℕ) (end given centre : Point2) → in_range least end given ≡ Ok centre → end_square end centre ≤ SQUARE_LIMIT
+end_limit least end given centre h =
+    let r = ranged least end given centre h in
+    subst (λ c. end_square end c ≤ SQUARE_LIMIT) r.is (ranged_limit least (end_square end given) r.at_end)
+
 good : (t least : ℕ) (end c : Point2) → 1 ≤ least → is_in_range least (start_square c) ≡ true → is_in_range least (end_square end c) ≡ true →
     roots_within t (start_square c) (end_square end c) ≡ true → IsGood t end c
 good t least end c some s e alike = record {
@@ -171,7 +182,7 @@ kept_alike t end c true least e h =
     alike_within t (start_square c) (end_square end c) 0 (inl (omega (arith, same_squares))) (omega arith) least
 kept_alike t end c false least e h = h
 
-apart : (end : Point2) (b : Bool) → (chord_square end == 0 || b) ≡ false → 0 < chord_square end
+pub apart : (end : Point2) (b : Bool) → (chord_square end == 0 || b) ≡ false → 0 < chord_square end
 apart end b h = grind (arith, nat_tests)
 
 -- a centre that is kept or evened
@@ -192,6 +203,22 @@ settling_near end given centre true h =
 settling_near end given centre false h =
     let new = evened_is end given centre h in
     record { u = omega (arith, ints, new.u.is, new.u.near); v = omega (arith, ints, new.v.is, new.v.near) }
+
+-- what `settled` is, by its three tests
+pub settled_refused : (d : Dialect) (units written : Units) (end given centre : Point2) → in_range (least_radius d) end given ≡ Ok centre →
+    may_differ d units (start_square centre) (end_square end centre) ≡ false → settled d units written end given ≡ Err why.RadiiDiffer
+unfolding settled
+settled_refused d units written end given centre h m = rw (h, m) refl
+
+pub settled_kept : (d : Dialect) (units written : Units) (end given centre : Point2) → in_range (least_radius d) end given ≡ Ok centre →
+    may_differ d units (start_square centre) (end_square end centre) ≡ true → is_even written end centre ≡ true → settled d units written end given ≡ Ok centre
+unfolding settled
+settled_kept d units written end given centre h m e = rw (h, m, e) refl
+
+pub settled_evened : (d : Dialect) (units written : Units) (end given centre : Point2) → in_range (least_radius d) end given ≡ Ok centre →
+    may_differ d units (start_square centre) (end_square end centre) ≡ true → is_even written end centre ≡ false → settled d units written end given ≡ evened end centre
+unfolding settled
+settled_evened d units written end given centre h m e = rw (h, m, e) refl
 
 -- what `settled` ends with
 pub record IsSettled (d : Dialect) (written : Units) (end given centre : Point2) : Type 0 where

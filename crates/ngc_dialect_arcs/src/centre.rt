@@ -1,6 +1,7 @@
 //! The centre of an arc. Points are vectors from the arc's start, in its plane.
-ghost use Rattle.std.specs.Prelude.{◌≡◌, ◌*◌, ◌^◌, ◌<◌, ◌≤◌, ◌-ℤ◌, ◌*ℤ◌, unsigned_abs};
-ghost use Rattle.ngc_arc_geometry.specs.Radii.{squared_distance};
+ghost use Rattle.std.specs.Prelude.{◌≡◌, ◌*◌, ◌^◌, ◌<◌, ◌≤◌, ◌==◌, ◌||◌, ◌-ℤ◌, ◌*ℤ◌, unsigned_abs};
+ghost use Rattle.ngc_arc_geometry.specs.Radii.{squared_distance, roots_within};
+ghost use Rattle.ngc_arc_geometry.specs.Tolerance.{tolerance as tolerance_in};
 ghost use Rattle.ngc_dialect_arcs.specs.Centre as spec;
 
 use crate::limits::{least_radius, may_differ, roots_are_within, slack, tolerance};
@@ -117,17 +118,35 @@ fn moved(by: i128, part: Nm) -> Result<Nm, ArcRefusal>
     }
 }
 
+// Returns a coordinate of the evened centre, along an axis on which the end is at `part` and the
+// centre at `given`.
+fn evened_along(part: Nm, given: Nm, end: &Point2, centre: &Point2) -> Result<Nm, ArcRefusal>
+    requires { 0 < spec.chord_square end.now }
+    ensures { result ≡ spec.moved (spec.shift part end.now centre.now) given }
+{
+    moved(shift(part, end, centre), given)
+}
+
 // Returns the centre from which start and end are alike.
 #[tactic(auto, unfolding(crate::specs::Centre::evened))]
 fn evened(end: &Point2, centre: &Point2) -> Result<Point2, ArcRefusal>
     requires { 0 < spec.chord_square end.now }
     ensures { result ≡ spec.evened end.now centre.now }
 {
-    let by_u = shift(end.u, end, centre);
-    let by_v = shift(end.v, end, centre);
-    let u = moved(by_u, centre.u)?;
-    let v = moved(by_v, centre.v)?;
+    let u = evened_along(end.u, centre.u, end, centre)?;
+    let v = evened_along(end.v, centre.v, end, centre)?;
     in_range(1, end, &Point2 { u, v })
+}
+
+// Returns whether our own language takes the radii with these squares, if it is written in these
+// units; those of a full circle are the same.
+fn is_even(written: Units, end: &Point2, at_start: u128, at_end: u128) -> bool
+    requires start { at_start ≤ 4 * 10 ^ 18 }
+    requires end { at_end ≤ 4 * 10 ^ 18 }
+    ensures { result ≡ ((spec.chord_square end.now == 0)
+        || roots_within (tolerance_in written) at_start at_end) }
+{
+    squared(&here(), end) == 0 || roots_are_within(tolerance(written), at_start, at_end)
 }
 
 /// Returns the centre of an arc in our own language, which is written in the units `written`: the
@@ -149,7 +168,7 @@ pub(crate) fn settled(
     if !may_differ(dialect, units, at_start, at_end) {
         return Err(ArcRefusal::RadiiDiffer);
     }
-    if squared(&here(), end) == 0 || roots_are_within(tolerance(written), at_start, at_end) {
+    if is_even(written, end, at_start, at_end) {
         Ok(centre)
     } else {
         evened(end, &centre)

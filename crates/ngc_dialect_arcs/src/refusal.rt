@@ -2,32 +2,31 @@ ghost use Rattle.std.specs.Prelude.{◌≡◌};
 ghost use Rattle.ngc_dialect_arcs.specs.Refusals as spec;
 
 use ngc_fixed_length::Nm;
-use thiserror::Error;
 
 /// The reasons why an arc is refused.
-#[derive(Clone, Copy, Debug, PartialEq, Eq, Error)]
+#[derive(Clone, Copy, Debug, PartialEq, Eq)]
 pub enum ArcRefusal {
-    #[error("an arc without its centre")]
+    /// The arc has no centre.
     NoCentre,
-    #[error("an absolute centre needs both offsets of the plane")]
+    /// An absolute centre needs both offsets of the plane.
     OneOffset,
-    #[error("R beside I, J or K")]
+    /// R stands beside I, J or K.
     RadiusBesideOffsets,
-    #[error("an arc with R that ends where it begins")]
+    /// The arc has R, and ends where it begins.
     EndIsStart,
-    #[error("an offset along the third axis")]
+    /// There is an offset along the third axis.
     ThirdOffset,
-    #[error("fewer than one turn")]
+    /// There is fewer than one turn.
     NoTurn,
-    #[error("an arc of more than one turn: not supported")]
+    /// The arc has more than one turn.
     SeveralTurns,
-    #[error("R is too small to reach from start to end")]
+    /// R is too small to reach from start to end.
     RadiusTooSmall,
-    #[error("a radius of 0 or over 2 metres")]
+    /// A radius is 0 or over 2 metres.
     RadiusOutOfRange,
-    #[error("the radii differ by more than can be evened out")]
+    /// The radii differ by more than can be evened out.
     RadiiDiffer,
-    #[error("a length over 100 metres")]
+    /// A length is over 100 metres.
     TooFar,
 }
 

@@ -1,7 +1,6 @@
-ghost use Rattle.std.specs.Prelude.{◌≡◌, ◌≤◌, ◌+◌, pos, ◌+ℤ◌, ◌*ℤ◌, int_lt, unsigned_abs};
+ghost use Rattle.std.specs.Prelude.{◌≡◌, ◌≤◌, pos, ◌+ℤ◌, ◌*ℤ◌, unsigned_abs};
 ghost use Rattle.ngc_fixed_length.specs.Limits.{IsLength};
-ghost use Rattle.ngc_fixed_length.specs.Signed.{greater, same, is_negative as is_below_zero};
-ghost use Rattle.ngc_canned_cycles.specs.Heights.{relative as relative_to};
+ghost use Rattle.ngc_fixed_length.specs.Signed.{is_negative as is_below_zero};
 ghost use Rattle.ngc_dialect_cycles.specs.Levels.{retract_of, bottom_of, hole_place};
 ghost use Rattle.ngc_dialect_cycles.specs.Refusals.{bad_peck, negative_dwell as has_negative_dwell};
 ghost use Rattle.ngc_dialect_cycles.specs.Refusals.{needs_spindle, back_of, is_near};
@@ -9,59 +8,14 @@ ghost use Rattle.ngc_dialect_cycles.specs.Refusals.{is_last_near, is_in_range, c
 
 use crate::line::{CycleLine, HoleKind, Pecks, Series};
 use crate::refusal::CycleRefusal;
-use ngc_fixed_length::{Distance, Nm, Value};
-
-pub(crate) fn length(nanometres: i128) -> Nm
-    requires { IsLength nanometres }
-    ensures { result ≡ nanometres }
-{
-    Nm::from_nanometres(nanometres).unwrap()
-}
-
-pub(crate) fn is_below(a: Nm, b: Nm) -> bool
-    ensures { result ≡ int_lt a b }
-{
-    a.nanometres() < b.nanometres()
-}
-
-pub(crate) fn is_same(a: Nm, b: Nm) -> bool
-    ensures { result ≡ same a b }
-{
-    a.nanometres() == b.nanometres()
-}
-
-pub(crate) fn higher(a: Nm, b: Nm) -> Nm
-    ensures { result ≡ greater a b }
-{
-    if is_below(a, b) { b } else { a }
-}
-
-/// Returns `count` times a length, in nanometres.
-pub(crate) fn times(count: u64, length: Nm) -> i128
-    ensures value { result ≡ pos count *ℤ length }
-    ensures bound { unsigned_abs result ≤ 2000000000000000000000000000000 }
-{
-    i128::from(count) * i128::from(length.nanometres())
-}
+use ngc_canned_cycles::heights::{relative, times};
+use ngc_fixed_length::{Nm, Value};
 
 /// Returns the sum of two lengths, in nanometres.
 pub(crate) fn sum(a: Nm, b: Nm) -> i128
     ensures { result ≡ a +ℤ b }
 {
     i128::from(a.nanometres()) + i128::from(b.nanometres())
-}
-
-// Returns a length unchanged in G90, or added to the height `base` in G91.
-fn relative(distance: Distance, base: i128, length: Nm) -> i128
-    requires { unsigned_abs base ≤ 200000000000 }
-    ensures value { result ≡ relative_to distance base length }
-    ensures bound { unsigned_abs result ≤ unsigned_abs base + 100000000000 }
-{
-    let length = i128::from(length.nanometres());
-    match distance {
-        Distance::Absolute => length,
-        Distance::Incremental => base + length,
-    }
 }
 
 fn is_length(nanometres: i128) -> bool

@@ -1,13 +1,13 @@
-ghost use Rattle.std.specs.Prelude.{◌≡◌};
+ghost use Rattle.std.specs.Prelude.{◌≡◌, ◌<◌, ◌≤◌, length, slice_get, IfSome};
 ghost use Rattle.ngc_dialect_cycles.specs.Moves.{end_of, differ, acts, IsNext};
 ghost use Rattle.ngc_dialect_cycles.specs.Refusals.{cycle};
 
-use crate::heights::is_same;
 use crate::line::{CycleLine, Series};
 use crate::plan::Plan;
 use crate::refusal::CycleRefusal;
 use crate::walk::Walk;
 use ngc_canned_cycles::CycleMove;
+use ngc_canned_cycles::heights::is_same;
 use ngc_fixed_length::Point3;
 use std::marker::Model;
 
@@ -31,6 +31,15 @@ impl Model for CycleMoves {
     ghost view = { λ m. acting m.place (left m.walk) };
 
     ghost invariant = { λ m. IsPlan m.walk.plan };
+}
+
+/// Returns the move with an index, from 0, or `None` after the last of at most five.
+pub(crate) fn nth(moves: &[CycleMove], index: usize) -> Option<CycleMove>
+    requires { length moves.now ≤ 5 }
+    ensures value { result ≡ slice_get moves.now index }
+    ensures few { IfSome result (λ _. index < 5) }
+{
+    moves.get(index).copied()
 }
 
 fn is_elsewhere(place: &Point3, other: &Point3) -> bool

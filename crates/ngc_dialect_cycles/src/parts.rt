@@ -7,9 +7,11 @@ ghost use Rattle.ngc_dialect_cycles.specs.Holes.{peck_moves, ending as ending_mo
 ghost use Rattle.ngc_dialect_cycles.specs.Moves.{rises, stays, arrival_height, arrival as arrival_moves};
 ghost use Rattle.ngc_dialect_cycles.specs.Walk.{IsPlan};
 
-use crate::heights::{higher, is_below, length, sum, times};
+use crate::heights::sum;
 use crate::line::{HoleKind, Pecks};
+use crate::moves::nth;
 use crate::plan::Plan;
+use ngc_canned_cycles::heights::{is_below, length, times};
 use ngc_canned_cycles::{CycleMove, Site};
 use ngc_fixed_length::{Nm, Point2};
 
@@ -68,7 +70,7 @@ fn peck_out(site: &Site, pecks: &Pecks, peck: u64, index: usize) -> Option<Cycle
         traverse(site, site.retract),
         traverse(site, back_height(site, pecks, peck)),
     ];
-    moves.get(index).copied()
+    nth(&moves, index)
 }
 
 // Returns a move of a peck of G73, or `None` after the last.
@@ -83,7 +85,46 @@ fn peck_back(site: &Site, pecks: &Pecks, peck: u64, index: usize) -> Option<Cycl
         feed(site, peck_depth(site, pecks.depth, peck)),
         traverse(site, back_height(site, pecks, peck)),
     ];
-    moves.get(index).copied()
+    nth(&moves, index)
+}
+
+impl HoleKind {
+    // Returns a move of the feed to the bottom and the way up, or `None` after the last.
+    fn ending(&self, site: &Site, index: usize) -> Option<CycleMove>
+        ensures value { result ≡ slice_get (ending_moves self.now site.now) index }
+        ensures few { IfSome result (λ _. index < 5) }
+    {
+        let cut = feed(site, site.bottom);
+        let up = traverse(site, site.clear);
+        match self {
+            HoleKind::DrillWithDwell(dwell) => {
+                let moves = [cut, CycleMove::Dwell(*dwell), up];
+                nth(&moves, index)
+            }
+            HoleKind::Bore => {
+                let moves = [cut, feed(site, site.retract), up];
+                nth(&moves, index)
+            }
+            HoleKind::BoreWithStop(dwell) => {
+                let moves = [
+                    cut,
+                    CycleMove::Dwell(*dwell),
+                    CycleMove::StopSpindle,
+                    up,
+                    CycleMove::StartSpindle,
+                ];
+                nth(&moves, index)
+            }
+            HoleKind::BoreWithDwell(dwell) => {
+                let moves = [cut, CycleMove::Dwell(*dwell), feed(site, site.clear)];
+                nth(&moves, index)
+            }
+            HoleKind::Drill | HoleKind::Peck(_) | HoleKind::BreakChips(_) => {
+                let moves = [cut, up];
+                nth(&moves, index)
+            }
+        }
+    }
 }
 
 impl Plan {
@@ -157,10 +198,10 @@ impl Plan {
         let down = traverse(&site, site.retract);
         if hole == 0 && self.rises() {
             let moves = [self.rise(), over, down];
-            moves.get(index).copied()
+            nth(&moves, index)
         } else {
             let moves = [over, down];
-            moves.get(index).copied()
+            nth(&moves, index)
         }
     }
 
@@ -189,36 +230,6 @@ impl Plan {
             (site_of self.now.series self.now.line hole)) index }
         ensures few { IfSome result (λ _. index < 5) }
     {
-        let site = self.site(hole);
-        let cut = feed(&site, site.bottom);
-        let up = traverse(&site, site.clear);
-        match &self.series.kind {
-            HoleKind::DrillWithDwell(dwell) => {
-                let moves = [cut, CycleMove::Dwell(*dwell), up];
-                moves.get(index).copied()
-            }
-            HoleKind::Bore => {
-                let moves = [cut, feed(&site, site.retract), up];
-                moves.get(index).copied()
-            }
-            HoleKind::BoreWithStop(dwell) => {
-                let moves = [
-                    cut,
-                    CycleMove::Dwell(*dwell),
-                    CycleMove::StopSpindle,
-                    up,
-                    CycleMove::StartSpindle,
-                ];
-                moves.get(index).copied()
-            }
-            HoleKind::BoreWithDwell(dwell) => {
-                let moves = [cut, CycleMove::Dwell(*dwell), feed(&site, site.clear)];
-                moves.get(index).copied()
-            }
-            HoleKind::Drill | HoleKind::Peck(_) | HoleKind::BreakChips(_) => {
-                let moves = [cut, up];
-                moves.get(index).copied()
-            }
-        }
+        self.series.kind.ending(&self.site(hole), index)
     }
 }

@@ -5,8 +5,8 @@ ghost use Rattle.ngc_dialect_cycles.specs.Holes.{peck_count};
 ghost use Rattle.ngc_dialect_cycles.specs.Refusals.{check};
 ghost use Rattle.ngc_dialect_cycles.specs.Walk.{plan_of, IsPlan};
 
-use crate::heights::{higher, length};
 use crate::line::{CycleLine, HoleKind, Levels, Series};
+use ngc_canned_cycles::heights::{higher, length};
 use ngc_fixed_length::{Nm, RetractMode};
 
 /// A line's cycle that isn't refused, with what all of its holes share.

@@ -1,31 +1,29 @@
 ghost use Rattle.std.specs.Prelude.{◌≡◌};
 
-use thiserror::Error;
-
 /// The reasons why the flow can't go on.
-#[derive(Clone, Copy, Debug, PartialEq, Eq, Error)]
+#[derive(Clone, Copy, Debug, PartialEq, Eq)]
 pub enum Cause {
-    #[error("no subprogram or line has this label")]
+    /// No subprogram or line has this label.
     LabelMissing,
-    #[error("two subprograms or lines have this label")]
+    /// Two subprograms or lines have this label.
     LabelTwice,
-    #[error("the end of the block is missing")]
+    /// The end of the block is missing.
     EndMissing,
-    #[error("no open loop is ended here")]
+    /// No open loop is ended here.
     NotOpen,
-    #[error("no open call is ended here")]
+    /// No open call is ended here.
     NotCalled,
-    #[error("subprograms are nested over 10 deep")]
+    /// Subprograms are nested over 10 deep.
     TooDeep,
-    #[error("over 32 loops are open")]
+    /// Over 32 loops are open.
     TooManyLoops,
-    #[error("over 2,000,000 lines were executed")]
+    /// Over 2,000,000 lines were executed.
     TooManyLines,
-    #[error("P is missing")]
+    /// P is missing.
     WordMissing,
-    #[error("P or L isn't a whole number")]
+    /// P or L isn't a whole number.
     NotWhole,
-    #[error("P or L is there twice")]
+    /// P or L is there twice.
     WordTwice,
 }
 

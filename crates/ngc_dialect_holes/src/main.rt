@@ -53,7 +53,7 @@ fn print_cycle(rt: &impl Print, figures: &Figures) -> io::Result<()> {
     };
     match CycleMoves::start(&series, &figures.line()) {
         Ok(mut moves) => print_moves(rt, &mut moves),
-        Err(refusal) => println!(rt; "  refused: {refusal}"),
+        Err(refusal) => println!(rt; "  refused: {refusal:?}"),
     }
 }
 

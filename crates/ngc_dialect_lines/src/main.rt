@@ -147,7 +147,7 @@ fn print_line(
             let number = fault.cause.number();
             let column = fault.column;
             let cause = fault.cause;
-            println!(rt; "fault {number} column {column}: {cause}")
+            println!(rt; "fault {number} column {column}: {cause:?}")
         }
     }
 }

@@ -1,22 +1,20 @@
-use thiserror::Error;
-
 /// The reasons why an operation has no value.
-#[derive(Clone, Copy, Debug, PartialEq, Eq, Error)]
+#[derive(Clone, Copy, Debug, PartialEq, Eq)]
 pub enum NoValue {
-    #[error("a value is over 1,000,000,000")]
+    /// A value is over 1,000,000,000.
     OutOfRange,
-    #[error("division by zero")]
+    /// The divisor is 0.
     DivisionByZero,
-    #[error("square root of a negative number")]
+    /// The square root is that of a negative number.
     NegativeRoot,
-    #[error("arc sine or arc cosine beyond 1")]
+    /// The arc sine or arc cosine is that of a number beyond 1.
     BeyondOne,
-    #[error("logarithm of a number that is not above 0")]
+    /// The logarithm is that of a number that is not above 0.
     NotAboveZero,
-    #[error("a negative number to a power that is not whole")]
+    /// The power of a negative number is not whole.
     NegativeBase,
-    #[error("0 to a power below 0")]
+    /// The power of 0 is below 0.
     ZeroBase,
-    #[error("tangent of a right angle")]
+    /// The tangent is that of a right angle.
     RightAngle,
 }

@@ -1,21 +1,18 @@
 ghost use Rattle.std.specs.Prelude.{◌≡◌};
 
 use ngc_dialect_numbers::NoValue;
-use thiserror::Error;
 
 /// The reasons why a part of a line has no value.
-#[derive(Clone, Copy, Debug, PartialEq, Eq, Error)]
+#[derive(Clone, Copy, Debug, PartialEq, Eq)]
 pub enum Cause {
-    #[error("parameter number is not whole")]
+    /// A parameter's number is not whole.
     IndexNotWhole,
-    #[error("no parameter has this number")]
+    /// No parameter has this number.
     IndexOutOfRange,
     /// The program hasn't set the parameter, and the control doesn't give it a value here.
-    #[error("parameter is not set, or only the control knows it")]
     Unset,
-    #[error("only the control sets this parameter")]
+    /// Only the control sets this parameter.
     ReadOnly,
-    #[error(transparent)]
     Value(NoValue),
 }
 
@@ -37,21 +34,20 @@ impl Cause {
 
 /// A refusal of a line: why, and the number of bytes of the line's text from the refused part on.
 /// `column_of` makes a column of it.
-#[derive(Clone, Copy, Debug, PartialEq, Eq, Error)]
-#[error("{cause}")]
+#[derive(Clone, Copy, Debug, PartialEq, Eq)]
 pub struct EvaluationFault {
     pub cause: Cause,
     pub left: usize,
 }
 
 /// The reasons why the parameters can't be stored.
-#[derive(Clone, Copy, Debug, PartialEq, Eq, Error)]
+#[derive(Clone, Copy, Debug, PartialEq, Eq)]
 pub enum StoreFault {
-    #[error("subprograms are nested over 10 deep")]
+    /// Subprograms are nested over 10 deep.
     TooDeep,
-    #[error("over 10,000 names")]
+    /// There are over 10,000 names.
     TooManyNames,
-    #[error("out of memory")]
+    /// Memory was refused.
     Memory,
 }
 

@@ -1,58 +1,55 @@
 ghost use Rattle.std.specs.Prelude.{◌≡◌};
 
-use thiserror::Error;
-
 /// The reasons why a line can't be read.
-#[derive(Clone, Copy, Debug, PartialEq, Eq, Error)]
+#[derive(Clone, Copy, Debug, PartialEq, Eq)]
 pub enum Cause {
-    #[error("line longer than 256 characters")]
+    /// The line is longer than 256 characters.
     LineTooLong,
-    #[error("control character")]
+    /// There is a control character.
     ControlCharacter,
-    #[error("comment not closed")]
+    /// A comment is not closed.
     CommentNotClosed,
-    #[error("comment inside a comment")]
+    /// A comment begins inside a comment.
     CommentInComment,
-    #[error("character that belongs nowhere here")]
+    /// A character belongs nowhere here.
     UnexpectedCharacter,
-    #[error("number without digits")]
+    /// A number has no digits.
     NumberWithoutDigits,
-    #[error("second point in a number")]
+    /// A number has a second point.
     SecondPoint,
     /// A number is over 1,000,000,000 in size.
-    #[error("number too large")]
     NumberTooLarge,
-    #[error("word without a value")]
+    /// A word has no value.
     WordWithoutValue,
-    #[error("value missing")]
+    /// A value is missing.
     ValueMissing,
-    #[error("unknown function")]
+    /// No function has this name.
     UnknownFunction,
-    #[error("bracket not closed")]
+    /// A bracket is not closed.
     BracketNotClosed,
-    #[error("opening bracket missing")]
+    /// An opening bracket is missing.
     BracketMissing,
-    #[error("name not closed or empty")]
+    /// A name is not closed, or is empty.
     NameNotClosed,
-    #[error("name missing")]
+    /// A name is missing.
     NameMissing,
-    #[error("equals sign missing")]
+    /// The equals sign is missing.
     EqualsMissing,
-    #[error("slash missing between the arguments of ATAN")]
+    /// The slash between the arguments of ATAN is missing.
     SlashMissing,
-    #[error("nested over 32 deep")]
+    /// Values are nested over 32 deep.
     TooDeep,
-    #[error("over 128 parts")]
+    /// The line has over 128 parts.
     TooManyParts,
-    #[error("this dialect has no such construct")]
+    /// The dialect has no such construct.
     NotInDialect,
-    #[error("unknown word after a label")]
+    /// No keyword has the name after a label.
     UnknownKeyword,
-    #[error("wrong number of arguments")]
+    /// The number of arguments is wrong.
     WrongArguments,
-    #[error("nothing may follow here")]
+    /// Nothing may follow here.
     TextAfterEnd,
-    #[error("GOTO, THEN or DO missing")]
+    /// GOTO, THEN or DO is missing.
     JumpMissing,
 }
 
@@ -73,8 +70,7 @@ impl Cause {
 
 /// A refusal of a line: why, and the column, from 1, from which it can't be read. At the line's end
 /// that is the column after its last byte.
-#[derive(Clone, Copy, Debug, PartialEq, Eq, Error)]
-#[error("{cause}, column {column}")]
+#[derive(Clone, Copy, Debug, PartialEq, Eq)]
 pub struct LineFault {
     pub cause: Cause,
     pub column: usize,

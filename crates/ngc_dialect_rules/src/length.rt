@@ -1,5 +1,6 @@
 //! Lengths of a line's words, and how they are written again.
-ghost use Rattle.std.specs.Prelude.{◌≡◌, pos, ◌+ℤ◌};
+ghost use Rattle.std.specs.Prelude.{◌≡◌, ◌≤◌, ◌^◌, pos, ◌+ℤ◌, ◌*ℤ◌, unsigned_abs};
+ghost use Rattle.ngc_fixed_length.specs.Length.{nanometres_in};
 ghost use Rattle.ngc_fixed_length.specs.declared.units.Units.TheVariants as units;
 ghost use Rattle.ngc_dialect_rules.specs.Lengths as spec;
 
@@ -20,16 +21,23 @@ pub fn limited(letter: u8, nanometres: i128) -> Result<Nm, Fault>
     }
 }
 
+// Returns the length of a value in a unit, in 10^-12 nm.
+fn scaled(units: Units, number: Number) -> i128
+    ensures value { result ≡ number *ℤ nanometres_in units }
+    ensures bound { unsigned_abs result ≤ 10 ^ 29 }
+{
+    match units {
+        Units::Millimetres => number.trillionths() * 1_000_000,
+        Units::Inches => number.trillionths() * 25_400_000,
+    }
+}
+
 /// Returns the length of a value in a unit.
 #[tactic(auto, unfolding(crate::specs::Lengths::length_in))]
 pub fn length_in(units: Units, letter: u8, value: Number) -> Result<Nm, Fault>
     ensures { result ≡ spec.length_in units letter value }
 {
-    let in_unit: i128 = match units {
-        Units::Millimetres => 1_000_000,
-        Units::Inches => 25_400_000,
-    };
-    let nanometres = rounded_quotient(value.trillionths() * in_unit, 1_000_000_000_000);
+    let nanometres = rounded_quotient(scaled(units, value), 1_000_000_000_000);
     limited(letter, nanometres)
 }
 

@@ -1,5 +1,5 @@
 //! The words that restore saved modes.
-ghost use Rattle.std.specs.Prelude.{◌≡◌, ◌<◌, ◌*◌, pos};
+ghost use Rattle.std.specs.Prelude.{◌≡◌, ◌<◌, ◌*◌, ◌*ℤ◌, pos};
 ghost use Rattle.ngc_dialect_saved.specs.Restoring as spec;
 
 use crate::modes::SavedModes;
@@ -50,6 +50,13 @@ fn changed(saved: Code, now: Code) -> Option<Word>
     }
 }
 
+// Returns a number of units in 10^-12. A unit is in millionths.
+fn trillionths(times: i64, unit: u32) -> i128
+    ensures { result ≡ times *ℤ pos (unit * 1000000) }
+{
+    i128::from(times) * i128::from(u64::from(unit) * 1_000_000)
+}
+
 // Returns a value to the nearest multiple of a unit, or 0 above the greatest number. Both are in
 // millionths.
 fn rounded(value: Value, unit: u32) -> Number
@@ -57,7 +64,7 @@ fn rounded(value: Value, unit: u32) -> Number
     ensures { result ≡ spec.rounded value unit }
 {
     let times = short_quotient(value.millionths(), u64::from(unit));
-    match Number::from_trillionths(i128::from(times) * (i128::from(unit) * 1_000_000)) {
+    match Number::from_trillionths(trillionths(times, unit)) {
         Ok(number) => number,
         Err(_) => Number::truth(false),
     }

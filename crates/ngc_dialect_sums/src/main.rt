@@ -27,7 +27,7 @@ struct Run {
 
 fn print_store_fault(rt: &impl Print, fault: StoreFault) -> io::Result<()> {
     let number = fault.number();
-    println!(rt; "fault {number}: {fault}")
+    println!(rt; "fault {number}: {fault:?}")
 }
 
 // Returns at most 256 bytes of a text. A line that was read has no more.
@@ -47,7 +47,8 @@ fn print_read(rt: &impl Print, text: &[u8], run: &mut Run) -> io::Result<()> {
         Err(fault) => {
             let number = fault.cause.number();
             let column = column_of(first_bytes(text), fault.left);
-            return println!(rt; "fault {number} column {column}: {fault}");
+            let cause = fault.cause;
+            return println!(rt; "fault {number} column {column}: {cause:?}");
         }
     }
     print_values(rt, &run.line, &run.values)?;
@@ -65,7 +66,7 @@ fn print_line(rt: &impl Print, text: &str, run: &mut Run) -> io::Result<()> {
             let number = fault.cause.number();
             let column = fault.column;
             let cause = fault.cause;
-            println!(rt; "fault {number} column {column}: {cause}")
+            println!(rt; "fault {number} column {column}: {cause:?}")
         }
     }
 }

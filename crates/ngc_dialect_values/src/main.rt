@@ -11,7 +11,7 @@ use std::io;
 fn print_answer(rt: &impl Print, answer: Answer) -> io::Result<()> {
     match answer {
         Answer::Number(number) => println!(rt; "{}", number),
-        Answer::Refused(reason) => println!(rt; "refused: {}", reason),
+        Answer::Refused(reason) => println!(rt; "refused: {:?}", reason),
         Answer::Unknown => println!(rt; "not a call"),
     }
 }

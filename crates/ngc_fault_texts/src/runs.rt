@@ -183,8 +183,9 @@ pub(crate) fn shell() -> &'static [Row]
             example: "command `ngc list --program none.ngc`",
             answer: "`ngc: fault 901`",
             place: Some("1"),
-            mend: "A second line names the file. A folder can't be read. `-` is a name like any other:\n\
-             for standard input leave `--program` out.",
+            mend: "A second line names the file: with a job file always, without one for all commands but `list`,\n\
+             `certify`, `check` and `run`. A folder can't be read. `-` is a name like any other: for\n\
+             standard input leave `--program` out.",
         },
         Row {
             number: 902,

@@ -128,11 +128,14 @@ fn fixtures_text(alloc: Global, fixtures: &[FixtureSheet]) -> Result<String, All
     let mut text = String::new(alloc);
     for fixture in fixtures {
         let name = name_word(&fixture.name);
+        let system = system_text(alloc, fixture.system)?;
         let corners = box_text(alloc, &fixture.corners)?;
         if !text.is_empty() {
             text.push(' ')?;
         }
         text.push_str(name)?;
+        text.push(' ')?;
+        text.push_str(system.as_str())?;
         text.push(' ')?;
         text.push_str(corners.as_str())?;
     }

@@ -1,2 +1,5 @@
 pub mod Slips
 pub mod Spelling
+pub mod Boxes
+pub mod Cuts
+pub mod BoxTexts

@@ -68,6 +68,7 @@ fn machine_in<A: Allocator>(alloc: A) -> Option<Machine<A>> {
             z: high,
         },
         name: Name::none(),
+        system: 0,
     };
     machine.fixtures.push(fixture).ok()?;
     Some(machine)

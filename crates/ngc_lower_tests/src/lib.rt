@@ -1,5 +1,5 @@
 //! Tests that need code, of the crates below the program's commands: refused memory, readers that are
-//! fed in pieces, faults that stay, and texts that no command prints.
+//! fed in pieces, faults that stay, and texts and a picture that no command prints.
 #![tactic(auto)]
 
 #[cfg(test)]
@@ -14,6 +14,8 @@ mod checks;
 mod fault_texts;
 #[cfg(test)]
 mod guides;
+#[cfg(test)]
+mod map_picture;
 #[cfg(test)]
 mod program_pieces;
 #[cfg(test)]

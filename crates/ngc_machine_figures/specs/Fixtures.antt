@@ -52,7 +52,7 @@ fixture_of origins n section = do
   system ← optional system_value (keys.FixtureIn n) section
   corners ← corners_of (fixture_box n) section
   moved ← in_machine n origins system corners
-  Ok (record { name = name; corners = moved })
+  Ok (record { name = name; system = system; corners = moved })
 
 -- the items of an array from number n on, up to the first refusal
 abbrev pub each : {A : Type 0} → (ℕ → Data → Result A FileRefusal) → ℕ → Items → Result (List A) FileRefusal

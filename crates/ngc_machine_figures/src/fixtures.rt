@@ -83,7 +83,11 @@ fn fixture_of(
     let system = optional(Key::FixtureIn(number), table)?;
     let corners = corners_of(&fixture_box(number), table)?;
     let corners = in_machine(number, origins, system, &corners)?;
-    Ok(FixtureSheet { name, corners })
+    Ok(FixtureSheet {
+        name,
+        system,
+        corners,
+    })
 }
 
 impl Numbered<[Option<Place>; 9]> for FixtureSheet {

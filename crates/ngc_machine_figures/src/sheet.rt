@@ -93,6 +93,8 @@ pub struct BoxSheet {
 #[derive(Clone, Copy)]
 pub struct FixtureSheet {
     pub name: Option<Name>,
+    /// The coordinate system in which the corners are written. `None` is the machine's own.
+    pub system: Option<System>,
     /// The corners in the machine's coordinates: the origin of the fixture's system is added.
     pub corners: BoxSheet,
 }

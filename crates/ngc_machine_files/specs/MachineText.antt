@@ -198,12 +198,13 @@ has_fixture_keys version value =
     then has_only (codes "low" ∷ codes "high" ∷ codes "name" ∷ []) value
     else has_only (codes "low" ∷ codes "high" ∷ []) value
 
+-- in these versions corners are in machine coordinates
 abbrev pub named_corners : Data → Option Corners
 named_corners value = do
   low ← coordinates_at (codes "low") value
   high ← coordinates_at (codes "high") value
   name ← name_at value
-  Some (record { low = low; high = high; name = name })
+  Some (record { low = low; high = high; name = name; system = 0 })
 
 abbrev pub corners : ℤ → Data → Option Corners
 corners version value = if has_fixture_keys version value then named_corners value else None
@@ -373,7 +374,12 @@ limits_of n = record { changes = axis_rates_of n.changes; turns = axis_turns_of 
 
 abbrev pub fixture_of : Corners → Fixture
 fixture_of f =
-    record { low = place_of f.low; high = place_of f.high; name = name_from f.name }
+    record {
+      low = place_of f.low;
+      high = place_of f.high;
+      name = name_from f.name;
+      system = f.system;
+    }
 
 abbrev pub arc_feed_of : ℤ → ArcFeed
 arc_feed_of z = if int_eq z (pos 1) then Feed else (if int_eq z (pos 2) then FeedAndTurn else Off)

@@ -13,12 +13,15 @@ use ngc_fixed_length::{Nm, Point3};
 use ngc_motors::{MotorSteps, Motors};
 use std::alloc::{AllocError, Allocator};
 
-/// A box that tools must stay out of, in nanometres.
+/// A box that tools must stay out of, in nanometres of the machine.
 #[derive(Clone, Copy)]
 pub struct Fixture {
     pub low: Point3,
     pub high: Point3,
     pub name: Name,
+    /// The coordinate system from whose origin it was counted: 1 is G54, .., 9 is G59.3; 0 is the
+    /// machine's own. The origin is in the corners already.
+    pub system: u32,
 }
 
 /// The greatest rate at which each axis may take part in a motion, in millionths of a path step per

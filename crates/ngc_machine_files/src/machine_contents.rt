@@ -36,6 +36,9 @@ pub struct Corners {
     pub high: Coordinates,
     /// The name, without characters if the key is missing; `None` if the text is not a name.
     pub name: Option<Name>,
+    /// The coordinate system from whose origin the corners were counted: 1 is G54, .., 9 is G59.3; 0
+    /// is the machine's own. The origin is in the corners already.
+    pub system: u32,
 }
 
 /// The single numbers of a machine file, of any size.
@@ -135,6 +138,7 @@ impl Entry for Corners {
             low: coordinates_at(value, "low")?,
             high: coordinates_at(value, "high")?,
             name: name_at(value)?,
+            system: 0,
         })
     }
 }

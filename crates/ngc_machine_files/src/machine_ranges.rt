@@ -438,6 +438,7 @@ fn fixture(corners: &Corners) -> Fixture
         low: place(&corners.low),
         high: place(&corners.high),
         name: name_from(&corners.name),
+        system: corners.system,
     }
 }
 

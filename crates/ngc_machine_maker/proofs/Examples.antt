@@ -64,7 +64,7 @@ nearest_of_800 = refl
 
 -- A small router with 800 steps per millimetre, 300 by 180 by 45 mm. 1,000 mm/min are 13,333.3
 -- steps per second, so 27,000 ticks, of which a step takes 0.493827. 20 mm/s^2 are 16,000 steps per
--- second squared, over 27,000 twice 21.95 millionths. In 5 ms they reach 0.1 mm/s, so the corner has
+-- second squared, over 27,000 twice 21.95 millionths; 30 mm/s^2 are 32.92. In 5 ms they reach 0.1 mm/s, so the corner has
 -- 2 mm/s: 1,600 steps per second, over 27,000 0.059259. The jump has the same rate.
 abbrev pub small_router : Figures
 small_router = record {
@@ -96,6 +96,7 @@ numbers_of_a_small_router : numbers_of small_router ≡ Ok (record {
   changes = three 32 32 21;
   corner = 59259;
   turn = 21947873;
+  turns = three 32921810 32921810 21947873;
   axis_rate = three 493827 493827 296296;
   jump = 59259;
   ring = 256;
@@ -141,6 +142,7 @@ numbers_of_a_bench_mill : numbers_of bench_mill ≡ Ok (record {
   changes = three 109 109 109;
   corner = 262384;
   turn = 54663448;
+  turns = three 54663448 54663448 54663448;
   axis_rate = three 488035 488035 349846;
   jump = 0;
   ring = 16;
@@ -185,6 +187,7 @@ numbers_of_a_large_router : numbers_of large_router ≡ Ok (record {
   changes = three 23 23 17;
   corner = 47241;
   turn = 35430839;
+  turns = three 35430839 35430839 35430839;
   axis_rate = three 787351 787351 393675;
   jump = 94482;
   ring = 64;

@@ -105,6 +105,7 @@ numbers_in_file f scale rates steps ring s r w i = record {
   changes = r.changes;
   corner = r.corner;
   turn = r.turn;
+  turns = r.turns;
   axis_rate = r.axis_rate;
   jump = r.jump;
   ring = i;

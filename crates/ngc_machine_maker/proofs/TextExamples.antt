@@ -39,6 +39,7 @@ small_numbers = record {
   changes = three 32 32 21;
   corner = 59259;
   turn = 21947873;
+  turns = three 32921810 32921810 21947873;
   axis_rate = three 493827 493827 296296;
   jump = 59259;
   ring = 256;

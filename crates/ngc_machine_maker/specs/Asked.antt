@@ -28,6 +28,7 @@ rates_in n =
       changes = n.changes;
       corner = n.corner;
       turn = n.turn;
+      turns = n.turns;
       jump = n.jump;
     }
 

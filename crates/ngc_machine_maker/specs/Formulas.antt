@@ -199,6 +199,12 @@ arcs_by otherwise (Some a) = a.nanometres_a_second_squared
 abbrev pub arcs_of : Figures → ℕ
 arcs_of f = arcs_by (least f.acceleration) f.arcs
 
+-- the turn of each axis: the same with the acceleration specified, or with that of the axis
+abbrev pub each_turn : Scale → ℕ → Figures → Result (PerAxis ℕ) FigureRefusal
+each_turn scale ticks f =
+    each_axis (λ a axis. limited_turn f.arc_feed scale ticks
+    (arcs_by a.nanometres_a_second_squared f.arcs)) f.acceleration
+
 -- the rates of some figures, or the first that is refused
 abbrev pub rates_of : Scale → Figures → Result Rates FigureRefusal
 rates_of scale f =
@@ -207,6 +213,7 @@ rates_of scale f =
     and_then (corner_of scale ticks (greatest_of rates) f.corner) (λ corner.
     and_then (each_change scale ticks f.acceleration) (λ changes.
     and_then (limited_turn f.arc_feed scale ticks (arcs_of f)) (λ turn.
+    and_then (each_turn scale ticks f) (λ turns.
     Ok (record {
       ticks = ticks;
       axis_rate = rates;
@@ -215,5 +222,6 @@ rates_of scale f =
       changes = changes;
       corner = corner;
       turn = turn;
+      turns = turns;
       jump = jump_of scale ticks corner f.jump;
-    }))))))
+    })))))))

@@ -3,7 +3,7 @@ use Rattle.std.specs.Prelude.{ℕ, ◌≤◌, ◌%◌, ◌≡◌, ℤ, ◌≤ℤ
 use Rattle.ngc_machine_maker.specs.declared.numbers.MachineNumbers.{MachineNumbers}
 use Rattle.ngc_machine_maker.specs.declared.numbers.Steps.{Steps}
 use Rattle.ngc_machine_maker.specs.declared.scale.Scale.{Scale}
-use Rattle.ngc_machine_maker.specs.Ranges.{IsRate, AreRates, IsTurn, AreTravels, AreStops, IsRing}
+use Rattle.ngc_machine_maker.specs.Ranges.{IsRate, AreRates, IsTurn, AreTurns, AreTravels, AreStops, IsRing}
 
 -- the travel of an axis is within 3,999 mm of zero, and within 1,000 mm in a file with rates; the
 -- start is in it, a whole number of steps from zero, and so are the home positions
@@ -32,6 +32,7 @@ pub record AreInFile (n : MachineNumbers) : Type 0 where
   pub changes : AreRates n.changes
   pub corner : IsRate n.corner
   pub turn : IsTurn n.turn
+  pub turns : AreTurns n.turns
   pub axis_rate : AreRates n.axis_rate
   pub jump : n.jump ≤ 1000000
   pub ring : IsRing n.ring

@@ -35,6 +35,7 @@ numbers_by f scale rates steps ring =
       changes = rates.changes;
       corner = rates.corner;
       turn = rates.turn;
+      turns = rates.turns;
       axis_rate = rates.axis_rate;
       jump = rates.jump;
       ring = ring;

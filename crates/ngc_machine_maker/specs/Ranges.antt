@@ -29,6 +29,11 @@ pub record IsTurn (turn : ℕ) : Type 0 where
   pub least : 1 ≤ turn
   pub greatest : turn ≤ 1000000000000
 
+pub record AreTurns (turns : PerAxis ℕ) : Type 0 where
+  pub x : IsTurn turns.x
+  pub y : IsTurn turns.y
+  pub z : IsTurn turns.z
+
 pub record AreAllRates (rates : Rates) : Type 0 where
   pub ticks : IsRate rates.ticks
   pub axis_rate : AreRates rates.axis_rate
@@ -37,6 +42,7 @@ pub record AreAllRates (rates : Rates) : Type 0 where
   pub changes : AreRates rates.changes
   pub corner : IsRate rates.corner
   pub turn : IsTurn rates.turn
+  pub turns : AreTurns rates.turns
   pub jump : rates.jump ≤ 1000000
 
 -- the greatest number of loaded commands that are not done

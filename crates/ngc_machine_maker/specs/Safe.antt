@@ -7,7 +7,7 @@ use Rattle.ngc_machine_maker.specs.declared.figures.Figures.{Figures}
 use Rattle.ngc_machine_maker.specs.declared.figures.Length.{Length}
 use Rattle.ngc_machine_maker.specs.declared.rates.Rates.{Rates}
 use Rattle.ngc_machine_maker.specs.declared.scale.Scale.{Scale}
-use Rattle.ngc_machine_maker.specs.Formulas.{arcs_of, diagonal_turns, jump_speed}
+use Rattle.ngc_machine_maker.specs.Formulas.{arcs_by, arcs_of, diagonal_turns, jump_speed}
 
 -- a number of steps is no longer than an amount of nanometres over a divisor, with the file's step
 -- and with the motor's
@@ -46,7 +46,17 @@ pub record AreFollowedBy (scale : Scale) (ticks : ℕ) (changes : PerAxis ℕ)
   pub y : IsFollowedBy scale ticks changes.y accelerations.y
   pub z : IsFollowedBy scale ticks changes.z accelerations.z
 
--- rates and changes are no greater than requested, on each axis
+-- on arcs in the planes of an axis: no harder than the acceleration specified, or than its own
+abbrev pub IsTurnedBy : Scale → ℕ → ℕ → Acceleration → Figures → Type 0
+IsTurnedBy scale ticks turn a f =
+    IsNoHarderOnArcs f.arc_feed scale ticks turn (arcs_by a.nanometres_a_second_squared f.arcs)
+
+pub record AreTurnedBy (scale : Scale) (ticks : ℕ) (turns : PerAxis ℕ) (f : Figures) : Type 0 where
+  pub x : IsTurnedBy scale ticks turns.x f.acceleration.x f
+  pub y : IsTurnedBy scale ticks turns.y f.acceleration.y f
+  pub z : IsTurnedBy scale ticks turns.z f.acceleration.z f
+
+-- rates, changes and turns are no greater than requested, on each axis
 pub record AreSafe (scale : Scale) (rates : Rates) (f : Figures) : Type 0 where
   pub feed : AreNoFaster scale rates.ticks rates.axis_rate f.feed
   pub corner : IsNoFaster scale rates.ticks rates.corner f.corner
@@ -57,6 +67,8 @@ pub record AreSafe (scale : Scale) (rates : Rates) (f : Figures) : Type 0 where
   -- the change of each axis by itself
   pub changes : AreFollowedBy scale rates.ticks rates.changes f.acceleration
   pub arcs : IsNoHarderOnArcs f.arc_feed scale rates.ticks rates.turn (arcs_of f)
+  -- and the turn of each axis by itself
+  pub turns : AreTurnedBy scale rates.ticks rates.turns f
 
 -- a number of steps is no longer than a length
 abbrev pub IsNoFarther : Scale → ℕ → Length → Type 0

@@ -171,7 +171,8 @@ pub struct Figures {
     /// The greatest change of an axis' speed where two motions meet. `None`: as `corner`. With 0 only
     /// `corner` counts.
     pub jump: Option<Speed>,
-    /// The greatest acceleration towards the centre of an arc. `None`: the least of the axes'.
+    /// The greatest acceleration towards the centre of an arc. `None`: that of each axis, and for all
+    /// of them the least.
     pub arcs: Option<Acceleration>,
     /// Ticks per second. `None`: about two for each step of the fastest axis.
     pub ticks: Option<u32>,

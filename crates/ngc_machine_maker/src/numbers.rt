@@ -24,6 +24,8 @@ pub struct MachineNumbers {
     pub changes: PerAxis<u32>,
     pub corner: u32,
     pub turn: u64,
+    /// The turn of each axis by itself, which is no key; `turn` is the least of them.
+    pub turns: PerAxis<u64>,
     pub axis_rate: PerAxis<u32>,
     pub jump: u32,
     pub ring: u32,
@@ -110,6 +112,7 @@ pub fn numbers_of(figures: &Figures) -> Result<MachineNumbers, FigureRefusal>
         changes: rates.changes,
         corner: rates.corner,
         turn: rates.turn,
+        turns: rates.turns,
         axis_rate: rates.axis_rate,
         jump: rates.jump,
         ring,

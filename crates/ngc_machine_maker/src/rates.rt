@@ -4,12 +4,12 @@ ghost use Rattle.ngc_machine_maker.specs.Formulas.{rate_of, change_of, turn_of, 
 ghost use Rattle.ngc_machine_maker.specs.Formulas.{each_rate, least};
 ghost use Rattle.ngc_machine_maker.specs.Formulas.{chosen_ticks, ticks_of, corner_of, jump_of, jump_speed};
 ghost use Rattle.ngc_machine_maker.specs.Formulas.{limited_change, each_change};
-ghost use Rattle.ngc_machine_maker.specs.Formulas.{limited_turn, arcs_of};
+ghost use Rattle.ngc_machine_maker.specs.Formulas.{limited_turn, arcs_by, each_turn};
 ghost use Rattle.ngc_machine_maker.specs.Formulas.{diagonal_turns};
-ghost use Rattle.ngc_machine_maker.specs.Formulas.{greatest_of, rates_of};
-ghost use Rattle.ngc_machine_maker.specs.Ranges.{IsScale, IsRate, AreRates, IsTurn, AreAllRates};
+ghost use Rattle.ngc_machine_maker.specs.Formulas.{rates_of};
+ghost use Rattle.ngc_machine_maker.specs.Ranges.{IsScale, IsRate, AreRates, IsTurn, AreTurns, AreAllRates};
 ghost use Rattle.ngc_machine_maker.specs.Safe.{IsNoMore, IsNoFaster, IsNoGreaterAcceleration, IsNoHarderOnArcs};
-ghost use Rattle.ngc_machine_maker.specs.Safe.{AreNoFaster, IsFollowedBy, AreFollowedBy, AreSafe};
+ghost use Rattle.ngc_machine_maker.specs.Safe.{AreNoFaster, IsFollowedBy, AreFollowedBy, AreTurnedBy, AreSafe};
 
 use crate::figures::{Acceleration, Axis, Figures, PerAxis, Speed};
 use crate::refusal::FigureRefusal;
@@ -32,6 +32,7 @@ pub(crate) struct Rates {
     pub changes: PerAxis<u32>,
     pub corner: u32,
     pub turn: u64,
+    pub turns: PerAxis<u64>,
     pub jump: u32,
 }
 
@@ -240,22 +241,42 @@ fn limited_turn(
     Ok(turn as u64)
 }
 
-// Returns the requested acceleration towards the centre of an arc.
-fn arcs_of(figures: &Figures) -> u64
-    ensures { result ≡ arcs_of figures.now }
+// Returns the turn for the requested acceleration towards the centre of an arc, or for another one
+// if none is requested.
+fn turn_by(
+    scale: &Scale,
+    ticks: u32,
+    otherwise: u64,
+    figures: &Figures,
+) -> Result<u64, FigureRefusal>
+    requires scale { IsScale scale.now }
+    requires ticks { IsRate ticks }
+    ensures value { result ≡ limited_turn figures.now.arc_feed scale.now ticks
+        (arcs_by otherwise figures.now.arcs) }
+    ensures range { IfOk result IsTurn }
+    ensures safe { IfOk result (λ turn.
+        IsNoHarderOnArcs figures.now.arc_feed scale.now ticks turn
+        (arcs_by otherwise figures.now.arcs)) }
 {
-    match figures.arcs {
+    let acceleration = match figures.arcs {
         Some(acceleration) => acceleration.nanometres_a_second_squared,
-        None => least(&figures.acceleration),
-    }
+        None => otherwise,
+    };
+    limited_turn(figures.arc_feed, scale, ticks, acceleration)
 }
 
-fn greatest_of(rates: &PerAxis<u32>) -> u32
-    requires { AreRates rates.now }
-    ensures value { result ≡ greatest_of rates.now }
-    ensures range { IsRate result }
+fn turns_of(scale: &Scale, ticks: u32, figures: &Figures) -> Result<PerAxis<u64>, FigureRefusal>
+    requires scale { IsScale scale.now }
+    requires ticks { IsRate ticks }
+    ensures value { result ≡ each_turn scale.now ticks figures.now }
+    ensures range { IfOk result AreTurns }
+    ensures safe { IfOk result (λ turns. AreTurnedBy scale.now ticks turns figures.now) }
 {
-    rates.x.max(rates.y).max(rates.z)
+    let own = &figures.acceleration;
+    let x = turn_by(scale, ticks, own.x.nanometres_a_second_squared, figures)?;
+    let y = turn_by(scale, ticks, own.y.nanometres_a_second_squared, figures)?;
+    let z = turn_by(scale, ticks, own.z.nanometres_a_second_squared, figures)?;
+    Ok(PerAxis { x, y, z })
 }
 
 /// Returns the rates of some figures, or the first that is refused.
@@ -267,11 +288,12 @@ pub(crate) fn rates_of(scale: &Scale, figures: &Figures) -> Result<Rates, Figure
 {
     let ticks = ticks_of(scale, figures)?;
     let axis_rate = axis_rates(scale, ticks, &figures.feed)?;
-    let max_rate = greatest_of(&axis_rate);
+    let max_rate = axis_rate.x.max(axis_rate.y).max(axis_rate.z);
     let corner = corner_of(scale, ticks, max_rate, figures.corner)?;
     let changes = changes_of(scale, ticks, &figures.acceleration)?;
     let change = changes.x.min(changes.y).min(changes.z);
-    let turn = limited_turn(figures.arc_feed, scale, ticks, arcs_of(figures))?;
+    let turn = turn_by(scale, ticks, least(&figures.acceleration), figures)?;
+    let turns = turns_of(scale, ticks, figures)?;
     Ok(Rates {
         ticks,
         axis_rate,
@@ -280,6 +302,7 @@ pub(crate) fn rates_of(scale: &Scale, figures: &Figures) -> Result<Rates, Figure
         changes,
         corner,
         turn,
+        turns,
         jump: jump_of(scale, ticks, corner, figures),
     })
 }

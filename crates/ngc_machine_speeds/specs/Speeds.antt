@@ -5,6 +5,7 @@ use Rattle.ngc_machine_files.specs.declared.machine.ArcFeed.{ArcFeed}
 use Rattle.ngc_machine_files.specs.declared.machine.ArcFeed.TheVariants as arc_feeds
 use Rattle.ngc_machine_files.specs.declared.machine.AxisLimits.{AxisLimits}
 use Rattle.ngc_machine_files.specs.declared.machine.AxisRates.{AxisRates}
+use Rattle.ngc_machine_files.specs.declared.machine.AxisTurns.{AxisTurns}
 use Rattle.ngc_motors.specs.declared.step.MotorStep.{MotorStep}
 
 -- a number in a unit, to the nearest; halves go up
@@ -52,7 +53,7 @@ abbrev pub acceleration : MachineFile → ℕ → ℕ
 acceleration m change = rounded (gain m change) 1000000000
 
 -- The greatest acceleration towards the centre of an arc with a radius of a step or more, in
--- turns. The machine's turn times the radius bounds the square of the rate, which is that of the
+-- turns. The arc's turn times the radius bounds the square of the rate, which is that of the
 -- axis that moves most. Where the arc runs along an axis, its speed is that rate. Where it runs
 -- diagonally, two axes have that rate: the square of the speed is twice as large, and so is the
 -- acceleration. If the turn holds at each place, the rate that is aimed at there is lower.
@@ -61,9 +62,21 @@ diagonal_turns arc_feeds.Off = 2
 diagonal_turns arc_feeds.Feed = 2
 diagonal_turns arc_feeds.FeedAndTurn = 1
 
+-- the turn in the plane in which it is greatest: each of its two axes must have it
+abbrev pub greatest_of_planes : AxisTurns → ℕ
+greatest_of_planes turns =
+    max (min turns.x turns.y) (max (min turns.z turns.x) (min turns.y turns.z))
+
+abbrev pub greatest_turn_by : Option AxisLimits → ℕ → ℕ
+greatest_turn_by None turn = turn
+greatest_turn_by (Some own) turn = min turn (greatest_of_planes own.turns)
+
+abbrev pub greatest_turn : MachineFile → ℕ
+greatest_turn m = greatest_turn_by m.own m.turn
+
 -- in millionths of a millionth of a nanometre per second squared
 abbrev pub pull : MachineFile → ℕ
-pull m = diagonal_turns m.arc_feed * gain m m.turn
+pull m = diagonal_turns m.arc_feed * gain m (greatest_turn m)
 
 abbrev pub arc_acceleration : MachineFile → ℕ
 arc_acceleration m = rounded (pull m) 1000000000000000

@@ -5,11 +5,12 @@ ghost use Rattle.ngc_machine_files.specs.Machine.{file_of};
 ghost use Rattle.ngc_machine_files.specs.Ranges.{AreRates};
 ghost use Rattle.ngc_machine_speeds.specs.Speeds.{rounded, step_speed, speed, gain};
 ghost use Rattle.ngc_machine_speeds.specs.Speeds.{axis_changes, millimetres_a_minute, acceleration};
-ghost use Rattle.ngc_machine_speeds.specs.Speeds.{diagonal_turns, pull, arc_acceleration, steps_a_millimetre};
+ghost use Rattle.ngc_machine_speeds.specs.Speeds.{diagonal_turns, greatest_of_planes, greatest_turn, pull};
+ghost use Rattle.ngc_machine_speeds.specs.Speeds.{arc_acceleration, steps_a_millimetre};
 ghost use Rattle.ngc_machine_speeds.specs.Speeds.{motor_steps_a_millimetre};
 
 use ngc_fixed_length::Nm;
-use ngc_machine_files::{ArcFeed, AxisRates, Machine};
+use ngc_machine_files::{ArcFeed, AxisRates, AxisTurns, Machine};
 use ngc_motors::MotorStep;
 use std::alloc::Allocator;
 
@@ -122,13 +123,35 @@ fn diagonal_turns(arc_feed: &ArcFeed) -> u128
     }
 }
 
+/// Returns the turn in the plane in which it is greatest.
+fn greatest_of_planes(turns: &AxisTurns) -> u64
+    ensures { result ≡ greatest_of_planes turns.now }
+{
+    let xy = turns.x.min(turns.y);
+    let zx = turns.z.min(turns.x);
+    let yz = turns.y.min(turns.z);
+    xy.max(zx.max(yz))
+}
+
+/// Returns the greatest turn of an arc on a machine: the machine's, or on a machine with limits of
+/// each axis that of the axes of a plane, if that is less.
+fn greatest_turn<A: Allocator>(machine: &Machine<A>) -> u64
+    ensures value { result ≡ greatest_turn (file_of machine.now) }
+    ensures bound { result ≤ 1000000000000 }
+{
+    match &machine.own {
+        None => machine.turn,
+        Some(own) => machine.turn.min(greatest_of_planes(&own.turns)),
+    }
+}
+
 /// Returns the greatest acceleration towards the centre of an arc that is aimed at, in millionths of
 /// a millionth of a nanometre per second squared.
 pub fn pull<A: Allocator>(machine: &Machine<A>) -> u128
     ensures value { result ≡ pull (file_of machine.now) }
     ensures bound { result ≤ 100000000000000000000000000000 }
 {
-    diagonal_turns(&machine.arc_feed) * gain(machine, machine.turn)
+    diagonal_turns(&machine.arc_feed) * gain(machine, greatest_turn(machine))
 }
 
 /// Returns the greatest acceleration towards the centre of an arc that is aimed at, in thousandths

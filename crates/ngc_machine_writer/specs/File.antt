@@ -51,7 +51,7 @@ ring_comment =
 unfoldable pub arc_feed_comment : List ℕ
 arc_feed_comment =
     codes "# `arc_feed`: if arcs run roughly, try 0 here, with half of `turn`, which is by default the\n"
-    ++ codes "# least acceleration. Then they are slower.\n"
+    ++ codes "# acceleration of each axis. Then they are slower.\n"
 
 abbrev pub arc_feed_of : Bool → ℕ
 arc_feed_of by_place = if by_place then 2 else 0

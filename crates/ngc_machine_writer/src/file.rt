@@ -106,7 +106,7 @@ fn say_arc_feed_comment<W: Sink>(page: &mut Page, output: &mut W)
     ensures { Says (W.written output.old) (W.written output.new)
         (W.failures output.old) (W.failures output.new) page.old page.new (spec.arc_feed_comment) }
 {
-    say!(page, output; b"# `arc_feed`: if arcs run roughly, try 0 here, with half of `turn`, which is by default the\n", b"# least acceleration. Then they are slower.\n");
+    say!(page, output; b"# `arc_feed`: if arcs run roughly, try 0 here, with half of `turn`, which is by default the\n", b"# acceleration of each axis. Then they are slower.\n");
 }
 
 fn arc_feed_of(by_place: bool) -> u32

@@ -45,6 +45,7 @@ fn grown(margin: Nm, fixture: &Fixture) -> Fixture
         low: lowered(margin, &fixture.low),
         high: raised(margin, &fixture.high),
         name: fixture.name,
+        system: fixture.system,
     }
 }
 

@@ -22,3 +22,9 @@ above_bottom tip bottom height apart h e =
           let z : height - apart ≡ 0 = omega (arith, more) in
           z ∙ none_below ((bottom +ℤ pos height) -ℤ tip) (omega (arith, ints, h, e, more)))
     ]
+
+pub depth_below : (tip bottom : ℤ) (apart : ℕ) → tip <ℤ bottom → apart ≡ unsigned_abs (tip -ℤ bottom) → apart ≡ natural_of (bottom -ℤ tip)
+depth_below tip bottom apart h e = natural_at (bottom -ℤ tip) apart (omega (arith, ints, h, e))
+
+pub no_depth_below : (tip bottom : ℤ) → bottom ≤ℤ tip → 0 ≡ natural_of (bottom -ℤ tip)
+no_depth_below tip bottom h = none_below (bottom -ℤ tip) (omega (arith, ints, h))

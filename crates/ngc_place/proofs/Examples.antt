@@ -24,6 +24,7 @@ vise = record {
   low = record { x = pos 70000000; y = pos 30000000; z = negsuc 99999999 };
   high = record { x = pos 90000000; y = pos 50000000; z = negsuc 4999999 };
   name = [];
+  system = 0;
 }
 
 -- travel X 0 mm to 300 mm, Y 0 mm to 300 mm, Z -100 mm to 0 mm; the axes start at 0

@@ -29,7 +29,8 @@ use Rattle.ngc_commands.specs.declared.movement.Way.{Way}
 use Rattle.ngc_commands.specs.declared.movement.Way.TheVariants.{Line, Arc}
 use Rattle.ngc_planner.specs.Headings.{is_level}
 use Rattle.ngc_planner.specs.Caps.{STEPS_LIMIT, cap_of}
-use Rattle.ngc_planner.specs.Bounds.{IsMotion, arc_turn, turn_rate, is_turn_by_place, diagonal_rate, steady_turn_on, steady_turn, aimed_at}
+use Rattle.ngc_planner.specs.Bounds.{IsMotion, turn_rate, is_turn_by_place, diagonal_rate, steady_turn_on, steady_turn, aimed_at}
+use Rattle.ngc_planner.specs.Turns.{arc_turn}
 use Rattle.ngc_planner.proofs.BoundLaws.{target_some, step_within, turn_kept}
 use Rattle.ngc_planner.specs.ArcFeed.{axis_distance, place_cap, rise, sloped_length, sloped_cap, feed_cap_at, arc_cap_at, way_cap_at, cap_at, target_on}
 use Rattle.ngc_planner.specs.ArcFeed.{is_feed_by_place, place_turn, turn_radius, arc_turn_at, way_turn_at, turn_at}

@@ -5,6 +5,7 @@ use Rattle.std.specs.Prelude.{◌*ℤ◌}
 use Rattle.ngc_fixed_length.specs.declared.modes.Plane.{Plane}
 use Rattle.ngc_fixed_length.specs.declared.modes.Plane.TheVariants.{XY, ZX}
 use Rattle.ngc_fixed_length.specs.declared.modes.Turn.TheVariants.{Clockwise}
+use Rattle.ngc_arc_geometry.specs.Shape.{ArcShape}
 use Rattle.ngc_machine_files.specs.Machine.{MachineFile, built_in_machine}
 use Rattle.ngc_commands.specs.declared.command.Action.{Action}
 use Rattle.ngc_commands.specs.declared.command.Action.TheVariants.{Move}
@@ -14,6 +15,7 @@ use Rattle.ngc_commands.specs.declared.movement.Way.TheVariants as ways
 use Rattle.ngc_fixed_length.specs.Roots.{whole_root}
 use Rattle.ngc_planner.specs.Bounds.{greatest_rate, turn_rate}
 use Rattle.ngc_planner.specs.Components.{by_component, change_of}
+use Rattle.ngc_planner.specs.Window.{way_at_greatest}
 use Rattle.ngc_planner.proofs.Examples.{at}
 
 -- belts on X and Y, and a screw on Z: a fifth of their rate and two fifths of their change
@@ -91,14 +93,17 @@ helix_level : rate_and_change (helix (pos 0)) 1000 ≡ (500000, 50)
 helix_level = refl
 
 -- whole circles of 1 mm in each plane: the least turn of its axes counts
-abbrev circle : Plane → Way
-circle plane = ways.Arc (record {
+abbrev arc_of : Plane → ArcShape
+arc_of plane = record {
   plane = plane;
   turn = Clockwise;
   start = at (pos 0) (pos 0) (pos 0);
   end = at (pos 0) (pos 0) (pos 0);
   centre = record { u = pos 1000000; v = pos 0 };
-})
+}
+
+abbrev circle : Plane → Way
+circle plane = ways.Arc (arc_of plane)
 
 turn_level : turn_rate router (circle XY) ≡ 70710
 unfolding whole_root
@@ -107,6 +112,14 @@ turn_level = refl
 turn_upright : turn_rate router (circle ZX) ≡ 44721
 unfolding whole_root
 turn_upright = refl
+
+-- the distance over which they turn by a heading's length at the greatest rate: 10^6 * 500,000^2 over
+-- the turn
+way_level : way_at_greatest router (arc_of XY) 1000000 ≡ 5000000000
+way_level = refl
+
+way_upright : way_at_greatest router (arc_of ZX) 1000000 ≡ 12500000000
+way_upright = refl
 
 -- a path never has fewer path steps than its axes go: with fewer the limit itself is kept
 few_steps : by_component 100000 1 3 ≡ 100000

@@ -3,21 +3,24 @@ use Rattle.std.proofs.Common.{◌≡◌, ◌⊎◌, inl, inr, ℕ, zero, suc, �
 use Rattle.std.specs.List.{AllByRecursion}
 use Rattle.std.proofs.lemmas.List.Elements.{All-from_recursion, recursion_from_All}
 use Rattle.std.proofs.lemmas.Bool.Decides.{nat_tests}
-use Rattle.std.proofs.lemmas.Nat.{mul-le}
 use Rattle.ngc_fixed_length.specs.Limits.{MILLION}
 use Rattle.ngc_fixed_length.specs.Grid.{distance}
 use Rattle.ngc_fixed_length.specs.declared.points.Point3.{Point3}
 use Rattle.ngc_machine_files.specs.Machine.{MachineFile}
+use Rattle.ngc_machine_files.specs.declared.machine.AxisTurns.{AxisTurns}
 use Rattle.ngc_commands.specs.declared.command.Action.TheVariants.{Move}
 use Rattle.ngc_commands.specs.declared.command.Command.{Command}
 use Rattle.ngc_commands.specs.declared.movement.Motion.{Motion}
 use Rattle.ngc_commands.specs.declared.movement.Way.{Way}
 use Rattle.ngc_planner.proofs.BoundLaws.{actions_least}
 use Rattle.ngc_planner.proofs.JointLaws.{into, keeps_jump}
-use Rattle.ngc_planner.proofs.WindowLaws.{less_times, rate_law, difference_small, heading_is, passing_is}
-use Rattle.ngc_planner.specs.Headings.{IsHeading, difference_of, start_vector, end_vector, start_heading, end_heading}
+use Rattle.ngc_planner.proofs.TurnLaws.{differences_small, value_of_one, axes_rate_law}
+use Rattle.ngc_planner.proofs.WindowLaws.{less_times, rate_law, heading_is, passing_is}
+use Rattle.ngc_planner.specs.declared.displacement.AxisDifferences.{AxisDifferences}
+use Rattle.ngc_planner.specs.Headings.{IsHeading, AreDifferences, differences, greatest_difference, start_vector, end_vector, start_heading, end_heading}
 use Rattle.ngc_planner.specs.Window.{Passed, passing_heading, way_of, way_on, passed_with, passed_on, window}
-use Rattle.ngc_planner.specs.Joints.{rate_through, joint_by_headings, plain_joint, joint_of, MayHead, heading_rate, MayHeadFrom, rate_from_all, joint_by_window, joint_of_actions, KeepsTurn, IsBetween, KeepsJumpInWindow, IsGreatestOfWindow, KeepsTurnInWindow}
+use Rattle.ngc_planner.specs.Turns.{axis_turns}
+use Rattle.ngc_planner.specs.Joints.{rate_through, joint_by_headings, plain_joint, joint_of, MayHead, heading_rate, axes_heading_rate, MayHeadFrom, rate_from_all, joint_by_window, joint_of_actions, KeepsTurn, IsBetween, KeepsJumpInWindow, IsGreatestOfWindow, KeepsTurnInWindow}
 
 -- ---- the two neighbours
 
@@ -32,10 +35,20 @@ at_once jump turn n few =
     let law = (rate_law jump turn n 0 v few).0 (omega arith) in
     into (n == 0) jump n v refl law.0 (slow_enough jump turn n v law.1)
 
+all_at_once : (jump : ℕ) (turns : AxisTurns) (n : AxisDifferences) → AreDifferences n → axes_heading_rate jump turns n 0 ≤ rate_through jump (greatest_difference n)
+all_at_once jump turns n few =
+    let x = at_once jump turns.x n.x few.x in
+    let y = at_once jump turns.y n.y few.y in
+    let z = at_once jump turns.z n.z few.z in
+    elim (value_of_one (λ d. rate_through jump d) n.x n.y n.z) [
+      | inl first ↦ omega (arith, x, first)
+      | inr others ↦ elim others [ inl second ↦ omega (arith, y, second) | inr third ↦ omega (arith, z, third) ]
+    ]
+
 window_most : (m : MachineFile) (w : Way) (before : List Command) (d e : Option Point3) → ((p : Point3) → d ≡ Some p → IsHeading p) → ((p : Point3) → e ≡ Some p → IsHeading p) →
     joint_by_window m w before d e ≤ joint_by_headings m.corner m.jump d e
 window_most m w before (Some d) (Some e) first next =
-    let rate = at_once m.jump m.turn (difference_of d e) (difference_small d e (first d refl) (next e refl)) in
+    let rate = all_at_once m.jump (axis_turns m) (differences d e) (differences_small d e (first d refl) (next e refl)) in
     omega (arith, rate)
 window_most m w before (Some d) None first next = omega arith
 window_most m w before None e first next = omega arith
@@ -80,7 +93,7 @@ all_out : (m : MachineFile) (e : Point3) (v : ℕ) (ps : List Passed) → IsHead
     (v ≤ MILLION) × AllByRecursion (MayHeadFrom m e v) ps
 all_out m e v [] next each h = (h, tt)
 all_out m e v (p ∷ ps) next each h =
-    let here = (rate_law m.jump m.turn (difference_of p.heading e) p.way v (difference_small p.heading e each.0 next)).0 (omega (arith, h)) in
+    let here = (axes_rate_law m.jump (axis_turns m) (differences p.heading e) p.way v (differences_small p.heading e each.0 next)).0 (omega (arith, h)) in
     let afterwards = all_out m e v ps next each.1 (omega (arith, h)) in
     (here.0, (here.1, afterwards.1))
 
@@ -88,7 +101,7 @@ all_in : (m : MachineFile) (e : Point3) (v : ℕ) (ps : List Passed) → IsHeadi
     v ≤ rate_from_all m e ps
 all_in m e v [] next each small may = small
 all_in m e v (p ∷ ps) next each small may =
-    let here = (rate_law m.jump m.turn (difference_of p.heading e) p.way v (difference_small p.heading e each.0 next)).1 (small, may.0) in
+    let here = (axes_rate_law m.jump (axis_turns m) (differences p.heading e) p.way v (differences_small p.heading e each.0 next)).1 (small, may.0) in
     let afterwards = all_in m e v ps next each.1 small may.1 in
     omega (arith, here, afterwards)
 
@@ -114,14 +127,14 @@ greatest_of_window m before w x d e v ends starts =
 
 -- ---- at a constant rate through the window
 
-one_axis : (jump turn n way v a : ℕ) → a ≤ n → MayHead jump turn n way v → v * (v * a) ≤ MILLION * (jump * v) + turn * way
-one_axis jump turn n way v a less may = let p = mul-le (v * v) a (v * v) n (omega arith) less in omega (arith, p, may)
+one_axis : (jump turn n way v : ℕ) → MayHead jump turn n way v → v * (v * n) ≤ MILLION * (jump * v) + turn * way
+one_axis jump turn n way v may = omega (arith, may)
 
 turns_within : (m : MachineFile) (v : ℕ) (e : Point3) (p : Passed) → MayHeadFrom m e v p → KeepsTurn m v e p
 turns_within m v e p may = record {
-  x = one_axis m.jump m.turn (difference_of p.heading e) p.way v (distance p.heading.x e.x) (omega arith) may;
-  y = one_axis m.jump m.turn (difference_of p.heading e) p.way v (distance p.heading.y e.y) (omega arith) may;
-  z = one_axis m.jump m.turn (difference_of p.heading e) p.way v (distance p.heading.z e.z) (omega arith) may;
+  x = one_axis m.jump (axis_turns m).x (distance p.heading.x e.x) p.way v may.x;
+  y = one_axis m.jump (axis_turns m).y (distance p.heading.y e.y) p.way v may.y;
+  z = one_axis m.jump (axis_turns m).z (distance p.heading.z e.z) p.way v may.z;
 }
 
 pub keeps_turn_in_window : KeepsTurnInWindow

@@ -22,12 +22,14 @@ pub mod StraightLaws
 pub mod JointLaws
 -- The rates that a window allows.
 pub mod WindowLaws
+-- What the turns of the axes allow: on each axis a window is one of its own.
+pub mod TurnLaws
 -- The joint over a window compared with that of the two neighbours, and its properties.
 pub mod JointWindowLaws
 -- The motions passed before a joint: what a block of them allows, and how a trail follows the
 -- commands.
 pub mod TrailLaws
--- Where a path is smooth, a window allows each rate that the machine's turn allows.
+-- Where a path is smooth, a window allows each rate that the turns of the axes allow.
 pub mod SmoothLaws
 -- Joints over a window, by evaluating the definitions.
 pub mod WindowExamples

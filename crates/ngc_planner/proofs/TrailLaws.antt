@@ -19,11 +19,13 @@ use Rattle.ngc_commands.specs.declared.command.Command.{Command}
 use Rattle.ngc_planner.specs.declared.trail.Block.{Block}
 use Rattle.ngc_planner.specs.declared.trail.Look.{Look}
 use Rattle.ngc_planner.specs.declared.trail.Mark.{Mark}
-use Rattle.ngc_planner.specs.Headings.{IsHeading, difference_of}
-use Rattle.ngc_planner.specs.Joints.{MayHead, heading_rate, rate_from, rate_from_all, joint_at, joint_before}
+use Rattle.ngc_planner.specs.declared.displacement.AxisDifferences.{AxisDifferences}
+use Rattle.ngc_planner.specs.Headings.{IsHeading, AreDifferences, differences, greater_differences}
+use Rattle.ngc_planner.specs.Joints.{AxesMayHead, rate_from, rate_from_all, joint_at, joint_before}
 use Rattle.ngc_planner.specs.Trail.{Passage, TrailData, JointsData, passage_with, passages, measured, trail_on, trail_before, joints_before, LiesBetween, length_along, IsBlock, Describes, passage_of, IsMark, IsTrail, IsSameRate, LONGEST}
+use Rattle.ngc_planner.specs.Turns.{axis_turns}
 use Rattle.ngc_planner.specs.Window.{window_length, passing_heading, way_on, passed_with, passed_on, earlier}
-use Rattle.ngc_planner.proofs.WindowLaws.{rate_law, difference_small}
+use Rattle.ngc_planner.proofs.TurnLaws.{differences_small, axes_may_less, axes_rate_law}
 
 -- ---- the distances on a trail are those on the commands
 
@@ -56,48 +58,57 @@ passages_front m (suc n) (c ∷ cs) =
 between_x : (a b d e : ℤ) → a ≤ℤ d → d ≤ℤ b → distance d e ≤ max (distance a e) (distance b e)
 between_x a b d e h k = omega (arith, ints, h, k)
 
-pub between_least : (least greatest d e : Point3) → LiesBetween least greatest d → difference_of d e ≤ max (difference_of least e) (difference_of greatest e)
-between_least a b d e h =
-    let x = between_x a.x b.x d.x e.x h.x.0 h.x.1 in
-    let y = between_x a.y b.y d.y e.y h.y.0 h.y.1 in
-    let z = between_x a.z b.z d.z e.z h.z.0 h.z.1 in
-    omega (arith, x, y, z)
+-- the most by which a heading between two others differs from e
+abbrev most_between : (least greatest e : Point3) → AxisDifferences
+most_between a b e = greater_differences (differences a e) (differences b e)
 
 -- ---- a block that lowers no rate
 
-may_less : (jump turn n most way w v : ℕ) → n ≤ most → way ≤ w → MayHead jump turn most way v → MayHead jump turn n w v
-may_less jump turn n most way w v few more h =
-    let less = mul-le (v * v) n (v * v) most (omega arith) few in
-    let longer = mul-le turn way turn w (omega arith) more in
-    omega (arith, h, less, longer)
+-- a heading between two others lowers no rate that may change by the most by which they differ
+free_of : (m : MachineFile) (e a b d : Point3) (v way w : ℕ) → AreDifferences (most_between a b e) → v ≤ MILLION → way ≤ w →
+    AxesMayHead m.jump (axis_turns m) (most_between a b e) way v → LiesBetween a b d → v ≤ rate_from m e (record { heading = d; way = w })
+free_of m e a b d v way w few small more may h =
+    let x = between_x a.x b.x d.x e.x h.x.0 h.x.1 in
+    let y = between_x a.y b.y d.y e.y h.y.0 h.y.1 in
+    let z = between_x a.z b.z d.z e.z h.z.0 h.z.1 in
+    (axes_rate_law m.jump (axis_turns m) (differences d e) w v (record { x = omega (arith, x, few.x); y = omega (arith, y, few.y); z = omega (arith, z, few.z) })).1
+    (small, axes_may_less m.jump (axis_turns m) (differences d e) (most_between a b e) way w v x y z more may)
 
--- n headings between two others, each passed at least way ago, lower no rate that may change by the greatest difference
-free_front : (m : MachineFile) (e a b : Point3) (v way w most n : ℕ) (ps : List Passage) → most ≡ max (difference_of a e) (difference_of b e) → most ≤ 2000000 →
-    v ≤ MILLION → way ≤ w → MayHead m.jump m.turn most way v → AllByRecursion (λ p. LiesBetween a b p.heading) (take n ps) →
+passed_free : (v h x : ℕ) → v ≤ h → min v (min h x) ≡ min v x
+passed_free v h x free = omega (arith, free)
+
+-- so do n such headings, each passed at least way ago
+free_front : (m : MachineFile) (e a b : Point3) (v way w n : ℕ) (ps : List Passage) → AreDifferences (most_between a b e) →
+    v ≤ MILLION → way ≤ w → AxesMayHead m.jump (axis_turns m) (most_between a b e) way v → AllByRecursion (λ p. LiesBetween a b p.heading) (take n ps) →
     min v (rate_from_all m e (measured w ps)) ≡ min v (rate_from_all m e (measured (w + length_along (take n ps)) (drop n ps)))
-free_front m e a b v way w most zero ps is few small more may all = ap (λ x. min v (rate_from_all m e (measured x ps))) (omega arith)
-free_front m e a b v way w most (suc n) [] is few small more may all = refl
-free_front m e a b v way w most (suc n) (p ∷ ps) is few small more may all =
-    let within = between_least a b p.heading e all.0 in
-    let here = (rate_law m.jump m.turn (difference_of p.heading e) w v (omega (arith, within, is, few))).1
-    (small, may_less m.jump m.turn (difference_of p.heading e) most way w v (omega (arith, within, is)) more may) in
-    let afterwards = free_front m e a b v way (w + p.length) most n ps is few small (omega (arith, more)) may all.1 in
+free_front m e a b v way w zero ps few small more may all = ap (λ x. min v (rate_from_all m e (measured x ps))) (omega arith)
+free_front m e a b v way w (suc n) [] few small more may all = refl
+free_front m e a b v way w (suc n) (p ∷ ps) few small more may all =
+    let here = free_of m e a b p.heading v way w few small more may all.0 in
+    let afterwards = free_front m e a b v way (w + p.length) n ps few small (omega (arith, more)) may all.1 in
     let sum : w + p.length + length_along (take n ps) ≡ w + (p.length + length_along (take n ps)) = omega arith in
-    let step : min v (min (heading_rate m.jump m.turn (difference_of p.heading e) w) (rate_from_all m e (measured (w + p.length) ps)))
-    ≡ min v (rate_from_all m e (measured (w + p.length) ps)) = omega (arith, here) in
-    step ∙ (afterwards ∙ ap (λ x. min v (rate_from_all m e (measured x (drop n ps)))) sum)
+    passed_free v (rate_from m e (record { heading = p.heading; way = w })) (rate_from_all m e (measured (w + p.length) ps)) here
+    ∙ (afterwards ∙ ap (λ x. min v (rate_from_all m e (measured x (drop n ps)))) sum)
+
+pub block_small : (b : Block) (e : Point3) → IsBlock b → IsHeading e → AreDifferences (most_between b.least b.greatest e)
+block_small b e is next =
+    let least = differences_small b.least e is.least next in
+    let greatest = differences_small b.greatest e is.greatest next in record {
+      x = omega (arith, least.x, greatest.x);
+      y = omega (arith, least.y, greatest.y);
+      z = omega (arith, least.z, greatest.z);
+    }
 
 ended : (x y : ℕ) (ps : List Passage) → ps ≡ [] → measured x ps ≡ measured y ps
 ended x y ps none = rw none refl
 
 -- past a block from which no heading lowers the rate
-pub past_block : (m : MachineFile) (e : Point3) (b : Block) (v way most : ℕ) (ps : List Passage) → IsBlock b → Describes b ps → IsHeading e → most ≡ max (difference_of b.least e) (difference_of b.greatest e) →
-    v ≤ MILLION → MayHead m.jump m.turn most way v →
+pub past_block : (m : MachineFile) (e : Point3) (b : Block) (v way : ℕ) (most : AxisDifferences) (ps : List Passage) → IsBlock b → Describes b ps → IsHeading e →
+    most ≡ most_between b.least b.greatest e → v ≤ MILLION → AxesMayHead m.jump (axis_turns m) most way v →
     min v (rate_from_all m e (measured way ps)) ≡ min v (rate_from_all m e (measured (way + b.length) (drop b.count ps)))
 past_block m e b v way most ps is has next same small may =
-    let least = difference_small b.least e is.least next in
-    let greatest = difference_small b.greatest e is.greatest next in
-    let free = free_front m e b.least b.greatest v way way most b.count ps same (omega (arith, same, least, greatest)) small (omega arith) may has.each in
+    let all = subst (λ n. AxesMayHead m.jump (axis_turns m) n way v) same may in
+    let free = free_front m e b.least b.greatest v way way b.count ps (block_small b e is next) small (omega arith) all has.each in
     elim (cases_lt (length ps) b.count) [
       | inl fewer ↦ (let none : drop b.count ps ≡ [] = drop_all b.count ps (omega (arith, fewer)) in
           free ∙ ap (λ xs. min v (rate_from_all m e xs)) (ended (way + length_along (take b.count ps)) (way + b.length) (drop b.count ps) none))

@@ -1,5 +1,5 @@
 -- Joints over a window, by evaluating the definitions.
-use Rattle.std.proofs.Common.{◌≡◌, ℕ, zero, suc, ◌+◌, pos, negsuc, Bool, true, false, List, [], ◌∷◌, refl}
+use Rattle.std.proofs.Common.{◌≡◌, ℕ, zero, suc, ◌+◌, pos, negsuc, Bool, true, false, Some, List, [], ◌∷◌, refl}
 use Rattle.ngc_fixed_length.specs.Roots.{whole_root}
 use Rattle.ngc_fixed_length.specs.declared.modes.Turn.TheVariants.{Counterclockwise}
 use Rattle.ngc_fixed_length.specs.declared.points.Point3.{Point3}
@@ -100,6 +100,48 @@ window_corner : joint_at (turning 1000000000) (straight (at (pos 0) (pos 0) (pos
     ∷ straight (at (pos 1000000) (pos 100000) (pos 0)) (at (pos 1000000) (pos 2000000) (pos 0)) ∷ []) 1 ≡ 110498
 unfolding whole_root
 window_corner = refl
+
+-- ---- each axis has a turn of its own. The values were computed by an independent program
+
+abbrev turning_by : ℕ → ℕ → ℕ → MachineFile
+turning_by x y z = record (turning 1000000000) {
+  own = Some (record {
+    changes = record { x = 1000; y = 1000; z = 1000 };
+    turns = record { x = x; y = y; z = z };
+  });
+}
+
+-- the heading of the chords changes on y alone, and only the turn of y matters
+window_weak_others : joint_at (turning_by 1000000 100000000 1000000) (chords (straight (at (pos 400000) (pos 60000) (pos 0)) (at (pos 500000) (pos 100000) (pos 0)))) 7 ≡ 106872
+unfolding whole_root
+window_weak_others = refl
+
+-- 56160^2 * 800000 ≤ 10^6 * (20000 * 56160 + 2 * 10^7 * 70)
+window_weak_y : joint_at (turning_by 100000000 20000000 100000000) (chords (straight (at (pos 400000) (pos 60000) (pos 0)) (at (pos 500000) (pos 100000) (pos 0)))) 7 ≡ 56160
+unfolding whole_root
+window_weak_y = refl
+
+-- after a right angle from x to y both of them count, and z does not
+abbrev right_angle : List Command
+right_angle =
+    straight (at (pos 0) (pos 0) (pos 0)) (at (pos 1000000) (pos 0) (pos 0))
+    ∷ straight (at (pos 1000000) (pos 0) (pos 0)) (at (pos 1000000) (pos 100000) (pos 0))
+    ∷ straight (at (pos 1000000) (pos 100000) (pos 0)) (at (pos 1000000) (pos 2000000) (pos 0)) ∷ []
+
+window_weak_z : joint_at (turning_by 1000000000 1000000000 1000000) right_angle 1 ≡ 110498
+unfolding whole_root
+window_weak_z = refl
+
+window_weak_x : joint_at (turning_by 100000000 1000000000 1000000000) right_angle 1 ≡ 43166
+unfolding whole_root
+window_weak_x = refl
+
+-- an axis has no greater turn than the machine
+window_of_the_machine : joint_at (record (turning_by 1000000000 1000000000 1000000000) { turn = 100000000 }) right_angle 1 ≡ 43166
+unfolding whole_root
+window_of_the_machine = refl
+
+-- ---- arcs
 
 -- A quarter of a circle of 500 steps from x to y, and ten steps on: a million millionths over 510
 -- steps, and 236053^2 * 10^6 ≤ 10^6 * 20000 * 236053 + 10^8 * 510 * 10^6. The arc turns by a

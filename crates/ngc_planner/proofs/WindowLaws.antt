@@ -21,8 +21,8 @@ use Rattle.ngc_commands.specs.declared.command.Command.{Command}
 use Rattle.ngc_commands.specs.declared.movement.Way.{Way}
 use Rattle.ngc_planner.proofs.HeadingLaws.{heading_small}
 use Rattle.ngc_planner.specs.Headings.{IsHeading, greatest_size, in_millionths, heading_of, difference_of, difference_between, end_vector}
-use Rattle.ngc_planner.specs.Window.{is_still, passing_heading, way_of, passed_on, window}
-use Rattle.ngc_planner.specs.Joints.{MayHead, may_head, greatest_root, heading_rate, rate_from_all}
+use Rattle.ngc_planner.specs.Window.{is_still, passing_heading}
+use Rattle.ngc_planner.specs.Joints.{MayHead, may_head, greatest_root, heading_rate}
 
 -- ---- the greatest root
 
@@ -282,20 +282,3 @@ round_small n r g q few near least greatest is =
     let some : q * 500 ≤ q * g = mul-le q 500 q g (omega arith) least in
     let rounded : q * g < n * r + g = rw is times in
     omega (arith, whole, some, rounded, greatest)
-
--- ---- a window
-
-heading_rate_most : (jump turn n way : ℕ) → n ≤ 2000000 → heading_rate jump turn n way ≤ MILLION
-heading_rate_most jump turn n way few = ((rate_law jump turn n way (heading_rate jump turn n way) few).0 (omega arith)).0
-
-least_of_both : (r rate h x y : ℕ) → r ≡ min rate x → rate ≡ min MILLION h → h ≤ MILLION → y ≡ x → r ≡ min h y
-least_of_both r rate h x y p q s t = omega (arith, p, q, s, t)
-
-pub whole_window : (m : MachineFile) (e d : Point3) (w : Way) (cs : List Command) (rate r way : ℕ) → IsHeading d → IsHeading e →
-    way ≡ way_of m w → rate ≡ min MILLION (heading_rate m.jump m.turn (difference_of d e) 0) →
-    r ≡ min rate (rate_from_all m e (passed_on m way cs)) → r ≡ rate_from_all m e (window m d w cs)
-whole_window m e d w cs rate r way passed next length first all =
-    let most = heading_rate_most m.jump m.turn (difference_of d e) 0 (difference_small d e passed next) in
-    let h = heading_rate m.jump m.turn (difference_of d e) 0 in
-    let afterwards : rate_from_all m e (passed_on m (way_of m w) cs) ≡ rate_from_all m e (passed_on m way cs) = ap (λ n. rate_from_all m e (passed_on m n cs)) (sym length) in
-    least_of_both r rate h (rate_from_all m e (passed_on m way cs)) _ all first most afterwards

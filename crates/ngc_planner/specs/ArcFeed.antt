@@ -23,10 +23,11 @@ use Rattle.ngc_commands.specs.declared.movement.Pace.{Pace}
 use Rattle.ngc_commands.specs.declared.movement.Pace.TheVariants as paces
 use Rattle.ngc_commands.specs.declared.movement.Way.{Way}
 use Rattle.ngc_commands.specs.declared.movement.Way.TheVariants.{Line, Arc}
-use Rattle.ngc_planner.specs.Bounds.{arc_turn, turn_rate, is_turn_by_place, diagonal_rate}
+use Rattle.ngc_planner.specs.Bounds.{turn_rate, is_turn_by_place, diagonal_rate}
 use Rattle.ngc_planner.specs.Bounds.{aimed_at, target_at}
 use Rattle.ngc_planner.specs.Caps.{STEPS_LIMIT, square, cap_of}
 use Rattle.ngc_planner.specs.Headings.{is_level}
+use Rattle.ngc_planner.specs.Turns.{arc_turn}
 
 -- the distance of a grid point from an arc's centre, along the axis of the plane on which it is
 -- greater

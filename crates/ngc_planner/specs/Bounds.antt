@@ -1,15 +1,11 @@
 -- The allowed rates of a tick on a motion, and its target rate. Our own.
 use Rattle.std.specs.Prelude.{◌≡◌, ℕ, ◌*◌, ◌/◌, ◌≤◌, ◌↔◌, min, max, ◌==◌, unsigned_abs}
-use Rattle.std.specs.Prelude.{List, Bool, true, false, if◌then◌else◌, Option, Some, None}
+use Rattle.std.specs.Prelude.{List, Bool, true, false, if◌then◌else◌}
 use Rattle.ngc_fixed_length.specs.Roots.{whole_root}
-use Rattle.ngc_fixed_length.specs.declared.modes.Plane.{Plane}
-use Rattle.ngc_fixed_length.specs.declared.modes.Plane.TheVariants.{XY, ZX, YZ}
 use Rattle.ngc_arc_geometry.specs.Radii.{inner_radius}
 use Rattle.ngc_arc_geometry.specs.Shape.{ArcShape}
 use Rattle.ngc_machine_files.specs.Machine.{MachineFile}
 use Rattle.ngc_machine_files.specs.MachineRanges.{IsMachine}
-use Rattle.ngc_machine_files.specs.declared.machine.AxisLimits.{AxisLimits}
-use Rattle.ngc_machine_files.specs.declared.machine.AxisTurns.{AxisTurns}
 use Rattle.ngc_machine_files.specs.declared.machine.ArcFeed.{ArcFeed}
 use Rattle.ngc_machine_files.specs.declared.machine.ArcFeed.TheVariants as arc_feeds
 use Rattle.ngc_commands.specs.declared.command.Action.{Action}
@@ -22,20 +18,7 @@ use Rattle.ngc_planner.specs.Components.{MayMoveAxes, axes_bound, change_of}
 use Rattle.ngc_fixed_length.specs.Limits.{MILLION}
 use Rattle.ngc_planner.specs.Caps.{cap_of}
 use Rattle.ngc_planner.specs.Joints.{joint_at, joint_before}
-
--- the turn on an arc: that of the machine, or on a machine with limits of each axis the least of it
--- and of the turns of the plane's axes
-abbrev pub plane_turn : Plane → AxisTurns → ℕ
-plane_turn XY turns = min turns.x turns.y
-plane_turn ZX turns = min turns.z turns.x
-plane_turn YZ turns = min turns.y turns.z
-
-abbrev pub turn_in : Option AxisLimits → ℕ → Plane → ℕ
-turn_in None turn plane = turn
-turn_in (Some limits) turn plane = min turn (plane_turn plane limits.turns)
-
-abbrev pub arc_turn : MachineFile → ArcShape → ℕ
-arc_turn machine a = turn_in machine.own machine.turn a.plane
+use Rattle.ngc_planner.specs.Turns.{arc_turn}
 
 -- on an arc v*v*step is at most its turn times the radius
 abbrev pub MayTurnOn : MachineFile → Way → ℕ → Type 0

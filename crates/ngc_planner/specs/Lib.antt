@@ -3,6 +3,7 @@ pub mod Components
 pub mod Caps
 pub mod Bounds
 pub mod Headings
+pub mod Turns
 pub mod ArcFeed
 pub mod Joints
 pub mod Window

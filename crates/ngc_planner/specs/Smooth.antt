@@ -12,7 +12,7 @@ use Rattle.ngc_planner.specs.Headings.{start_heading, end_heading}
 use Rattle.ngc_planner.specs.Joints.{joint_by_window}
 use Rattle.ngc_planner.specs.Window.{passing_heading}
 
--- a path from heading d to heading e; on an arc the machine's turn allows the rate v
+-- a path from heading d to heading e; on an arc its turn allows the rate v
 pub record LeadsTo (machine : MachineFile) (v : ℕ) (d e : Point3) (w : Way) : Type 0 where
   pub starts : start_heading w ≡ Some d
   pub ends : end_heading w ≡ Some e
@@ -26,7 +26,7 @@ LeadSmoothlyTo machine v e (c ∷ cs) = (passing_heading machine c.action ≡ No
     ((m : Motion) × (d : Point3) × (c.action ≡ Move m) × LeadsTo machine v d e m.way ×
     LeadSmoothlyTo machine v d cs)
 
--- where they do, the joint allows each rate that the machine and its turn allow
+-- where they do, the joint allows each rate that the machine and the arcs' turns allow
 abbrev pub IsFreeWhereSmooth : Type 0
 IsFreeWhereSmooth =
     (machine : MachineFile) (before : List Command) (w x : Way) (d e : Point3) (v : ℕ) →

@@ -14,6 +14,7 @@ use Rattle.ngc_commands.specs.declared.command.Command.{Command}
 use Rattle.ngc_commands.specs.declared.movement.Way.{Way}
 use Rattle.ngc_commands.specs.declared.movement.Way.TheVariants.{Line, Arc}
 use Rattle.ngc_planner.specs.Headings.{end_heading, turned_on}
+use Rattle.ngc_planner.specs.Turns.{arc_turn}
 
 -- the greatest number of motions in a window: as many as the ring has, and at least 32
 abbrev pub window_length : MachineFile → ℕ
@@ -28,12 +29,13 @@ pub record Passed : Type 0 where
 abbrev pub line_steps : MachineFile → Point3 → Point3 → ℕ
 line_steps machine b e = greatest_distance (grid machine.step b) (grid machine.step e)
 
--- the distance over which the machine's turn allows n millionths at its greatest rate, in millionths
--- of a path step, rounded up
-abbrev pub way_at_greatest : MachineFile → ℕ → ℕ
-way_at_greatest machine n = div_ceil (n * (machine.max_rate * machine.max_rate)) machine.turn
+-- the distance over which an arc's turn allows n millionths at the machine's greatest rate, in
+-- millionths of a path step, rounded up
+abbrev pub way_at_greatest : MachineFile → ArcShape → ℕ → ℕ
+way_at_greatest machine a n =
+    div_ceil (n * (machine.max_rate * machine.max_rate)) (arc_turn machine a)
 
--- the same at the greatest rate that it allows on an arc: n millionths of the radius
+-- the same at the greatest rate that the turn allows on the arc: n millionths of the radius
 abbrev pub way_round : MachineFile → ArcShape → ℕ → ℕ
 way_round machine a n =
     div_ceil (n * max (inner_radius a) (unsigned_abs machine.step)) (unsigned_abs machine.step)
@@ -41,7 +43,7 @@ way_round machine a n =
 -- the distance that an arc's own turn needs
 abbrev pub turn_way : MachineFile → ArcShape → ℕ
 turn_way machine a =
-    min (way_round machine a (turned_on a)) (way_at_greatest machine (turned_on a))
+    min (way_round machine a (turned_on a)) (way_at_greatest machine a (turned_on a))
 
 -- the distance that a motion counts, in millionths of a path step: its path steps, or on an arc what
 -- its turn needs, if that is more

@@ -3,16 +3,17 @@ ghost use Rattle.ngc_machine_files.specs.Machine.{file_of};
 ghost use Rattle.ngc_planner.specs.Components.{axes_bound};
 ghost use Rattle.ngc_fixed_length.specs.Limits.{MILLION};
 ghost use Rattle.ngc_planner.specs.Caps.{STEPS_LIMIT};
-ghost use Rattle.ngc_planner.specs.Bounds.{IsMotion, plane_turn, turn_in, arc_rate, turn_rate, turn_bound};
+ghost use Rattle.ngc_planner.specs.Bounds.{IsMotion, arc_rate, turn_rate, turn_bound};
 ghost use Rattle.ngc_planner.specs.Bounds.{greatest_rate, bound_of, overridden, aimed_at, target_at};
 ghost use Rattle.ngc_planner.specs.Bounds.{is_turn_by_place, diagonal_rate, steady_turn_on, steady_turn};
 
 use crate::caps::cap_of;
 use crate::components::axes_rate;
+use crate::turns::arc_turn;
 use ngc_arc_geometry::Arc;
 use ngc_commands::{Action, Way};
-use ngc_fixed_length::{Plane, root_floor};
-use ngc_machine_files::{ArcFeed, AxisTurns, Machine};
+use ngc_fixed_length::root_floor;
+use ngc_machine_files::{ArcFeed, Machine};
 use std::alloc::Allocator;
 
 /// Returns the greatest rate on an arc, for steps of `step` nanometres.
@@ -26,29 +27,6 @@ fn arc_rate(arc: &Arc, turn: u64, step: u64) -> u64
     root_floor(u128::from(turn) * u128::from(radius) / u128::from(step))
 }
 
-/// Returns the lesser turn of the two axes of a plane.
-fn plane_turn(plane: Plane, turns: &AxisTurns) -> u64
-    ensures { result ≡ plane_turn plane turns.now }
-{
-    match plane {
-        Plane::XY => turns.x.min(turns.y),
-        Plane::ZX => turns.z.min(turns.x),
-        Plane::YZ => turns.y.min(turns.z),
-    }
-}
-
-/// Returns the turn on the arcs of a plane: the machine's, or on a machine with limits of each axis
-/// the least of it and of the turns of the plane's axes.
-fn turn_in<A: Allocator>(plane: Plane, machine: &Machine<A>) -> u64
-    ensures value { result ≡ turn_in machine.now.own machine.now.turn plane }
-    ensures greatest { result ≤ 10 ^ 12 }
-{
-    match &machine.own {
-        None => machine.turn,
-        Some(limits) => machine.turn.min(plane_turn(plane, &limits.turns)),
-    }
-}
-
 /// Returns the greatest rate that the turn allows on an arc. On a line it returns
 /// 1,000,000, which no rate exceeds.
 pub fn turn_rate<A: Allocator>(way: &Way, machine: &Machine<A>) -> u64
@@ -57,7 +35,7 @@ pub fn turn_rate<A: Allocator>(way: &Way, machine: &Machine<A>) -> u64
     match way {
         Way::Line { .. } => 1_000_000,
         Way::Arc(arc) => {
-            let turn = turn_in(arc.plane(), machine);
+            let turn = arc_turn(arc, machine);
             arc_rate(arc, turn, machine.step.nanometres().unsigned_abs())
         }
     }

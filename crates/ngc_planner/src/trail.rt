@@ -1,17 +1,17 @@
 //! The motions that were passed before a joint, in blocks, so that a joint need not look at each.
-ghost use Rattle.std.specs.Prelude.{◌≡◌, ◌+◌, ◌*◌, ◌≤◌, ◌<◌, List, [], ◌∷◌, take, map, min, max};
+ghost use Rattle.std.specs.Prelude.{◌≡◌, ◌+◌, ◌*◌, ◌≤◌, ◌<◌, List, [], ◌∷◌, take, map, min};
 ghost use Rattle.std.specs.Prelude.{IfOk};
 ghost use Rattle.ngc_fixed_length.specs.Limits.{MILLION};
 ghost use Rattle.ngc_machine_files.specs.Machine.{file_of};
 ghost use Rattle.ngc_planner.specs.declared.trail.Mark.{Mark as TheMark};
-ghost use Rattle.ngc_planner.specs.Headings.{IsHeading, difference_of};
+ghost use Rattle.ngc_planner.specs.Headings.{IsHeading, differences, greater_differences};
 ghost use Rattle.ngc_planner.specs.Joints.{rate_from, rate_from_all};
 ghost use Rattle.ngc_planner.specs.Trail.{Passage, TrailData, passage_with, measured, passage_of};
 ghost use Rattle.ngc_planner.specs.Trail.{IsBlock, Describes, IsMark, IsSameRate, LONGEST, BLOCK};
 ghost use Rattle.ngc_planner.specs.Window.{passing_heading, way_on};
 
-use crate::displacement::Displacement;
-use crate::window::{lowered, may_head, passing_heading, way_on};
+use crate::displacement::{AxisDifferences, Displacement};
+use crate::window::{axes_lowered, axes_may_head, passing_heading, way_on};
 use circular_buffer::HeapCircularBuffer;
 use ngc_commands::Action;
 use ngc_machine_files::Machine;
@@ -75,13 +75,13 @@ impl Block {
         }
     }
 
-    // Returns the greatest difference of a heading and one of the block, or more.
-    fn difference(&self, next: &Displacement) -> u64
-        ensures { result ≡
-            max (difference_of self.now.least next.now) (difference_of self.now.greatest next.now) }
+    // Returns for each axis the greatest difference of a heading and one of the block, or more.
+    fn differences(&self, next: &Displacement) -> AxisDifferences
+        ensures { result ≡ greater_differences
+            (differences self.now.least next.now) (differences self.now.greatest next.now) }
     {
-        let least = self.least.difference(next);
-        least.max(self.greatest.difference(next))
+        let least = self.least.differences(next);
+        least.greater_with(self.greatest.differences(next))
     }
 }
 
@@ -109,9 +109,9 @@ impl Look {
         ensures way { result.way ≡ self.way + mark.now.length }
         ensures passed { result.passed ≡ self.passed + 1 }
     {
-        let difference = mark.heading.difference(next);
+        let differences = mark.heading.differences(next);
         Look {
-            rate: lowered(self.rate, machine.jump, machine.turn, difference, self.way),
+            rate: axes_lowered(self.rate, machine, differences, self.way),
             way: self.way + mark.length,
             passed: self.passed + 1,
         }
@@ -135,8 +135,8 @@ impl Look {
         ensures way { result.way ≤ (1 + result.passed) * LONGEST }
     {
         let block = &mark.block;
-        let difference = block.difference(next);
-        if may_head(machine.jump, machine.turn, difference, self.way, self.rate) {
+        let differences = block.differences(next);
+        if axes_may_head(machine, differences, self.way, self.rate) {
             Look {
                 rate: self.rate,
                 way: self.way + block.length,

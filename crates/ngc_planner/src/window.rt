@@ -2,21 +2,25 @@
 ghost use Rattle.std.specs.Prelude.{◌≡◌, ◌*◌, ◌^◌, ◌≤◌, ◌<◌, false, min};
 ghost use Rattle.ngc_fixed_length.specs.Limits.{MILLION};
 ghost use Rattle.ngc_machine_files.specs.Machine.{file_of};
+ghost use Rattle.ngc_machine_files.specs.Ranges.{AreArcBounds};
 ghost use Rattle.ngc_planner.specs.Window.{line_steps, way_at_greatest, way_round};
 ghost use Rattle.ngc_planner.specs.Window.{turn_way, way_of, is_still, passing_heading, way_on};
-ghost use Rattle.ngc_planner.specs.Joints.{may_head, heading_rate};
+ghost use Rattle.ngc_planner.specs.Headings.{AreDifferences};
+ghost use Rattle.ngc_planner.specs.Joints.{may_head, heading_rate, axes_may_head, axes_heading_rate};
+ghost use Rattle.ngc_planner.specs.Turns.{axis_turns};
 
-use crate::displacement::Displacement;
+use crate::displacement::{AxisDifferences, Displacement};
 use crate::headings::{end_heading, turned_on};
+use crate::turns::{arc_turn, axis_turns};
 use ngc_arc_geometry::Arc;
 use ngc_commands::{Action, Way};
 use ngc_fixed_length::Point3;
-use ngc_machine_files::Machine;
+use ngc_machine_files::{AxisTurns, Machine};
 use std::alloc::Allocator;
 
 /// Returns whether a rate may change its heading by `difference` millionths over `way` millionths of
 /// a path step.
-pub(crate) fn may_head(jump: u32, turn: u64, difference: u64, way: u64, rate: u64) -> bool
+fn may_head(jump: u32, turn: u64, difference: u64, way: u64, rate: u64) -> bool
     requires jump { jump ≤ MILLION }
     requires turn { turn ≤ 10 ^ 12 }
     requires difference { difference ≤ 2000000 }
@@ -50,7 +54,7 @@ fn nearer(rate: u64, jump: u32, turn: u64, difference: u64, way: u64) -> u64
 
 /// Returns a rate, lowered to one that may change its heading by `difference` millionths over `way`
 /// millionths of a path step.
-pub(crate) fn lowered(rate: u64, jump: u32, turn: u64, difference: u64, way: u64) -> u64
+fn lowered(rate: u64, jump: u32, turn: u64, difference: u64, way: u64) -> u64
     requires jump { jump ≤ MILLION }
     requires turn { turn ≤ 10 ^ 12 }
     requires difference { difference ≤ 2000000 }
@@ -66,6 +70,102 @@ pub(crate) fn lowered(rate: u64, jump: u32, turn: u64, difference: u64, way: u64
     lowered
 }
 
+/// Returns whether a rate may change its heading by these millionths on each axis over `way`
+/// millionths of a path step.
+fn each_may_head(
+    jump: u32,
+    turns: AxisTurns,
+    differences: AxisDifferences,
+    way: u64,
+    rate: u64,
+) -> bool
+    requires jump { jump ≤ MILLION }
+    requires turns { AreArcBounds turns }
+    requires differences { AreDifferences differences }
+    requires way { way ≤ 409600000000000000 }
+    requires rate { rate ≤ MILLION }
+    ensures { result ≡ axes_may_head jump turns differences way rate }
+{
+    may_head(jump, turns.x, differences.x, way, rate)
+        && may_head(jump, turns.y, differences.y, way, rate)
+        && may_head(jump, turns.z, differences.z, way, rate)
+}
+
+/// Returns the same for a machine. Where all axes have the same turn, only the greatest difference
+/// counts.
+pub(crate) fn axes_may_head<A: Allocator>(
+    machine: &Machine<A>,
+    differences: AxisDifferences,
+    way: u64,
+    rate: u64,
+) -> bool
+    requires differences { AreDifferences differences }
+    requires way { way ≤ 409600000000000000 }
+    requires rate { rate ≤ MILLION }
+    ensures { result ≡
+        axes_may_head machine.now.jump (axis_turns (file_of machine.now)) differences way rate }
+{
+    match &machine.own {
+        None => may_head(
+            machine.jump,
+            machine.turn,
+            differences.greatest(),
+            way,
+            rate,
+        ),
+        Some(_) => each_may_head(machine.jump, axis_turns(machine), differences, way, rate),
+    }
+}
+
+/// Returns a rate, lowered to one that may change its heading by these millionths on each axis over
+/// `way` millionths of a path step.
+fn each_lowered(
+    rate: u64,
+    jump: u32,
+    turns: AxisTurns,
+    differences: AxisDifferences,
+    way: u64,
+) -> u64
+    requires rate { rate ≤ MILLION }
+    requires jump { jump ≤ MILLION }
+    requires turns { AreArcBounds turns }
+    requires differences { AreDifferences differences }
+    requires way { way ≤ 409600000000000000 }
+    ensures value { result ≡ min rate (axes_heading_rate jump turns differences way) }
+    ensures greatest { result ≤ MILLION }
+{
+    let rate = lowered(rate, jump, turns.x, differences.x, way);
+    let rate = lowered(rate, jump, turns.y, differences.y, way);
+    lowered(rate, jump, turns.z, differences.z, way)
+}
+
+/// Returns the same for a machine. Where all axes have the same turn, only the greatest difference
+/// counts.
+pub(crate) fn axes_lowered<A: Allocator>(
+    rate: u64,
+    machine: &Machine<A>,
+    differences: AxisDifferences,
+    way: u64,
+) -> u64
+    requires rate { rate ≤ MILLION }
+    requires differences { AreDifferences differences }
+    requires way { way ≤ 409600000000000000 }
+    ensures value { result ≡ min rate
+        (axes_heading_rate machine.now.jump (axis_turns (file_of machine.now)) differences way) }
+    ensures greatest { result ≤ MILLION }
+{
+    match &machine.own {
+        None => lowered(
+            rate,
+            machine.jump,
+            machine.turn,
+            differences.greatest(),
+            way,
+        ),
+        Some(_) => each_lowered(rate, machine.jump, axis_turns(machine), differences, way),
+    }
+}
+
 /// Returns the path steps of a line. An arc between the same points has no fewer.
 fn line_steps<A: Allocator>(start: &Point3, end: &Point3, machine: &Machine<A>) -> u64
     ensures value { result ≡ line_steps (file_of machine.now) start.now end.now }
@@ -76,17 +176,17 @@ fn line_steps<A: Allocator>(start: &Point3, end: &Point3, machine: &Machine<A>) 
     u64::from(from.greatest_distance(&to))
 }
 
-/// Returns the distance over which a machine's turn allows a turn by `turned` millionths at its
+/// Returns the distance over which an arc's turn allows a turn by `turned` millionths at the machine's
 /// greatest rate, in millionths of a path step, rounded up.
-fn way_at_greatest<A: Allocator>(machine: &Machine<A>, turned: u64) -> u64
+fn way_at_greatest<A: Allocator>(machine: &Machine<A>, arc: &Arc, turned: u64) -> u64
     requires { turned ≤ 2000000 }
-    ensures { result ≡ way_at_greatest (file_of machine.now) turned }
+    ensures { result ≡ way_at_greatest (file_of machine.now) arc.now turned }
 {
     let rate = u64::from(machine.max_rate);
-    (turned * (rate * rate)).div_ceil(machine.turn)
+    (turned * (rate * rate)).div_ceil(arc_turn(arc, machine))
 }
 
-/// Returns the same at the greatest rate that it allows on an arc.
+/// Returns the same at the greatest rate that the turn allows on the arc.
 fn way_round<A: Allocator>(machine: &Machine<A>, arc: &Arc, turned: u64) -> u64
     requires { turned ≤ 2000000 }
     ensures value { result ≡ way_round (file_of machine.now) arc.now turned }
@@ -102,7 +202,7 @@ fn turn_way<A: Allocator>(machine: &Machine<A>, arc: &Arc) -> u64
     ensures bound { result ≤ 400000000000000 }
 {
     let turned = turned_on(arc);
-    way_round(machine, arc, turned).min(way_at_greatest(machine, turned))
+    way_round(machine, arc, turned).min(way_at_greatest(machine, arc, turned))
 }
 
 /// Returns the distance that a motion counts, in millionths of a path step.

@@ -36,6 +36,7 @@ use Rattle.ngc_findings.specs.Scenes.{scene_at}
 use Rattle.ngc_findings.specs.Warnings.{warning_lines}
 use Rattle.ngc_report.specs.declared.form.Form.{Form}
 use Rattle.ngc_report.specs.declared.form.Form.TheVariants.{Words, Json}
+use Rattle.ngc_length_warnings.specs.BoxTexts.{box_warnings}
 use Rattle.ngc_length_warnings.specs.Spelling.{length_warnings}
 use Rattle.ngc_limit_warnings.specs.Spelling.{limit_warnings}
 use Rattle.ngc_word_warnings.specs.Spelling.{word_warnings}
@@ -160,15 +161,22 @@ language_warnings form deletes setup h commands None notes =
     ++ (length_warnings form setup.machine h.start h.changes commands
     ++ notes_text form (notes_at deletes notes))
 
+-- the warnings for the coordinate systems of a program: of boxes that count from one in which it cuts
+-- without a tool length offset, and of the origins from which it moves
+abbrev pub system_warnings : Form → Setup → History → List Command → List ℕ
+system_warnings form setup h commands =
+    box_warnings form setup.machine h.start h.changes commands
+    ++ origin_warnings form setup.machine setup.tools h.start h.changes commands
+
 -- the warnings at a setting: for the commands there, for tool changes, for the limits of the tools, for
--- the words of the program's lines, and for the origins from which it moves
+-- the words of the program's lines, and for its coordinate systems
 abbrev pub warnings : Form → Setting → Setup → History → List Command → ReportedLines → List ℕ
 warnings form s setup h commands lines =
     report_text form (warning_lines setup.machine (speeds_of lines.figures.machine) commands)
     ++ (tool_warnings form setup.machine commands
     ++ (limit_warnings form lines.figures.tools commands
     ++ (language_warnings form (is_on s) setup h commands lines.examined lines.notes
-    ++ origin_warnings form setup.machine setup.tools h.start h.changes commands)))
+    ++ system_warnings form setup h commands)))
 
 -- the lowest heights at a setting, and the warnings
 abbrev pub remarks : Form → Setting → Setup → History → List Command → ReportedLines → List ℕ

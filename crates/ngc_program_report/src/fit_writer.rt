@@ -12,7 +12,8 @@ ghost use Rattle.ngc_program_report.specs.Reported.{noted_by, notes_at, reported
 ghost use Rattle.ngc_margins.specs.Lines.{kept_by};
 ghost use Rattle.ngc_program_report.specs.Texts.{accepted_text, duration_text, findings, front_text, idle_line};
 ghost use Rattle.ngc_program_report.specs.Texts.{idle_text, is_on, language_warnings, remarks};
-ghost use Rattle.ngc_program_report.specs.Texts.{setting_text, shop_text, takes_line, tool_figures};
+ghost use Rattle.ngc_program_report.specs.Texts.{setting_text, shop_text, system_warnings, takes_line};
+ghost use Rattle.ngc_program_report.specs.Texts.{tool_figures};
 ghost use Rattle.ngc_program_report.specs.Texts.{warnings};
 ghost use Rattle.ngc_program_report.specs.Times.{uses_text};
 ghost use Rattle.ngc_stock_report.specs.Texts.{material_text};
@@ -30,7 +31,7 @@ use ngc_checker::Accepted;
 use ngc_commands::Command;
 use ngc_dialect_note_texts::write_notes;
 use ngc_dialect_notes::Notes;
-use ngc_length_warnings::write_length_warnings;
+use ngc_length_warnings::{write_box_warnings, write_length_warnings};
 use ngc_limit_warnings::write_limit_warnings;
 use ngc_lowest_tips::{LowestTip, write_lowest_tips};
 use ngc_machine_files::Tools;
@@ -186,6 +187,25 @@ fn write_words<A: Allocator, W: Sink>(
     }
 }
 
+// Writes the warnings for the coordinate systems of a program: of boxes that count from one in which it
+// cuts without a tool length offset, and of the origins from which it moves.
+fn write_system_warnings<A: Allocator, W: Sink>(
+    subject: &Subject<A>,
+    execution: &Execution<A>,
+    output: &mut W,
+) -> Result<(), WriteFault>
+    ensures { Writes (W.written output.old) (W.written output.new) (W.failures output.old)
+        (W.failures output.new) result
+        (system_warnings subject.now.form (setup_of subject.now.machine.now subject.now.tools.now)
+        (history_of execution.now.history.now.start execution.now.history.now.changes.items)
+        execution.now.commands.now) }
+{
+    let (form, machine, table) = (subject.form, subject.machine, subject.tools.tools());
+    let (history, commands) = (execution.history, execution.commands);
+    write_box_warnings(form, machine, history, commands, output)?;
+    write_origin_warnings(form, machine, table, history, commands, output)
+}
+
 // Writes the warnings at a setting.
 pub(crate) fn write_setting_warnings<A: Allocator, W: Sink>(
     subject: &Subject<A>,
@@ -200,15 +220,14 @@ pub(crate) fn write_setting_warnings<A: Allocator, W: Sink>(
         (history_of execution.now.history.now.start execution.now.history.now.changes.items)
         execution.now.commands.now (reported subject.now.text.now)) }
 {
-    let (form, machine, table) = (subject.form, subject.machine, subject.tools.tools());
-    let commands = execution.commands;
+    let (form, machine, commands) = (subject.form, subject.machine, execution.commands);
     let speeds = speeds_in(subject.text);
     let limits = limits_in(subject.text);
     write_warnings(form, machine, speeds, commands, output)?;
     write_tool_warnings(form, machine, commands, output)?;
     write_limit_warnings(form, limits, commands, output)?;
     write_words(subject, is_on(setting), execution, output)?;
-    write_origin_warnings(form, machine, table, execution.history, commands, output)
+    write_system_warnings(subject, execution, output)
 }
 
 // Writes the lowest heights and the warnings at a setting.

@@ -16,6 +16,7 @@ ghost use Rattle.ngc_run_through.specs.Runs.{FailsByWriting};
 ghost use Rattle.ngc_run_through.specs.Stretches.{IsUntouched, IsGiven, Coasts, IsGivenLast, GoesBy};
 ghost use Rattle.ngc_run_through.specs.Stretches.{BreaksOff, TicksBy, GoesBehind, FinishesHead};
 ghost use Rattle.ngc_run_through.specs.Stretches.{Finishes, PassesHead, ending_in, is_stop};
+ghost use Rattle.ngc_run_through.specs.Switching.{AreSwitches};
 ghost use Rattle.ngc_run_through.specs.Through.{RunsToEnd};
 ghost use Rattle.ngc_run_through.specs.Tracing.{ticks_of};
 
@@ -26,6 +27,7 @@ use crate::trace::{Form, Trace};
 use ngc_checker::Accepted;
 use ngc_controller::Controller;
 use ngc_events::{Ending, Event, EventFault, Reply};
+use ngc_pulses::Switch;
 use ngc_step_kernel::ArcPath;
 use ngc_text::{Sink, WriteFault};
 use std::alloc::Allocator;
@@ -417,6 +419,38 @@ fn run_to_end<A: Allocator + Copy, W: Sink>(
     recorder.finish(sink)
 }
 
+// Runs an accepted program through to its end and writes the run in a form, with what its commands
+// switch.
+fn run_with_switches<A: Allocator + Copy, W: Sink>(
+    alloc: A,
+    accepted: Accepted<A>,
+    block_delete: bool,
+    form: Form,
+    list: &[Switch],
+    sink: &mut W,
+) -> Result<Report, RunFault>
+    requires { AreSwitches form (commands_at block_delete accepted) list.now }
+    ensures runs_to_end { RunsToEndAs form
+        (job_of accepted.machine (commands_at block_delete accepted)) (W.written sink.old)
+        (W.written sink.new) result }
+    ensures counts { FailsByWriting result (W.failures sink.old) (W.failures sink.new) }
+{
+    // The facts about the accepted program make the run safe and done in time.
+    let ticks_per_second = accepted.machine().ticks_per_second;
+    let count = accepted.commands(block_delete).len();
+    let mut controller = match Controller::<ArcPath, A>::new(alloc, accepted, block_delete) {
+        Ok(controller) => controller,
+        Err(_) => return Err(RunFault::Memory),
+    };
+    let first = controller.motors().counts(&controller.position());
+    let switches = Switches { list };
+    let trace = Trace::new(form, ticks_per_second, first, switches);
+    match run_to_end(&mut controller, count, trace, sink) {
+        Ok(report) => Ok(report),
+        Err(fault) => Err(RunFault::Write(fault)),
+    }
+}
+
 // Runs an accepted program through to its end and writes the run in a form.
 fn run_to_end_as<A: Allocator + Copy, W: Sink>(
     alloc: A,
@@ -430,25 +464,11 @@ fn run_to_end_as<A: Allocator + Copy, W: Sink>(
         (W.written sink.new) result }
     ensures counts { FailsByWriting result (W.failures sink.old) (W.failures sink.new) }
 {
-    // The facts about the accepted program make the run safe and done in time.
-    let ticks_per_second = accepted.machine().ticks_per_second;
-    let kept = match switches_for(alloc, form, accepted.commands(block_delete)) {
-        Ok(kept) => kept,
-        Err(fault) => return Err(fault),
-    };
-    let count = accepted.commands(block_delete).len();
-    let mut controller = match Controller::<ArcPath, A>::new(alloc, accepted, block_delete) {
-        Ok(controller) => controller,
-        Err(_) => return Err(RunFault::Memory),
-    };
-    let switches = Switches {
-        list: kept.as_slice(),
-    };
-    let first = controller.motors().counts(&controller.position());
-    let trace = Trace::new(form, ticks_per_second, first, switches);
-    match run_to_end(&mut controller, count, trace, sink) {
-        Ok(report) => Ok(report),
-        Err(fault) => Err(RunFault::Write(fault)),
+    match switches_for(alloc, form, accepted.commands(block_delete)) {
+        Ok(kept) => {
+            run_with_switches(alloc, accepted, block_delete, form, kept.as_slice(), sink)
+        }
+        Err(fault) => Err(fault),
     }
 }
 

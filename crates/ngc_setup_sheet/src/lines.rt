@@ -598,7 +598,12 @@ pub(crate) fn machine_lines<A: Allocator>(
 fn fixture_facts(number: usize, fixture: &Fixture) -> [Line; 4]
     ensures { result ≡ fixture_facts number fixture.now }
 {
-    let Fixture { low, high, name } = *fixture;
+    let Fixture {
+        low,
+        high,
+        name,
+        ..
+    } = *fixture;
     [
         Line::Fixture(number, name),
         from(Fact::Extent(Axis::X), low.x, high.x),

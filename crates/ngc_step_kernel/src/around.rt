@@ -75,7 +75,20 @@ impl Entry {
 }
 
 /// Returns the number of quadrants from a wheel's first point to the end, or `None` if the end's
-/// direction is reached before the wheel moves.
+/// direction is reached before the wheel moves. `quadrants` is that number without whole turns, and the
+/// arc is short if it is less than half a turn.
+fn quadrants_counted(quadrants: u32, is_short: bool, is_before: bool) -> Option<u32>
+    ensures { result ≡ quadrants_left quadrants is_short is_before }
+{
+    match quadrants {
+        0 if !is_short => Some(4),
+        0 if !is_before => None,
+        3 if is_short => None,
+        quadrants => Some(quadrants),
+    }
+}
+
+/// Returns the same number for a view, by the wheel's first point and the end.
 fn quadrants_left(view: &View, first: &Spoke, end: &Spoke) -> Option<u32>
     requires start { IsWay view.now.start }
     requires end { IsWay view.now.end }
@@ -88,12 +101,8 @@ fn quadrants_left(view: &View, first: &Spoke, end: &Spoke) -> Option<u32>
 {
     let is_short = 0 < view.start.cross(&view.end);
     let is_before = first.is_before(end);
-    match first.quadrant.quadrants_to(end.quadrant) {
-        0 if !is_short => Some(4),
-        0 if !is_before => None,
-        3 if is_short => None,
-        quadrants => Some(quadrants),
-    }
+    let quadrants = first.quadrant.quadrants_to(end.quadrant);
+    quadrants_counted(quadrants, is_short, is_before)
 }
 
 /// Returns whether the lesser radius is below one and a half steps.

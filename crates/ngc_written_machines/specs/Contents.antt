@@ -45,7 +45,7 @@ optional_numbers s rates = record {
   travel_margin = or_zero s.places.travel_margin;
 }
 
--- the machine's change is the greatest of the axes' changes
+-- the machine's change is the greatest of the axes' changes, and its turn that of their turns
 abbrev pub numbers : HeadSheet → maker.MachineNumbers → MachineNumbers
 numbers s rates = record {
   version = pos 2;
@@ -54,7 +54,7 @@ numbers s rates = record {
   max_rate = pos rates.max_rate;
   change = pos (greatest_of rates.changes);
   corner = pos rates.corner;
-  turn = pos rates.turn;
+  turn = pos (greatest_of rates.turns);
   optional = optional_numbers s rates;
 }
 
@@ -73,12 +73,10 @@ options s = record {
 abbrev pub axis_rates : PerAxis ℕ → Coordinates
 axis_rates r = record { x = pos r.x; y = pos r.y; z = pos r.z }
 
--- each axis has the change of its own acceleration, and the turn is that of the machine
+-- each axis has the change of its own acceleration, and the turn of that on arcs
 abbrev pub own_limits : maker.MachineNumbers → LimitNumbers
-own_limits rates = record {
-  changes = axis_rates rates.changes;
-  turns = record { x = pos rates.turn; y = pos rates.turn; z = pos rates.turn };
-}
+own_limits rates =
+    record { changes = axis_rates rates.changes; turns = axis_rates rates.turns }
 
 -- a program starts at zero, unless the file says otherwise; the start is on the grid of the steps
 abbrev pub start_at : ℕ → Option Place → Coordinates

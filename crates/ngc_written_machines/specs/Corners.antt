@@ -41,16 +41,26 @@ abbrev pub name_of : Option (List ℕ) → List ℕ
 name_of None = []
 name_of (Some name) = name
 
-abbrev pub fixture : FixtureSheet → Corners
-fixture f = record { low = low_of f.corners; high = high_of f.corners; name = Some (name_of f.name) }
-
 -- 0 is the machine's own system
-abbrev pub system_number : Option System → ℤ
-system_number None = pos 0
-system_number (Some system) = pos system.number
+abbrev pub system_number : Option System → ℕ
+system_number None = 0
+system_number (Some system) = system.number
+
+-- a fixture keeps the system from which its corners were counted
+abbrev pub fixture : FixtureSheet → Corners
+fixture f = record {
+  low = low_of f.corners;
+  high = high_of f.corners;
+  name = Some (name_of f.name);
+  system = system_number f.system;
+}
 
 abbrev pub block : StockSheet → StockNumbers
-block s = record { system = system_number s.system; low = low_of s.corners; high = high_of s.corners }
+block s = record {
+  system = pos (system_number s.system);
+  low = low_of s.corners;
+  high = high_of s.corners;
+}
 
 abbrev pub stock : Option StockSheet → Option StockNumbers
 stock None = None

@@ -1,8 +1,9 @@
 //! The contents of a machine file of what is written in one of version 3.
-ghost use Rattle.std.specs.Prelude.{◌≡◌, ◌<◌, IfOk, map};
+ghost use Rattle.std.specs.Prelude.{◌≡◌, ◌<◌, ◌≤◌, IfOk, map};
 ghost use Rattle.ngc_machine_files.specs.MachineText.{values_of};
 ghost use Rattle.ngc_machine_maker.specs.Formulas.{greatest_of};
 ghost use Rattle.ngc_machine_maker.specs.InFile.{AreInFile};
+ghost use Rattle.ngc_machine_maker.specs.Ranges.{AreTurns};
 ghost use Rattle.ngc_machine_figures.specs.Files.{values_of as sheet_values};
 ghost use Rattle.ngc_written_machines.specs.Contents as spec;
 ghost use Rattle.ngc_written_machines.specs.Corners.{fixture as fixture_of};
@@ -68,7 +69,16 @@ fn greatest_of(changes: &PerAxis<u32>) -> u32
     changes.x.max(changes.y).max(changes.z)
 }
 
-// Returns the numbers of a file. The machine's change is the greatest of the axes' changes.
+fn greatest_turn(turns: &PerAxis<u64>) -> u64
+    requires { AreTurns turns.now }
+    ensures value { result ≡ greatest_of turns.now }
+    ensures bound { result ≤ 1000000000000 }
+{
+    turns.x.max(turns.y).max(turns.z)
+}
+
+// Returns the numbers of a file. The machine's change is the greatest of the axes' changes, and its
+// turn that of their turns.
 fn numbers(head: &HeadSheet, rates: &Rates) -> MachineNumbers
     requires { AreInFile rates.now }
     ensures { result ≡ spec.numbers head.now rates.now }
@@ -80,7 +90,7 @@ fn numbers(head: &HeadSheet, rates: &Rates) -> MachineNumbers
         max_rate: i64::from(rates.max_rate),
         change: i64::from(greatest_of(&rates.changes)),
         corner: i64::from(rates.corner),
-        turn: rates.turn as i64,
+        turn: greatest_turn(&rates.turns) as i64,
         optional: optional_numbers(head, rates),
     }
 }
@@ -115,19 +125,25 @@ fn axis_rates(rates: &PerAxis<u32>) -> Coordinates
     }
 }
 
-// Returns the limits of each axis: the change of its own acceleration, and the machine's turn.
+fn axis_turns(turns: &PerAxis<u64>) -> Coordinates
+    requires { AreTurns turns.now }
+    ensures { result ≡ spec.axis_rates turns.now }
+{
+    Coordinates {
+        x: turns.x as i64,
+        y: turns.y as i64,
+        z: turns.z as i64,
+    }
+}
+
+// Returns the limits of each axis: the change of its own acceleration, and the turn of that on arcs.
 fn own_limits(rates: &Rates) -> LimitNumbers
     requires { AreInFile rates.now }
     ensures { result ≡ spec.own_limits rates.now }
 {
-    let turn = rates.turn as i64;
     LimitNumbers {
         changes: axis_rates(&rates.changes),
-        turns: Coordinates {
-            x: turn,
-            y: turn,
-            z: turn,
-        },
+        turns: axis_turns(&rates.turns),
     }
 }
 

@@ -80,7 +80,17 @@ fn name_of(written: Option<Name>) -> Name
     }
 }
 
-/// Returns the corners of a fixture.
+// Returns the number of a coordinate system, 0 for the machine's own.
+fn system_number(system: Option<System>) -> u32
+    ensures { result ≡ spec.system_number system }
+{
+    match system {
+        None => 0,
+        Some(system) => u32::from(system.number),
+    }
+}
+
+/// Returns the corners of a fixture, and the system from which they were counted.
 pub(crate) fn fixture(sheet: &FixtureSheet) -> Corners
     ensures { result ≡ spec.fixture sheet.now }
 {
@@ -88,15 +98,7 @@ pub(crate) fn fixture(sheet: &FixtureSheet) -> Corners
         low: low_of(&sheet.corners),
         high: high_of(&sheet.corners),
         name: Some(name_of(sheet.name)),
-    }
-}
-
-fn system_number(system: Option<System>) -> i64
-    ensures { result ≡ spec.system_number system }
-{
-    match system {
-        None => 0,
-        Some(system) => i64::from(system.number),
+        system: system_number(sheet.system),
     }
 }
 
@@ -104,7 +106,7 @@ fn block(sheet: &StockSheet) -> StockNumbers
     ensures { result ≡ spec.block sheet.now }
 {
     StockNumbers {
-        system: system_number(sheet.system),
+        system: i64::from(system_number(sheet.system)),
         low: low_of(&sheet.corners),
         high: high_of(&sheet.corners),
     }

@@ -1,9 +1,15 @@
 use Rattle.std.proofs.Common.{◌≡◌, ◌*◌, ◌^◌, ◌≤◌, pos, ◌+ℤ◌, ◌*ℤ◌, unsigned_abs, to_z, of_z, arith}
 use Rattle.std.specs.Int.{w64, w128, int_div_euclid}
-use Rattle.std.proofs.lemmas.Int.{to_z-of_z}
+use Rattle.std.proofs.lemmas.Int.{ints, to_z-of_z}
 use Rattle.ngc_dialect_arcs.specs.Centre.{shift_by}
 use Rattle.ngc_dialect_arcs.proofs.Products.{dividend_kept, divisor_kept, dividend_within, quotient_within, quotient_kept}
 use Rattle.ngc_dialect_arcs.proofs.centre.shift_by.Goals as goal
+
+pub overflow_add-sum : goal.overflow_add-sum
+overflow_add-sum c = omega (arith, ints)
+
+pub overflow_mul-chord : goal.overflow_mul-chord
+overflow_mul-chord c = omega (arith, ints)
 
 pub returns : goal.returns
 unfolding shift_by

@@ -18,5 +18,6 @@ returns-clause-safe c =
       y_follows = fewer scale least changes.y (a.y.nanometres_a_second_squared * 1000000) (ticks * ticks) (omega (arith, c.min-change.ensures, c.min.ensures)) follows.y;
       z_follows = fewer scale least changes.z (a.z.nanometres_a_second_squared * 1000000) (ticks * ticks) (omega (arith, c.min-change.ensures, c.min.ensures)) follows.z;
       changes = follows;
-      arcs = rw c.arcs_of.ensures at c.in_ok-turn.ensures.safe;
+      arcs = rw c.least.ensures at c.in_ok-turn.ensures.safe;
+      turns = c.in_ok-turns.ensures.safe;
     }

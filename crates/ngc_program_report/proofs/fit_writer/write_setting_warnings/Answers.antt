@@ -2,16 +2,14 @@ use Rattle.std.proofs.Common.{List, Bool, Option, ap}
 use Rattle.ngc_file_figures.specs.declared.figures.AxisFigures.{AxisFigures}
 use Rattle.ngc_file_figures.specs.declared.limits.ToolLimits.{ToolLimits}
 use Rattle.ngc_machine_files.specs.Machine.{file_of}
-use Rattle.ngc_machine_files.specs.declared.tools.Tool.{Tool}
 use Rattle.ngc_limit_warnings.specs.Spelling.{limit_warnings}
-use Rattle.ngc_origin_warnings.specs.Warnings.{origin_warnings}
 use Rattle.ngc_report.specs.Forms.{report_text}
 use Rattle.ngc_findings.specs.Warnings.{warning_lines}
 use Rattle.ngc_canonical.specs.Interpreter.{setup_of}
 use Rattle.ngc_program_report.specs.Coordinates.{history_of}
 use Rattle.ngc_program_report.specs.Texts.{language_warnings}
 use Rattle.ngc_program_report.specs.Reported.{reported}
-use Rattle.ngc_program_report.proofs.WritingLaws.{stops, then, writes_text}
+use Rattle.ngc_program_report.proofs.WritingLaws.{stops, then}
 use Rattle.ngc_program_report.proofs.WrittenLaws.{appends_as, begins_as}
 use Rattle.ngc_program_report.proofs.fit_writer.write_setting_warnings.Goals as goal
 
@@ -68,9 +66,8 @@ returns g c =
     let fast = ap (λ (s : Option AxisFigures). report_text c.args.subject.now.form (warning_lines m s cs)) c.speeds_in-speeds.ensures in
     let limits = ap (λ (t : List ToolLimits). limit_warnings c.args.subject.now.form t cs) c.limits_in-limits.ensures in
     let words = ap (λ (deletes : Bool). language_warnings c.args.subject.now.form deletes setup changes cs lines.examined lines.notes) c.is_on.ensures in
-    let origins = ap (λ (ts : List Tool). origin_warnings c.args.subject.now.form m ts h.start h.changes.items cs) c.tools-table.ensures.tools in
     then _ _ (appends_as _ _ _ _ fast c.in_ok-write_warnings.ensures.ok) c.in_ok-write_warnings.ensures.counts
     (then _ _ c.in_ok-write_tool_warnings.ensures.ok c.in_ok-write_tool_warnings.ensures.counts
     (then _ _ (appends_as _ _ _ _ limits c.in_ok-write_limit_warnings.ensures.ok) c.in_ok-write_limit_warnings.ensures.counts
     (then _ _ (appends_as _ _ _ _ words c.in_ok-write_words.ensures.ok) c.in_ok-write_words.ensures.counts
-    (writes_text _ _ origins c.write_origin_warnings.ensures.ok c.write_origin_warnings.ensures.fault c.write_origin_warnings.ensures.counts))))
+    c.write_system_warnings.ensures)))

@@ -3,6 +3,9 @@ use Rattle.std.specs.Int.{w64}
 use Rattle.std.proofs.lemmas.Int.{ints}
 use Rattle.ngc_material.proofs.spoke.Spoke.dot.Goals as goal
 
+pub overflow_add-result : goal.overflow_add-result
+overflow_add-result c = omega (arith, ints, c.product.ensures.bound, c.product-2.ensures.bound)
+
 pub returns-clause-value : goal.returns-clause-value
 returns-clause-value c =
     let su : to_z w64 (of_z w64 c.self.inside.u) ≡ c.self.inside.u = omega (arith, ints, c.self.invariant.0) in

@@ -1,8 +1,21 @@
 use Rattle.std.proofs.Common.{ℤ, ◌+ℤ◌, ◌∙◌, ap, ap₂, arith}
+use Rattle.std.proofs.lemmas.Int.{ints}
 use Rattle.ngc_fixed_length.specs.declared.points.Point2.{Point2}
 use Rattle.ngc_cells.proofs.Kept.{plus64}
 use Rattle.ngc_material.proofs.Sweeps.{same_chord}
 use Rattle.ngc_material.proofs.sweep.Sweep.chord.Goals as goal
+
+pub overflow_add-u : goal.overflow_add-u
+overflow_add-u c = omega (arith, ints, c.nanometres-u.ensures.bound, c.x.ensures.bound)
+
+pub overflow_add-v : goal.overflow_add-v
+overflow_add-v c = omega (arith, ints, c.nanometres-v.ensures.bound, c.y.ensures.bound)
+
+pub overflow_add-u-2 : goal.overflow_add-u-2
+overflow_add-u-2 c = omega (arith, ints, c.nanometres-u.ensures.bound, c.x-2.ensures.bound)
+
+pub overflow_add-v-2 : goal.overflow_add-v-2
+overflow_add-v-2 c = omega (arith, ints, c.nanometres-v.ensures.bound, c.y-2.ensures.bound)
 
 pub returns : goal.returns
 returns c =

@@ -1,29 +1,27 @@
-use Rattle.std.proofs.Common.{◌∷◌, map, arith, refl, sym, ◌∙◌}
+use Rattle.std.proofs.Common.{◌∷◌, map, refl, sym, ◌∙◌}
 use Rattle.ngc_machine_files.specs.Machine.{file_of}
 use Rattle.ngc_planner.specs.Trail.{passage_of}
-use Rattle.ngc_planner.proofs.WindowLaws.{difference_small, may_out}
-use Rattle.ngc_planner.proofs.TrailLaws.{same_past, past_block, past_one_same}
+use Rattle.ngc_planner.specs.Turns.{axis_turns}
+use Rattle.ngc_planner.proofs.TurnLaws.{axes_may_out}
+use Rattle.ngc_planner.proofs.TrailLaws.{block_small, same_past, past_block, past_one_same}
 use Rattle.ngc_planner.proofs.trail.Look.past.Goals as goal
 
-pub may_head-requires-clause-difference : goal.may_head-requires-clause-difference
-may_head-requires-clause-difference g c =
-    let b = c.args.mark.now.block in
-    let least = difference_small b.least c.args.next.now c.requires.block.least c.requires.next in
-    let greatest = difference_small b.greatest c.args.next.now c.requires.block.greatest c.requires.next in
-    omega (arith, least, greatest, c.difference-difference.ensures)
+pub axes_may_head-requires-clause-differences : goal.axes_may_head-requires-clause-differences
+axes_may_head-requires-clause-differences g c =
+    rw c.differences-differences.ensures (block_small c.args.mark.now.block c.args.next.now c.requires.block c.requires.next)
 
-pub returns-then-may_head-clause-same : goal.returns-then-may_head-clause-same
-returns-then-may_head-clause-same g c =
+pub returns-then-axes_may_head-clause-same : goal.returns-then-axes_may_head-clause-same
+returns-then-axes_may_head-clause-same g c =
     let m = file_of c.args.machine.now in
     let b = c.args.mark.now.block in
     let s = c.args.self in
-    let may = may_out m.jump m.turn c.difference-difference.result s.way s.rate (sym c.may_head.ensures ∙ c.if-may_head.true) in
+    let may = axes_may_out m.jump (axis_turns m) c.differences-differences.result s.way s.rate (sym c.axes_may_head.ensures ∙ c.if-axes_may_head.true) in
     λ ms is. same_past m c.args.next.now _ s.rate _ _ s.passed b.count (map passage_of (c.args.mark.now ∷ ms)) refl
-    (past_block m c.args.next.now b s.rate s.way c.difference-difference.result (map passage_of (c.args.mark.now ∷ ms)) is.block is.describes c.requires.next
-    c.difference-difference.ensures c.requires.rate may)
+    (past_block m c.args.next.now b s.rate s.way c.differences-differences.result (map passage_of (c.args.mark.now ∷ ms)) is.block is.describes c.requires.next
+    c.differences-differences.ensures c.requires.rate may)
 
-pub returns-else-may_head-clause-same : goal.returns-else-may_head-clause-same
-returns-else-may_head-clause-same g c =
+pub returns-else-axes_may_head-clause-same : goal.returns-else-axes_may_head-clause-same
+returns-else-axes_may_head-clause-same g c =
     let s = c.args.self in
     let r = c.past_one.result in
     λ ms is. past_one_same (file_of c.args.machine.now) c.args.next.now (passage_of c.args.mark.now) (map passage_of ms) s.rate r.rate s.way r.way r.passed s.passed
