@@ -7,13 +7,14 @@ use Rattle.ngc_stock.specs.declared.cylinder.Cylinder.{Cylinder}
 use Rattle.ngc_sure_contacts.specs.Swept.{stacked, foot_over}
 
 -- one part more
-pub next_part : (ps : List Part) (i : ℕ) (p : Part) (foot next : ℤ) (before later all : List Cylinder) (c : Cylinder) → i < length ps → p ≡ get_or ps i p →
-    c ≡ record { bottom = foot; radius = unsigned_abs p.radius } → next ≡ foot_over foot (unsigned_abs p.length) → later ≡ before ++ c ∷ [] →
+pub next_part : (ps : List Part) (i : ℕ) (p : Part) (foot next : ℤ) (r up : ℕ) (before later all : List Cylinder) → i < length ps → p ≡ get_or ps i p →
+    r ≡ unsigned_abs p.radius → up ≡ unsigned_abs p.length → next ≡ foot_over foot up → later ≡ before ++ record { bottom = foot; radius = r } ∷ [] →
     before ++ stacked foot (drop i ps) ≡ all → later ++ stacked next (drop (i + 1) ps) ≡ all
-next_part ps i p foot next before later all c inside found is up push so_far =
-    ap₂ (λ (cs : List Cylinder) (z : ℤ). cs ++ stacked z (drop (i + 1) ps)) push up
-    ∙ append_assoc before (c ∷ []) (stacked (foot_over foot (unsigned_abs p.length)) (drop (i + 1) ps))
-    ∙ ap (λ (x : Cylinder). before ++ x ∷ stacked (foot_over foot (unsigned_abs p.length)) (drop (i + 1) ps)) is
+next_part ps i p foot next r up before later all inside found wide high above push so_far =
+    let rest = stacked (foot_over foot (unsigned_abs p.length)) (drop (i + 1) ps) in
+    ap₂ (λ (cs : List Cylinder) (z : ℤ). cs ++ stacked z (drop (i + 1) ps)) push (above ∙ ap (foot_over foot) high)
+    ∙ append_assoc before (record { bottom = foot; radius = r } ∷ []) rest
+    ∙ ap (λ (x : ℕ). before ++ record { bottom = foot; radius = x } ∷ rest) wide
     ∙ ap (λ (x : Part). before ++ stacked foot (x ∷ drop (i + 1) ps)) found
     ∙ ap (λ (xs : List Part). before ++ stacked foot xs) (sym (drop_more ps i p inside))
     ∙ so_far

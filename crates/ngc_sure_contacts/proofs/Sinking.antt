@@ -58,19 +58,19 @@ sunk_of g t r level old new low = record {
 -- cells that are all lowered to 0
 pub sunk_cleared : (g : Grid) (t : Stretch) (r level : ℕ) (old new : List ℕ) → length new ≡ length old → ((k : ℕ) → k < length old → slice_index new k ≡ 0) →
     AreSunk g t r level old new
-sunk_cleared g t r level old new count zero = record {
+sunk_cleared g t r level old new count empty = record {
   count = count;
-  near = λ k less n. (let e = zero k less in omega (arith, e));
-  kept = λ k less. (let e = zero k less in omega (arith, e));
+  near = λ k less n. (let e = empty k less in omega (arith, e));
+  kept = λ k less. (let e = empty k less in omega (arith, e));
 }
 
 -- they say nothing, so that anything may be swept
 pub swept_cleared : (s : Stock) (Swept : Point3 → Type 0) (old new : List ℕ) → length old ≡ s.grid.columns * s.grid.rows → length new ≡ length old →
     ((k : ℕ) → k < length old → slice_index new k ≡ 0) → AreSwept s Swept old new
-swept_cleared s Swept old new size count zero = record {
+swept_cleared s Swept old new size count empty = record {
   count = count;
-  kept = λ k less. (let e = zero k less in omega (arith, e));
-  each = λ q u h. (let e = zero u.cell (omega (arith, u.within, size)) in omega (arith, ints, u.below, u.bottom, e));
+  kept = λ k less. (let e = empty k less in omega (arith, e));
+  each = λ q u h. (let e = empty u.cell (omega (arith, u.within, size)) in omega (arith, ints, u.below, u.bottom, e));
 }
 
 -- ---- a line

@@ -47,7 +47,6 @@ fn sweep_pieces(stock: &Stock, heights: &mut [u32], cylinder: &Cylinder, line: &
     }
 }
 
-#[tactic(auto, using(crate::proofs::Sinking::above_line))]
 fn sweep_line(stock: &Stock, heights: &mut [u32], cylinder: &Cylinder, line: &Line)
     requires heights { AreHeights stock.now heights.old }
     requires start { IsTrue (is_reached line.now.start) }
@@ -67,7 +66,6 @@ fn is_near(spot: &Spot) -> bool
 }
 
 // Lowers the cells that a cylinder may be over within the outer radius of an arc.
-#[tactic(auto, using(crate::proofs::Sinking::above_arc, crate::proofs::Sinking::swept_cleared, crate::proofs::Sinking::swept_round))]
 fn sweep_round(stock: &Stock, heights: &mut [u32], cylinder: &Cylinder, arc: &Arc)
     requires heights { AreHeights stock.now heights.old }
     ensures { AreSwept stock.now (IsSweptAlong cylinder.now arc.now) heights.old heights.new }
@@ -99,7 +97,7 @@ fn sweep_round(stock: &Stock, heights: &mut [u32], cylinder: &Cylinder, arc: &Ar
     sink(&stock.grid, heights, &stretch, radius, level);
 }
 
-#[tactic(auto, using(crate::proofs::Sinking::swept_arc, crate::proofs::Sinking::swept_cleared))]
+#[tactic(auto, using(crate::proofs::Sinking::swept_cleared))]
 fn sweep_arc(stock: &Stock, heights: &mut [u32], cylinder: &Cylinder, arc: &Arc)
     requires heights { AreHeights stock.now heights.old }
     ensures { AreSwept stock.now (IsSweptByArc cylinder.now arc.now) heights.old heights.new }
