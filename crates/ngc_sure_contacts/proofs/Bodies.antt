@@ -12,7 +12,7 @@ pub next_part : (ps : List Part) (i : ℕ) (p : Part) (foot next : ℤ) (r up : 
     before ++ stacked foot (drop i ps) ≡ all → later ++ stacked next (drop (i + 1) ps) ≡ all
 next_part ps i p foot next r up before later all inside found wide high above push so_far =
     let rest = stacked (foot_over foot (unsigned_abs p.length)) (drop (i + 1) ps) in
-    ap₂ (λ (cs : List Cylinder) (z : ℤ). cs ++ stacked z (drop (i + 1) ps)) push (above ∙ ap (foot_over foot) high)
+    ap₂ (λ (cs : List Cylinder) (z : ℤ). cs ++ stacked z (drop (i + 1) ps)) push (above ∙ ap (λ (n : ℕ). foot_over foot n) high)
     ∙ append_assoc before (record { bottom = foot; radius = r } ∷ []) rest
     ∙ ap (λ (x : ℕ). before ++ record { bottom = foot; radius = x } ∷ rest) wide
     ∙ ap (λ (x : Part). before ++ stacked foot (x ∷ drop (i + 1) ps)) found
