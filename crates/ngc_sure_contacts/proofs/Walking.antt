@@ -52,11 +52,11 @@ pub first_before : (s : Stock) (start : Reached) (commands : List Command) (reac
 first_before s start commands reached heights e = record { state = e; unswept = λ q u h. h }
 
 pub next_before : (s : Stock) (start : Reached) (commands : List Command) (p : ℕ) (c : Command) (reached next : Reached) (old new : List ℕ) → length old ≡ s.grid.columns * s.grid.rows →
-    slice_get commands p ≡ Some c → next ≡ after reached c.action → AreSwept s (IsSweptIn reached.tool c.action) old new → IsBefore s start commands p reached old →
+    Some c ≡ slice_get commands p → next ≡ after reached c.action → AreSwept s (IsSweptIn reached.tool c.action) old new → IsBefore s start commands p reached old →
     IsBefore s start commands (p + 1) next new
 next_before s start commands p c reached next old new size at moved swept before =
     let cs = take p commands in
-    let more = take_get commands p c at in
+    let more = take_get commands p c (sym at) in
     record {
       state = moved ∙ ap (λ (r : Reached). after r c.action) before.state ∙ sym (after_one start cs c) ∙ ap (λ (xs : List Command). after_all start xs) (sym more);
       unswept = λ q u h.

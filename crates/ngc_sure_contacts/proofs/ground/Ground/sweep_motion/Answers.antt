@@ -12,4 +12,4 @@ invariant_of-self-clause-within g c =
     let e = ap (λ (l : List ℕ). length l) same in
     written_within s c.args.self.now.heights.len c.sweep.new.heights items
     (omega (arith, e, c.sweep.auto.heights)) (omega (arith, e, c.as_mut_slice.ensures.len))
-    (swept_within s (IsSweptByAny c.args.self.now.body.items c.args.way.now) c.as_mut_slice.result.now c.sweep.new.heights c.sweep.ensures (rw same c.args.self.now.within))
+    (swept_within s (IsSweptByAny c.as_slice.result.now c.args.way.now) c.as_mut_slice.result.now c.sweep.new.heights c.sweep.ensures (rw same c.args.self.now.within))

@@ -12,6 +12,6 @@ loop-self-preserved g c =
     record {
       stock = c.in_ok-follow.ensures.stock ∙ v.stock;
       before = λ start h. next_before s start c.args.commands.now c.loop-self.self.position c.in-Some.command c.loop-self.self.ground.reached c.follow.new.self.reached
-          c.loop-self.self.ground.heights.items c.follow.new.self.heights.items (rw v.stock at c.loop-self.self.ground.fits.count) (sym c.in-Some.ensures)
+          c.loop-self.self.ground.heights.items c.follow.new.self.heights.items (rw v.stock at c.loop-self.self.ground.fits.count) c.in-Some.ensures
           c.in_ok-follow.ensures.reached (rw v.stock at c.in_ok-follow.ensures.swept) (v.before start h);
     }
