@@ -17,8 +17,10 @@ use Rattle.ngc_stock.specs.Below.{all_below}
 use Rattle.ngc_stock.specs.Changes.{changes}
 use Rattle.ngc_stock.specs.Stocks.{first_part, lowest_part, margin, radius, reduction}
 use Rattle.ngc_material.specs.declared.walk.Found.{Found}
+use Rattle.ngc_sure_contacts.specs.declared.contact.Contact.{Contact}
+use Rattle.ngc_sure_contacts.specs.declared.contact.FoundTraverse.{FoundTraverse}
 use Rattle.ngc_material_report.specs.declared.touches.Kind.{Kind}
-use Rattle.ngc_material_report.specs.declared.touches.Kind.TheVariants.{Traverse, Feed}
+use Rattle.ngc_material_report.specs.declared.touches.Kind.TheVariants.{Traverse, Through, Feed}
 use Rattle.ngc_report.specs.declared.form.Form.{Form}
 use Rattle.ngc_report.specs.declared.form.Form.TheVariants.{Words, Json}
 
@@ -32,18 +34,35 @@ command_fact line command tool =
 
 -- ---- a motion
 
--- a traverse, or a feed that is named for the holder
+-- a traverse that may touch material or surely goes through it, or a feed that is named for the holder
 abbrev pub motion_words : Kind → List ℕ
 motion_words Traverse = codes "traverse"
+motion_words Through = codes "traverse"
 motion_words Feed = codes "feed"
 
 abbrev pub kind_words : Kind → List ℕ
 kind_words Traverse = codes "traverse"
+kind_words Through = codes "traverse"
 kind_words Feed = codes "holder"
 
+abbrev pub verb_words : Kind → List ℕ
+verb_words Traverse = codes " may touch material at "
+verb_words Through = codes " goes through material at "
+verb_words Feed = codes " may touch material at "
+
+-- how a depth is meant
+abbrev pub bound_words : Kind → List ℕ
+bound_words Traverse = codes " is at most "
+bound_words Through = codes " is at least "
+bound_words Feed = codes " is at most "
+
+abbrev pub certain_words : Kind → List ℕ
+certain_words Traverse = codes "false"
+certain_words Through = codes "true"
+certain_words Feed = codes "false"
+
 unfoldable pub motion_line : Kind → Found → List ℕ
-motion_line kind f =
-    codes "Line " ++ decimal f.line ++ codes " may touch material at " ++ motion_words kind ++ codes ": "
+motion_line kind f = codes "Line " ++ decimal f.line ++ verb_words kind ++ motion_words kind ++ codes ": "
 
 unfoldable pub cutter_words : Found → List ℕ
 cutter_words f = codes "tool " ++ decimal f.tool
@@ -78,11 +97,11 @@ upper_words tools f = above_words f ++ width_words (found_radius tools f)
 abbrev pub part_words : List Tool → Found → List ℕ
 part_words tools f = if f.part == 0 then cutter_words f else upper_words tools f
 
-unfoldable pub depth_words : Found → List ℕ
-depth_words f = codes " is at most " ++ size_text f.touch.depth ++ codes " mm deep at X "
+unfoldable pub depth_words : Kind → Found → List ℕ
+depth_words kind f = bound_words kind ++ size_text f.touch.depth ++ codes " mm deep at X "
 
 abbrev pub deep_words : List Tool → Kind → Found → List ℕ
-deep_words tools kind f = motion_line kind f ++ (part_words tools f ++ depth_words f)
+deep_words tools kind f = motion_line kind f ++ (part_words tools f ++ depth_words kind f)
 
 -- from an origin to a place, in millimetres
 unfoldable pub place_words : Spot → Spot → List ℕ
@@ -94,7 +113,9 @@ unfoldable pub touch_words : Spot → List Tool → Kind → Found → List ℕ
 touch_words origin tools kind f = deep_words tools kind f ++ place_words origin f.touch.place
 
 unfoldable pub kind_fact : Kind → List ℕ
-kind_fact kind = codes ",\n{\"fact\":\"material\",\"kind\":\"" ++ kind_words kind ++ codes "\",\"certain\":false,"
+kind_fact kind =
+    codes ",\n{\"fact\":\"material\",\"kind\":\"" ++ kind_words kind ++ codes "\",\"certain\":" ++ certain_words kind
+    ++ codes ","
 
 unfoldable pub depth_fact : Found → List ℕ
 depth_fact f =
@@ -120,25 +141,54 @@ line_of (Some f) = f.line
 abbrev pub last_line : List Found → ℕ
 last_line found = line_of (slice_get found (length found - 1))
 
-unfoldable pub number_words : Kind → List Found → List ℕ
-number_words kind found =
-    codes "There are " ++ decimal (length found) ++ codes " such " ++ motion_words kind ++ codes "s, the last in line "
-    ++ decimal (last_line found) ++ codes ".\n"
+unfoldable pub number_words : Kind → ℕ → ℕ → List ℕ
+number_words kind count last =
+    codes "There are " ++ decimal count ++ codes " such " ++ motion_words kind ++ codes "s, the last in line "
+    ++ decimal last ++ codes ".\n"
 
 -- their number, if not each has a line
-abbrev pub count_words : ℕ → Kind → List Found → List ℕ
-count_words most kind found = if nat_lt most (length found) then number_words kind found else []
+abbrev pub count_words : ℕ → Kind → ℕ → ℕ → List ℕ
+count_words most kind count last = if nat_lt most count then number_words kind count last else []
 
 -- in words the first ones and their number, as facts all of them
 abbrev pub motions_text : Form → ℕ → Spot → List Tool → Kind → List Found → List ℕ
 motions_text Words most origin tools kind found =
-    flat_map (touch_words origin tools kind) (take most found) ++ count_words most kind found
+    flat_map (touch_words origin tools kind) (take most found) ++ count_words most kind (length found) (last_line found)
 motions_text Json most origin tools kind found = flat_map (touch_fact origin kind) found
 
+-- ---- traverses
+
+-- a traverse that surely goes through material is said with the place and the depth of its contact
+abbrev pub sure_kind : Option Contact → Kind
+sure_kind None = Traverse
+sure_kind (Some c) = Through
+
+abbrev pub sure_found : Found → Option Contact → Found
+sure_found f None = f
+sure_found f (Some c) = record f { touch = record { place = c.place; depth = c.depth } }
+
+abbrev pub traverse_words : Spot → List Tool → FoundTraverse → List ℕ
+traverse_words origin tools t = touch_words origin tools (sure_kind t.contact) (sure_found t.found t.contact)
+
+abbrev pub traverse_fact : Spot → FoundTraverse → List ℕ
+traverse_fact origin t = touch_fact origin (sure_kind t.contact) (sure_found t.found t.contact)
+
+abbrev pub traverse_line : Option FoundTraverse → ℕ
+traverse_line None = 0
+traverse_line (Some t) = t.found.line
+
+abbrev pub last_traverse : List FoundTraverse → ℕ
+last_traverse ts = traverse_line (slice_get ts (length ts - 1))
+
+abbrev pub traverses_text : Form → ℕ → Spot → List Tool → List FoundTraverse → List ℕ
+traverses_text Words most origin tools ts =
+    flat_map (traverse_words origin tools) (take most ts) ++ count_words most Traverse (length ts) (last_traverse ts)
+traverses_text Json most origin tools ts = flat_map (traverse_fact origin) ts
+
 -- the traverses and then the feeds
-abbrev pub touches_text : Form → ℕ → Spot → List Tool → List Found → List Found → List ℕ
-touches_text form most origin tools found feeds =
-    motions_text form most origin tools Traverse found ++ motions_text form most origin tools Feed feeds
+abbrev pub touches_text : Form → ℕ → Spot → List Tool → List FoundTraverse → List Found → List ℕ
+touches_text form most origin tools ts feeds =
+    traverses_text form most origin tools ts ++ motions_text form most origin tools Feed feeds
 
 -- ---- a tool change below the stock's top
 

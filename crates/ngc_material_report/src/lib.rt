@@ -2,6 +2,7 @@
 //! its bottom and about how deep feeds cut, or facts of a JSON document.
 //!
 //! ```text
+//! Line 15 goes through material at traverse: tool 2 is at least 2 mm deep at X 30.5 mm, Y 7.5 mm.
 //! Line 22 may touch material at traverse: tool 1 is at most 0.4 mm deep at X 30.5 mm, Y 7.5 mm.
 //! There are 13 such traverses, the last in line 40.
 //! Line 9 may touch material at feed: part 1 of tool 2, counted from 0, is at most 1 mm deep at X 30.5 mm, Y 7.5 mm.

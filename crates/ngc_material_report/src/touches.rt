@@ -6,24 +6,28 @@ ghost use Rattle.ngc_text.specs.Millimetres.{sign_text, size_text};
 ghost use Rattle.ngc_text.specs.Written.{AppendsPrefix};
 ghost use Rattle.ngc_sentences.specs.Parts.{part_text};
 ghost use Rattle.ngc_sentences.specs.Saying.{Says};
-ghost use Rattle.ngc_material_report.specs.Sentences.{motion_words, kind_words, motion_line, cutter_words, above_words, wide_words, width_words, upper_words, part_words};
+ghost use Rattle.ngc_material_report.specs.Sentences.{motion_words, kind_words, verb_words, bound_words, certain_words, motion_line, cutter_words, above_words, wide_words, width_words, upper_words, part_words};
 ghost use Rattle.ngc_material_report.specs.Sentences.{part_radius, found_radius, depth_words, deep_words, place_words, touch_words};
 ghost use Rattle.ngc_material_report.specs.Sentences.{kind_fact, depth_fact, place_fact, touch_fact, last_line, number_words, count_words, motions_text, touches_text};
+ghost use Rattle.ngc_material_report.specs.Sentences.{sure_kind, sure_found, traverse_words, traverse_fact, last_traverse, traverses_text};
 
 use crate::cuts::tool_at;
 use crate::parts::{index, number, say_command_fact};
 use ngc_cells::Spot;
 use ngc_machine_files::Tool;
-use ngc_material::Found;
+use ngc_material::{Found, Touch};
 use ngc_report::Form;
 use ngc_sentences::{Page, Part, say};
+use ngc_sure_contacts::{Contact, FoundTraverse};
 use ngc_text::{Sink, WriteFault};
 
 /// Which motions are said.
 #[derive(Clone, Copy)]
 pub(crate) enum Kind {
-    /// Traverses, with any part of a tool.
+    /// Traverses that may touch material, with any part of a tool.
     Traverse,
+    /// Traverses that surely go through it.
+    Through,
     /// Feeds, with a part above the cutter.
     Feed,
 }
@@ -32,7 +36,7 @@ fn motion_words(kind: Kind) -> &'static [u8]
     ensures { result.now ≡ motion_words kind }
 {
     match kind {
-        Kind::Traverse => b"traverse",
+        Kind::Traverse | Kind::Through => b"traverse",
         Kind::Feed => b"feed",
     }
 }
@@ -41,8 +45,35 @@ fn kind_words(kind: Kind) -> &'static [u8]
     ensures { result.now ≡ kind_words kind }
 {
     match kind {
-        Kind::Traverse => b"traverse",
+        Kind::Traverse | Kind::Through => b"traverse",
         Kind::Feed => b"holder",
+    }
+}
+
+fn verb_words(kind: Kind) -> &'static [u8]
+    ensures { result.now ≡ verb_words kind }
+{
+    match kind {
+        Kind::Traverse | Kind::Feed => b" may touch material at ",
+        Kind::Through => b" goes through material at ",
+    }
+}
+
+fn bound_words(kind: Kind) -> &'static [u8]
+    ensures { result.now ≡ bound_words kind }
+{
+    match kind {
+        Kind::Traverse | Kind::Feed => b" is at most ",
+        Kind::Through => b" is at least ",
+    }
+}
+
+fn certain_words(kind: Kind) -> &'static [u8]
+    ensures { result.now ≡ certain_words kind }
+{
+    match kind {
+        Kind::Traverse | Kind::Feed => b"false",
+        Kind::Through => b"true",
     }
 }
 
@@ -56,6 +87,24 @@ fn kind_part(kind: Kind) -> Part<'static>
     ensures { part_text result ≡ kind_words kind }
 {
     Part::Text(kind_words(kind))
+}
+
+fn verb(kind: Kind) -> Part<'static>
+    ensures { part_text result ≡ verb_words kind }
+{
+    Part::Text(verb_words(kind))
+}
+
+fn bound(kind: Kind) -> Part<'static>
+    ensures { part_text result ≡ bound_words kind }
+{
+    Part::Text(bound_words(kind))
+}
+
+fn certain(kind: Kind) -> Part<'static>
+    ensures { part_text result ≡ certain_words kind }
+{
+    Part::Text(certain_words(kind))
 }
 
 fn sign(from: &i64, to: &i64) -> &'static [u8]
@@ -92,7 +141,7 @@ fn say_motion_line<W: Sink>(kind: Kind, found: &Found, page: &mut Page, output: 
     ensures { Says (W.written output.old) (W.written output.new)
         (W.failures output.old) (W.failures output.new) page.old page.new (motion_line kind found.now) }
 {
-    say!(page, output; b"Line ", number(found.line), b" may touch material at ", motion(kind), b": ");
+    say!(page, output; b"Line ", number(found.line), verb(kind), motion(kind), b": ");
 }
 
 fn say_cutter_words<W: Sink>(found: &Found, page: &mut Page, output: &mut W)
@@ -170,11 +219,11 @@ fn say_part_words<W: Sink>(tools: &[Tool], found: &Found, page: &mut Page, outpu
     }
 }
 
-fn say_depth_words<W: Sink>(found: &Found, page: &mut Page, output: &mut W)
+fn say_depth_words<W: Sink>(kind: Kind, found: &Found, page: &mut Page, output: &mut W)
     ensures { Says (W.written output.old) (W.written output.new)
-        (W.failures output.old) (W.failures output.new) page.old page.new (depth_words found.now) }
+        (W.failures output.old) (W.failures output.new) page.old page.new (depth_words kind found.now) }
 {
-    say!(page, output; b" is at most ", size(found.touch.depth), b" mm deep at X ");
+    say!(page, output; bound(kind), size(found.touch.depth), b" mm deep at X ");
 }
 
 fn say_deep_words<W: Sink>(
@@ -189,7 +238,7 @@ fn say_deep_words<W: Sink>(
 {
     say_motion_line(kind, found, page, output);
     say_part_words(tools, found, page, output);
-    say_depth_words(found, page, output);
+    say_depth_words(kind, found, page, output);
 }
 
 pub(crate) fn say_place_words<W: Sink>(origin: &Spot, place: &Spot, page: &mut Page, output: &mut W)
@@ -218,7 +267,7 @@ fn say_kind_fact<W: Sink>(kind: Kind, page: &mut Page, output: &mut W)
     ensures { Says (W.written output.old) (W.written output.new)
         (W.failures output.old) (W.failures output.new) page.old page.new (kind_fact kind) }
 {
-    say!(page, output; b",\n{\"fact\":\"material\",\"kind\":\"", kind_part(kind), b"\",\"certain\":false,");
+    say!(page, output; b",\n{\"fact\":\"material\",\"kind\":\"", kind_part(kind), b"\",\"certain\":", certain(kind), b",");
 }
 
 fn say_depth_fact<W: Sink>(found: &Found, page: &mut Page, output: &mut W)
@@ -279,31 +328,32 @@ fn last_line(all: &[Found]) -> u32
     }
 }
 
-fn first(most: usize, all: &[Found]) -> &[Found]
+fn first<T>(most: usize, all: &[T]) -> &[T]
     ensures { result.now ≡ take most all.now }
 {
     if most < all.len() { &all[..most] } else { all }
 }
 
-fn length(all: &[Found]) -> Part<'static>
-    ensures { part_text result ≡ decimal (length all.now) }
+fn say_number<W: Sink>(kind: Kind, count: usize, last: u32, page: &mut Page, output: &mut W)
+    ensures { Says (W.written output.old) (W.written output.new)
+        (W.failures output.old) (W.failures output.new) page.old page.new (number_words kind count last) }
 {
-    Part::Number(all.len() as u128)
+    say!(page, output; b"There are ", index(count), b" such ", motion(kind), b"s, the last in line ", number(last), b".\n");
 }
 
-fn say_number<W: Sink>(kind: Kind, all: &[Found], page: &mut Page, output: &mut W)
+fn say_count<W: Sink>(
+    most: usize,
+    kind: Kind,
+    count: usize,
+    last: u32,
+    page: &mut Page,
+    output: &mut W,
+)
     ensures { Says (W.written output.old) (W.written output.new)
-        (W.failures output.old) (W.failures output.new) page.old page.new (number_words kind all.now) }
+        (W.failures output.old) (W.failures output.new) page.old page.new (count_words most kind count last) }
 {
-    say!(page, output; b"There are ", length(all), b" such ", motion(kind), b"s, the last in line ", number(last_line(all)), b".\n");
-}
-
-fn say_count<W: Sink>(most: usize, kind: Kind, all: &[Found], page: &mut Page, output: &mut W)
-    ensures { Says (W.written output.old) (W.written output.new)
-        (W.failures output.old) (W.failures output.new) page.old page.new (count_words most kind all.now) }
-{
-    if most < all.len() {
-        say_number(kind, all, page, output);
+    if most < count {
+        say_number(kind, count, last, page, output);
     }
 }
 
@@ -323,13 +373,131 @@ fn say_motions<W: Sink>(
     match form {
         Form::Words => {
             say_all_words(origin, tools, kind, first(most, all), page, output);
-            say_count(most, kind, all, page, output);
+            say_count(most, kind, all.len(), last_line(all), page, output);
         }
         Form::Json => say_all_facts(origin, kind, all, page, output),
     }
 }
 
-/// Writes the traverses and the feeds that a walk has found: in words the first `most` of each, and their
+fn sure_kind(contact: &Option<Contact>) -> Kind
+    ensures { result ≡ sure_kind contact.now }
+{
+    match contact {
+        None => Kind::Traverse,
+        Some(_) => Kind::Through,
+    }
+}
+
+// Returns a traverse with the place and the depth of its contact, if it has one.
+fn sure_found(found: &Found, contact: &Option<Contact>) -> Found
+    ensures { result ≡ sure_found found.now contact.now }
+{
+    match contact {
+        None => *found,
+        Some(contact) => Found {
+            command: found.command,
+            line: found.line,
+            tool: found.tool,
+            part: found.part,
+            touch: Touch {
+                place: contact.place,
+                depth: contact.depth,
+            },
+        },
+    }
+}
+
+fn say_traverse_words<W: Sink>(
+    origin: &Spot,
+    tools: &[Tool],
+    traverse: &FoundTraverse,
+    page: &mut Page,
+    output: &mut W,
+)
+    ensures { Says (W.written output.old) (W.written output.new)
+        (W.failures output.old) (W.failures output.new) page.old page.new (traverse_words origin.now tools.now traverse.now) }
+{
+    let kind = sure_kind(&traverse.contact);
+    let found = sure_found(&traverse.found, &traverse.contact);
+    say_words(origin, tools, kind, &found, page, output);
+}
+
+fn say_traverse_fact<W: Sink>(
+    origin: &Spot,
+    traverse: &FoundTraverse,
+    page: &mut Page,
+    output: &mut W,
+)
+    ensures { Says (W.written output.old) (W.written output.new)
+        (W.failures output.old) (W.failures output.new) page.old page.new (traverse_fact origin.now traverse.now) }
+{
+    let kind = sure_kind(&traverse.contact);
+    let found = sure_found(&traverse.found, &traverse.contact);
+    say_fact(origin, kind, &found, page, output);
+}
+
+fn say_traverses_words<W: Sink>(
+    origin: &Spot,
+    tools: &[Tool],
+    all: &[FoundTraverse],
+    page: &mut Page,
+    output: &mut W,
+)
+    ensures { Says (W.written output.old) (W.written output.new)
+        (W.failures output.old) (W.failures output.new) page.old page.new (flat_map (traverse_words origin.now tools.now) all.now) }
+{
+    for traverse in all {
+        say_traverse_words(origin, tools, traverse, page, output);
+    }
+}
+
+fn say_traverses_facts<W: Sink>(
+    origin: &Spot,
+    all: &[FoundTraverse],
+    page: &mut Page,
+    output: &mut W,
+)
+    ensures { Says (W.written output.old) (W.written output.new)
+        (W.failures output.old) (W.failures output.new) page.old page.new (flat_map (traverse_fact origin.now) all.now) }
+{
+    for traverse in all {
+        say_traverse_fact(origin, traverse, page, output);
+    }
+}
+
+fn last_traverse(all: &[FoundTraverse]) -> u32
+    ensures { result ≡ last_traverse all.now }
+{
+    let Some(traverse) = all.last() else {
+        return 0;
+    };
+    traverse.found.line
+}
+
+fn say_traverses<W: Sink>(
+    form: Form,
+    most: usize,
+    origin: &Spot,
+    tools: &[Tool],
+    all: &[FoundTraverse],
+    page: &mut Page,
+    output: &mut W,
+)
+    ensures { Says (W.written output.old) (W.written output.new)
+        (W.failures output.old) (W.failures output.new) page.old page.new (traverses_text form most origin.now tools.now all.now) }
+{
+    match form {
+        Form::Words => {
+            say_traverses_words(origin, tools, first(most, all), page, output);
+            let last = last_traverse(all);
+            say_count(most, Kind::Traverse, all.len(), last, page, output);
+        }
+        Form::Json => say_traverses_facts(origin, all, page, output),
+    }
+}
+
+/// Writes the traverses and the feeds that a walk has found, and which of the traverses surely go through
+/// material: in words the first `most` of each, and their
 /// number if there are more; as facts all of them. Places count from `origin`, which is in nanometres of
 /// the machine. In words a part above the cutter is named by its diameter, as `tools` has it.
 ///
@@ -340,7 +508,7 @@ pub fn write_touches<W: Sink>(
     most: usize,
     origin: &Spot,
     tools: &[Tool],
-    traverses: &[Found],
+    traverses: &[FoundTraverse],
     feeds: &[Found],
     output: &mut W,
 ) -> Result<(), WriteFault>
@@ -351,16 +519,7 @@ pub fn write_touches<W: Sink>(
     ensures counts { CountsFailure (W.failures output.old) (W.failures output.new) result }
 {
     let mut page = Page::new();
-    say_motions(
-        form,
-        most,
-        origin,
-        tools,
-        Kind::Traverse,
-        traverses,
-        &mut page,
-        output,
-    );
+    say_traverses(form, most, origin, tools, traverses, &mut page, output);
     say_motions(
         form,
         most,

@@ -1,5 +1,5 @@
-//! Prints where the traverses and feeds of programs may touch material, in words the first two of each, and
-//! as facts all.
+//! Prints where the traverses and feeds of programs may touch material, and where traverses surely go through
+//! it, in words the first two of each, and as facts all.
 //! A line of standard input begins with `program` and a name; the program begins at 0 0 0 in an uncut
 //! stock without a tool. Its lines are `stock` with the number of a stock, `tool` with a number, of which
 //! 0 is none, and `traverse` or `feed` with the coordinates of an end, in nanometres of the machine. The
@@ -18,9 +18,10 @@ use ngc_commands::{Action, Command, Feed, Motion, Pace, Reached, Way};
 use ngc_file_figures::ToolLimits;
 use ngc_fixed_length::{Nm, Plane, Point3, Turn, Units};
 use ngc_machine_files::Tool;
-use ngc_material::{Touches, WalkFault, find_touches};
+use ngc_material::{Found, Touches, WalkFault, find_touches};
 use ngc_material_report::{write_cuts, write_touches, write_untested};
 use ngc_report::Form;
+use ngc_sure_contacts::{FoundTraverse, find_contacts};
 use ngc_text::{Device, Sink, WriteFault, write_all};
 use std::alloc::{Allocator, Global};
 use std::io;
@@ -190,15 +191,33 @@ impl Program {
         let stock = numbered(self.stock);
         let shapes = shapes();
         let table: &[ToolLimits] = if self.has_shapes { &shapes } else { &[] };
-        match find_touches(alloc, &stock, table, &start, self.commands.as_slice()) {
+        let commands = self.commands.as_slice();
+        match find_touches(alloc, &stock, table, &start, commands) {
             Ok(touches) => {
-                match write_found(alloc, &origin_of(self.stock), &touches, output) {
-                    Ok(()) => self.write_depths(alloc, &touches, output),
-                    Err(fault) => Err(fault),
+                let found = touches.traverses.as_slice();
+                match find_contacts(alloc, &stock, table, &start, commands, found) {
+                    Ok(traverses) => {
+                        self.write_walk(alloc, &touches, traverses.as_slice(), output)
+                    }
+                    Err(_) => write_all(output, b"  no memory\n"),
                 }
             }
             Err(WalkFault::Memory) => write_all(output, b"  no memory\n"),
             Err(WalkFault::Far) => write_all(output, b"  far from zero\n"),
+        }
+    }
+
+    fn write_walk<W: Sink>(
+        &self,
+        alloc: Global,
+        touches: &Touches<Global>,
+        traverses: &[FoundTraverse],
+        output: &mut W,
+    ) -> Result<(), WriteFault> {
+        let feeds = touches.feeds.as_slice();
+        match write_found(alloc, &origin_of(self.stock), traverses, feeds, output) {
+            Ok(()) => self.write_depths(alloc, touches, output),
+            Err(fault) => Err(fault),
         }
     }
 
@@ -234,20 +253,20 @@ fn end_line<W: Sink>(outcome: Result<(), WriteFault>, output: &mut W) -> Result<
 fn write_found<W: Sink>(
     alloc: Global,
     origin: &Spot,
-    touches: &Touches<Global>,
+    traverses: &[FoundTraverse],
+    feeds: &[Found],
     output: &mut W,
 ) -> Result<(), WriteFault> {
-    let (found, feeds) = (touches.traverses.as_slice(), touches.feeds.as_slice());
-    if found.is_empty() && feeds.is_empty() {
+    if traverses.is_empty() && feeds.is_empty() {
         return Ok(());
     }
     let Some(table) = tools(alloc) else {
         return write_all(output, b"  no memory\n");
     };
     let tools = table.tools();
-    match write_touches(Form::Words, 2, origin, tools, found, feeds, output) {
+    match write_touches(Form::Words, 2, origin, tools, traverses, feeds, output) {
         Ok(()) => end_line(
-            write_touches(Form::Json, 2, origin, tools, found, feeds, output),
+            write_touches(Form::Json, 2, origin, tools, traverses, feeds, output),
             output,
         ),
         Err(fault) => Err(fault),

@@ -92,7 +92,7 @@ rest_text form m tools commands w =
 
 abbrev pub walk_text : Form → MachineFile → List Tool → List Command → WalkData → List ℕ
 walk_text form m tools commands w =
-    touches_text form MOST_LINES (block_origin m m.stock) tools w.found w.feeds
+    touches_text form MOST_LINES (block_origin m m.stock) tools w.traverses w.feeds
     ++ (arcs_line form commands (found_or w.found w.feeds) ++ rest_text form m tools commands w)
 
 -- that no feed cuts the block, if that is so, and the rest

@@ -14,16 +14,19 @@ use Rattle.ngc_material.specs.Cuts.{AreCuts}
 use Rattle.ngc_material.specs.Heights.{AreHeights, are_reached}
 use Rattle.ngc_material.specs.Remains.{AreLeft}
 use Rattle.ngc_material.specs.Walks.{AreFound, with_feeds}
+use Rattle.ngc_sure_contacts.specs.Contacts.{AreContacts}
+use Rattle.ngc_sure_contacts.specs.declared.contact.FoundTraverse.{FoundTraverse}
 use Rattle.ngc_stock_report.specs.Placed.{IsPlaced}
 
 -- the material in the machine, the straight traverses and the feeds that may touch it, the deepest feed of each
--- tool, and the height of each cell at the end
+-- tool, the height of each cell at the end, and the traverses once more, with where they surely go through
 pub record WalkData : Type 0 where
   pub stock : Stock
   pub found : List Found
   pub feeds : List Found
   pub cuts : List Cut
   pub heights : List ℕ
+  pub traverses : List FoundTraverse
 
 -- some of the cells, or the end of a motion, is more than two metres from the machine's zero; or the cells are
 -- more than 4,000,000, which `--cells` doesn't allow
@@ -44,6 +47,7 @@ pub record IsWalk (most : ℕ) (table : List ToolLimits) (m : MachineFile) (comm
   pub cuts : AreCuts w.stock table (at_start m) (uncut w.stock) 0 commands w.found [] w.cuts
   pub left : AreLeft w.stock table (at_start m) (uncut w.stock) (with_feeds 0 commands w.found) w.heights
   pub cells : AreHeights w.stock w.heights
+  pub sure : AreContacts w.stock table (at_start m) commands w.found w.traverses
 
 -- no walk without a block of material, and none where it or a motion is far
 abbrev pub IsWalked : ℕ → List ToolLimits → MachineFile → List Command → Option WalkData → Type 0

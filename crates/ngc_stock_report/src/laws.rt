@@ -1,5 +1,5 @@
 //! The law of a report that says nothing of material.
-ghost use Rattle.ngc_stock_report.specs.Silent.{DeepestReport, RemainsReport, SilentFeeds, SilentReport};
+ghost use Rattle.ngc_stock_report.specs.Silent.{DeepestReport, RemainsReport, SilentFeeds, SilentReport, SureReport};
 ghost use Rattle.ngc_stock_report.specs.Uncut.{UncutBlock};
 
 /// States that if a walk over a program's commands finds no traverse, no straight traverse meets material
@@ -32,4 +32,11 @@ pub fn uncut_block()
 /// that the walk keeps for its cell.
 pub fn remains_report()
     ensures { RemainsReport }
+{}
+
+/// States that a traverse of which a report says that it goes through material does so, by the depth that the
+/// report names at least: at the place that it names, the material is of the block, and no motion before the
+/// traverse has swept it.
+pub fn sure_report()
+    ensures { SureReport }
 {}

@@ -128,7 +128,8 @@ fn write_walk<A: Allocator, B: Allocator, W: Sink>(
     let found = walk.touches.traverses.as_slice();
     let feeds = walk.touches.feeds.as_slice();
     let origin = block_origin(machine);
-    write_touches(form, MOST_LINES, &origin, tools, found, feeds, output)?;
+    let traverses = walk.traverses.as_slice();
+    write_touches(form, MOST_LINES, &origin, tools, traverses, feeds, output)?;
     let touches = found_or(found, feeds);
     write_all(output, arcs_line(form, commands, touches))?;
     write_rest(form, machine, tools, commands, walk, output)

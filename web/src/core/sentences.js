@@ -112,10 +112,10 @@ function refusalSentence({ refusal, dialect, explanation }) {
 
 export const isRapid = ({ kind }) => kind === 'traverse';
 export const isHolder = ({ kind }) => kind === 'holder';
-// What the report says about a rapid that may go through material that no feed before it has removed, about a feed whose shank or holder
+// What the report says about a rapid that may go through material that no feed before it has removed, or surely does, about a feed whose shank or holder
 // may touch what it leaves, about a tool change below the top of the block, or about feeds below its bottom: the words of its card, and
 // the note beside its line. Part 0 of a tool is its cutter.
-export function materialSentence({ kind, tool, part, depth, at, line, first, last }, unit) {
+export function materialSentence({ kind, certain, tool, part, depth, at, line, first, last }, unit) {
   const most = enough(depth, unit), who = part ? `the shank or holder of ${toolName(tool)}` : toolName(tool);
   if (kind === 'change') return { line, text: `the tool is changed below the top of the material: ${toolName(tool)} is ${length(depth, unit)} below it at X ${length(at[0], unit)}, Y ${length(at[1], unit)}`, note: `tool change ${length(depth, unit)} below the top of the material` };
   if (kind === 'bottom') {
@@ -123,7 +123,8 @@ export function materialSentence({ kind, tool, part, depth, at, line, first, las
     return { line, text: `the feed goes below the bottom of the material: ${toolName(tool)} is at most ${most} below it${others}`, note: `feed at most ${most} below the bottom of the material` };
   }
   const motion = kind === 'holder' ? 'feed' : 'rapid', upper = part ? ' with the shank or holder' : '';
-  return { line, text: `the ${motion} may touch material: ${who} is at most ${most} deep at X ${length(at[0], unit)}, Y ${length(at[1], unit)}`, note: `${motion} may touch material${upper}, at most ${most} deep` };
+  const [does, deep] = certain ? ['goes through', `at least ${atLeast(depth, unit)}`] : ['may touch', `at most ${most}`];
+  return { line, text: `the ${motion} ${does} material: ${who} is ${deep} deep at X ${length(at[0], unit)}, Y ${length(at[1], unit)}`, note: `${motion} ${does} material${upper}, ${deep} deep` };
 }
 const ROUND = 10_000;   // nanometres: the margin of the test is shown to a hundredth of a millimetre, rounded up
 // What is known about rapids and the block of material of the machine file.

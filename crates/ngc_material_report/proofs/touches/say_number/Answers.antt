@@ -3,4 +3,4 @@ use Rattle.ngc_material_report.proofs.touches.say_number.Goals as goal
 
 pub returns : goal.returns
 unfolding number_words
-returns g c = rw (← c.length.ensures, ← c.motion.ensures, ← c.last_line.ensures, ← c.number.ensures) c.say.ensures
+returns g c = rw (← c.index.ensures, ← c.motion.ensures, ← c.number.ensures) c.say.ensures

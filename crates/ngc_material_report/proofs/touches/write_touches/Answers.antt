@@ -3,5 +3,5 @@ use Rattle.ngc_material_report.proofs.touches.write_touches.Goals as goal
 
 pub returns : goal.returns
 returns g c =
-    let all = whole c.new-page.ensures (then c.say_motions.ensures c.say_motions-2.ensures) c.finish.ensures in
+    let all = whole c.new-page.ensures (then c.say_traverses.ensures c.say_motions.ensures) c.finish.ensures in
     record { ok = all.ok; fault = all.fault; counts = all.counts }

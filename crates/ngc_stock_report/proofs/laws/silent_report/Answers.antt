@@ -5,5 +5,5 @@ use Rattle.ngc_stock.proofs.Silences.{silence}
 use Rattle.ngc_stock_report.proofs.laws.silent_report.Goals as goal
 
 pub returns : goal.returns
-returns c most table m before after command stock feeds cuts heights walk =
+returns c most table m before after command stock feeds cuts heights traverses walk =
     silence stock table (at_start m) before after command walk.grid (nothing stock table (at_start m) (before ++ command ∷ after) feeds walk.found)
