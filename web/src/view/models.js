@@ -59,11 +59,10 @@ function topOf({ low, high }, map, [u, v]) {
 }
 
 // The block of material: pale, since the path is inside it. With the map of the finished part that is its top.
-const TOP = [24, 30];   // the corners of the top in the index of a box
 export function stockOf({ low, high }, isDark, part = null) {
   const geometry = new THREE.BoxGeometry(...low.map((it, axis) => Math.max(high[axis] - it, 0.01))), group = new THREE.Group(), colour = isDark ? 0xd9b36b : 0xc79a45;
   group.add(new THREE.LineSegments(new THREE.EdgesGeometry(geometry), new THREE.LineBasicMaterial({ color: colour, transparent: true, opacity: 0.75 })));
-  if (part) geometry.setIndex([...geometry.index.array].filter((_, at) => at < TOP[0] || at >= TOP[1]));
+  if (part) geometry.faces = geometry.faces.filter(it => it.normal.z < 0.5);
   group.add(new THREE.Mesh(geometry, new THREE.MeshLambertMaterial({ color: colour, transparent: true, opacity: 0.16, depthWrite: false })));
   group.position.set(...middle(low, high));
   if (!part) return group;
