@@ -192,7 +192,7 @@ def finished_part(checks, page):
     # ---- the part while it is made
     page.give({"marked.ngc": MARKED})
     turn_on(page, False)
-    watched = "new Promise(done => { let turns = 0; ngc.store.dispatch({ type: 'set', values: { hasPart: true } }); ngc.files.putBack('tools', ngc.store.state.files.tools); const look = () => { if (ngc.jobs.isBusy('part')) { %s } else if (++turns % 50) queueMicrotask(look); else setTimeout(look, 0); }; look(); })"
+    watched = "new Promise(done => { let turns = 0; ngc.store.dispatch({ type: 'set', values: { hasPart: true } }); ngc.files.putBack('tools', ngc.store.state.files.tools); const look = () => { if (ngc.jobs.isBusy('part')) { %s } else if (++turns %% 50) queueMicrotask(look); else setTimeout(look, 0); }; look(); })"
     checks.equal("it is made after the verdict, and the legend says so", page.value(watched % "queueMicrotask(() => done([ngc.current(ngc.store.state, 'report') !== null, document.getElementById('legend').textContent.includes('The finished part is being made.')]));"), [True, True])
     page.settle()
     page.value(watched % "document.getElementById('part-stop').click(); queueMicrotask(() => done(0));")
