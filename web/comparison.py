@@ -161,6 +161,17 @@ class Comparison:
         self.compare_command(["check"], {**files, "certificate": "made.cert"})
 
 
+    def run_map(self, program, machine, tools):
+        """The map of what the program leaves of the block of material: at both settings of block delete, with other numbers of cells, other
+        zeros and other margins, and in the language of each control."""
+        files = {"program": program, "machine": machine, "tools": tools}
+        for words in (["draw", "--map"], ["draw", "--map", "--delete"], ["draw", "--map", "--cells=1"], ["draw", "--map", "--cells=20000"], ["draw", "--map", "--cells=4000001"]):
+            self.compare_command(words, files)
+        for changes, options in CHANGES:
+            self.compare_command(["draw", "--map"], files, changes, options)
+        for control in CONTROLS:
+            self.compare_command(["draw", "--map"], files, {"dialect": control}, [f"--dialect={control}"])
+
     def run_saved(self, machine, tools):
         """Each kind of file as an editor saves it. The page has no events."""
         files = {"program": "short.ngc", "machine": machine, "tools": tools}
@@ -234,6 +245,8 @@ def compare_all(comparison, examples, count):
     comparison.give("through.ngc", THROUGH)
     for name in ("slot.ngc", "holes.ngc", "plate.ngc", "through.ngc"):
         comparison.run_job(name, "stock_mill.toml", "tools.toml")
+        comparison.run_map(name, "stock_mill.toml", "tools.toml")
+    comparison.run_map("slot.ngc", "clamped_mill.toml", "tools.toml")
     for name in more:
         program = name if name.endswith(".ngc") else "slot.ngc"
         tools = name if name.endswith("tools.toml") else "tools.toml"

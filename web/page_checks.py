@@ -16,6 +16,7 @@ from access_checks import access, contrast, keyboard, phone
 from browsers import Chromium, Fault
 from dialect_checks import DIALECT_GROUPS
 from job_checks import JOB_GROUPS
+from part_checks import PART_GROUPS, STOCK
 from wasm_changes import memory_of, with_little_stack, with_most_memory
 
 # Nothing runs, and each result belongs to the files in use.
@@ -841,7 +842,6 @@ def intervals_of(facts):
 # ---- material
 
 
-STOCK = "\n[stock]\nsystem = 1\nlow = [0, 0, -20_000_000]\nhigh = [100_000_000, 60_000_000, 0]\n"
 # A slot from X 20 to X 30 at Z -3, a rapid on to X 60 at that height, and a rapid down to Z -1 at X 80.
 THROUGH = TOOL + "Z2\nG1 Z-3 F300\nX30\nG0 X60\nZ20\nX80\nZ-1\nZ20\nG28 Z20\nM30\n"
 
@@ -1153,6 +1153,7 @@ JOBS = {
     "report": ("ngc.actions.check()", "verdict", "document.getElementById('verdict-title').textContent", "document.getElementById('verdict-title').textContent.startsWith('Fits')"),
     "path": ("ngc.actions.check()", "path", "document.getElementById('legend').textContent", "ngc.pathNow(ngc.store.state) !== null"),
     "scene": ("ngc.files.putBack('tools', ngc.store.state.files.tools)", "side", "document.getElementById('shop').textContent", "ngc.sceneNow(ngc.store.state) !== null"),
+    "part": ("ngc.store.dispatch({ type: 'set', values: { hasPart: false } }); queueMicrotask(() => ngc.store.dispatch({ type: 'set', values: { hasPart: true } }))", "part", "document.getElementById('legend').textContent", "ngc.partNow(ngc.store.state)?.image != null"),
     "place": ("ngc.actions.place()", "place", "document.getElementById('place').textContent", "document.getElementById('place').textContent.startsWith('It fits')"),
     "certificate": ("ngc.files.putBack('certificate', ngc.store.state.files.certificate)", "side", "document.querySelector('.chip.certificate .about').textContent", "document.querySelector('.chip.certificate .about').textContent === 'accepted for these files'"),
     "every": ("ngc.actions.check()", "side", "document.getElementById('report').textContent", "document.querySelectorAll('#report .places li').length === 2"),
@@ -1173,6 +1174,9 @@ NO_MEMORY = "There is not enough memory"
 def prepare(page, job):
     example = STOPPED.get(job, "slot.ngc")
     page.do(f"ngc.actions.forgetCertificate(); ngc.files.useExampleMachine(); ngc.actions.example('{example}'); document.getElementById('query').value = ''; document.getElementById('query').oninput(); document.getElementById('adapt-notes').textContent = ''; document.getElementById('explained').textContent = ''")
+    page.value("ngc.store.dispatch({ type: 'set', values: { hasPart: false } }); 0")
+    if job == "part":
+        page.give({"stock.toml": page.read("named_mill.toml") + STOCK})
     if job == "certificate":
         page.give({"slot.cert": page.native("certify", "--format", "2", files=("slot.ngc", "named_mill.toml", "tools.toml")).stdout.decode()})
     page.forget_notices()
@@ -1180,13 +1184,13 @@ def prepare(page, job):
 
 def stopped_workers(checks, page):
     """Each job says that it was stopped, and the next one works."""
-    wanted = {"report": "Stopped: there is no verdict.", "path": "There is no path. Stopped.", "scene": "The machine file can't be shown. Stopped.", "place": "Stopped: the shifts are not known.", "certificate": "not checked: Stopped.",
+    wanted = {"report": "Stopped: there is no verdict.", "path": "There is no path. Stopped.", "scene": "The machine file can't be shown. Stopped.", "part": "There is no finished part. Stopped.", "place": "Stopped: the shifts are not known.", "certificate": "not checked: Stopped.",
               "every": "The other places weren't found. Stopped.", "remarks": "What the warnings and notes say in full isn't known. Stopped.", "save": "Nothing was saved. Stopped.", "pulses": "Nothing was saved. Stopped.", "adapt": "Stopped.", "machine": "No machine file was made of dump.txt. Stopped.", "explain": "Stopped.", "search": "Stopped.",
               "index": "The lines can't be shown. Stopped.", "batch": "2,? a.ngc,? b.ngc"}
     for job, (begin, lane, said, works) in JOBS.items():
         prepare(page, job)
         # The job is stopped as soon as its lane is busy with it. It is looked for in microtasks too, since a short one may end between two timers.
-        slot = job if job in ("report", "path", "scene", "place", "certificate", "every", "remarks", "search", "index") else None
+        slot = job if job in ("report", "path", "scene", "part", "place", "certificate", "every", "remarks", "search", "index") else None
         begun = f"ngc.store.state.slots.{slot}.status === 'running' && ngc.jobs.isBusy('{lane}')" if slot else f"ngc.jobs.isBusy('{lane}')"
         page.value(f"new Promise(done => {{ let turns = 0; {begin}; const look = () => {{ if ({begun}) {{ ngc.jobs.stop('{lane}'); {'ngc.jobs.stop(' + json.dumps(lane) + ');' if job == 'batch' else ''} done(0); }} else if (++turns % 50) queueMicrotask(look); else setTimeout(look, 0); }}; look(); }})")
         if job == "batch":
@@ -1388,8 +1392,8 @@ def quiet(checks, page):
     checks.equal("the browser's console is empty", complaints(page.browser), [])
 
 
-PICTURED = ("picture_and_player", "paper", "access", "keyboard", "phone", "quiet")
-GROUPS = {it.__name__: it for it in (verdicts, block_delete, editing, races, file_kinds, machine_and_zero, cuts, margins, material, *DIALECT_GROUPS, *JOB_GROUPS, save, picture_and_player, search, paper, keeping, hostile, stopped_workers, ended_memory, traps, unable, without_library, access, keyboard, contrast, phone, quiet)}
+PICTURED = ("finished_part", "picture_and_player", "paper", "access", "keyboard", "phone", "quiet")
+GROUPS = {it.__name__: it for it in (verdicts, block_delete, editing, races, file_kinds, machine_and_zero, cuts, margins, material, *PART_GROUPS, *DIALECT_GROUPS, *JOB_GROUPS, save, picture_and_player, search, paper, keeping, hostile, stopped_workers, ended_memory, traps, unable, without_library, access, keyboard, contrast, phone, quiet)}
 
 
 def take_pictures(page, folder):

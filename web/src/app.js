@@ -1,12 +1,12 @@
 // Puts the page together: the files in use, the jobs that follow from them, and the views of what the jobs return.
 
-import { current, firstState, inputsKey, keyOf, makeStore, reduce } from './core/store.js';
+import { current, firstState, inputsKey, isRunning, keyOf, makeStore, reduce } from './core/store.js';
 import { makeJobs, notesOf, sentenceOfFailure } from './core/jobs.js';
 import { numberOf } from './core/controls.js';
 import { lackNow } from './core/job.js';
 import { keepTheme, keptTheme } from './core/storage.js';
 import { momentAt } from './core/motion.js';
-import { contactNow, languageNow, pathNow, sceneNow, stockIn, timesNow } from './core/shown.js';
+import { contactNow, languageNow, partNow, pathNow, sceneNow, stockIn, timesNow, wantsPart } from './core/shown.js';
 import { fill, h, id } from './view/dom.js';
 import { makeDrawing, makePicture } from './view/picture.js';
 import { makeQuestion } from './view/control.js';
@@ -26,6 +26,7 @@ import { makeSaving } from './saving.js';
 import { NEW_TABLE, hasParts, hasShapes, hasStock, withFixture, withStock, withTool, withoutFixture, withoutStock, withoutTool, wordsOfFigures } from './machine_text.js';
 
 const NOTICE_TIME = 10_000, ACTION_TIME = 30_000; // ms that a notice stays
+const PATIENCE = 1500; // ms after which the finished part has a button to stop it
 const DRAWING_OF_VIEW = { top: 0, front: 1, right: 2, iso: 3 };
 const store = makeStore(reduce, firstState), parts = {};
 let jobs = null, checks = null;
@@ -162,11 +163,13 @@ function shade() {
 }
 // A browser may put back what a control showed at an earlier visit, so each control is set from the state.
 function watchChoices() {
-  const unit = id('unit'), theme = id('theme'), colour = id('colour'), rapids = id('rapids'), example = id('example');
+  const unit = id('unit'), theme = id('theme'), colour = id('colour'), rapids = id('rapids'), part = id('part'), example = id('example');
   unit.onclick = () => set({ unit: store.state.unit === 'mm' ? 'in' : 'mm' });
   theme.onclick = () => { const next = { auto: 'dark', dark: 'light', light: 'auto' }[store.state.theme]; set({ theme: next }); keepTheme(next); };
   colour.onchange = () => set({ colour: colour.value });
   rapids.onchange = () => set({ hasRapids: rapids.checked });
+  part.onchange = () => set({ hasPart: part.checked });
+  id('part-stop').onclick = () => { set({ hasPart: false }); part.focus(); };
   example.onchange = () => { const { value } = example; example.value = ''; if (value) actions.example(value); };
   example.value = '';
   id('views').addEventListener('click', event => { const view = event.target.closest('[data-view]')?.dataset.view; if (view) set({ drawing: DRAWING_OF_VIEW[view] }); });
@@ -180,7 +183,14 @@ function watchChoices() {
     theme.setAttribute('aria-label', `Colours: ${{ auto: 'as the system', dark: 'dark', light: 'light' }[shown]}`);
     shade();
   });
-  store.watch(state => [state.colour, state.hasRapids], (shown, hasRapids) => { colour.value = shown; rapids.checked = hasRapids; });
+  store.watch(state => [state.colour, state.hasRapids, state.hasPart], (shown, hasRapids, hasPart) => { colour.value = shown; rapids.checked = hasRapids; part.checked = hasPart; });
+  // Only a block of material has a finished part. While the machine file is read again the switch stays, so that it keeps the focus.
+  store.watch(state => [current(state, 'scene')], value => { if (value) for (const it of [id('part-choice'), document.querySelector('[data-save=part]')]) it.hidden = !value.scene?.stock; });
+  let timer = null;
+  store.watch(state => [wantsPart(state) && isRunning(state, 'part')], isMade => {
+    clearTimeout(timer);
+    if (isMade) timer = setTimeout(() => { id('part-stop').hidden = false; }, PATIENCE); else id('part-stop').hidden = true;
+  });
   matchMedia('(prefers-color-scheme: dark)').addEventListener('change', shade);
 }
 function watchRest() {
@@ -253,5 +263,5 @@ async function start() {
 }
 
 // For the browser's console and the tests.
-window.ngc = { store, actions, parts, files, saving, current, keyOf, inputsKey, contactNow, pathNow, sceneNow, stockIn, timesNow, get jobs() { return jobs; } };
+window.ngc = { store, actions, parts, files, saving, current, keyOf, inputsKey, contactNow, partNow, pathNow, sceneNow, stockIn, timesNow, get jobs() { return jobs; } };
 start().finally(() => { document.documentElement.dataset.ready = 'true'; });

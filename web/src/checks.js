@@ -3,13 +3,15 @@
 import { ProgramText } from './core/program_text.js';
 import { changesOf } from './core/changes.js';
 import { current, inputsKey, keyOf } from './core/store.js';
-import { groupsNow } from './core/shown.js';
+import { groupsNow, wantsPart } from './core/shown.js';
 
 const PAUSE = 180;   // ms without typing before a check
 const VIEWS = ['top', 'front', 'side', 'iso'];
 const LINE_QUERY = /^\s*(?:line|l|:)\s*\d/i;
 
-export const wordsOfDrawing = ({ drawing, blockDelete }) => ['draw', `--view=${VIEWS[drawing]}`, ...(blockDelete ? ['--delete'] : [])];
+const settingOf = ({ blockDelete }) => (blockDelete ? ['--delete'] : []);
+export const wordsOfDrawing = state => ['draw', `--view=${VIEWS[state.drawing]}`, ...settingOf(state)];
+export const wordsOfPart = state => ['draw', '--map', ...settingOf(state)];
 
 export function makeChecks(store, jobs) {
   let typing = null;
@@ -29,6 +31,13 @@ export function makeChecks(store, jobs) {
     begin('drawing', 'path', 'command', { ...inputs(), words: wordsOfDrawing(store.state), factor: 2 });
   }
 
+  // Makes the finished part, unless it is there. One that is no longer wanted is ended, so that it takes no time from what is.
+  function followPart(isWanted) {
+    if (isWanted && current(store.state, 'part')) return;
+    if (jobs.isBusy('part')) jobs.stop('part');
+    if (isWanted) begin('part', 'part', 'part', { ...inputs(), words: wordsOfPart(store.state) });
+  }
+
   function follow() {
     store.watch(state => [keyOf.scene(state)], () => begin('scene', 'side', 'scene', inputs()));
     store.watch(state => [inputsKey(state)], key => {
@@ -42,6 +51,8 @@ export function makeChecks(store, jobs) {
       if (blockDelete !== shown && store.state.slots.path.key.startsWith(inputsKey(store.state))) beginPath();
       shown = blockDelete;
     });
+    // It comes after the verdict, since it takes as long as a report. A file that is refused has a verdict and leaves nothing.
+    store.watch(state => [wantsPart(state) && Boolean(current(state, 'report')), keyOf.part(state)], followPart);
     store.watch(state => [keyOf.search(state)], () => { const { query } = store.state; if (query && !LINE_QUERY.test(query)) begin('search', 'side', 'search', { query }); });
     store.watch(state => [state.files.certificate, inputsKey(state)], certificate => { if (certificate) begin('certificate', 'side', 'certificate', { ...inputs(), bytes: certificate.bytes }); });
     store.watch(state => [keyOf.index(state), state.text === null], (_, isMissing) => { if (isMissing) begin('index', 'index', 'index', {}); });

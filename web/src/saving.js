@@ -5,7 +5,7 @@ import { changesOf } from './core/changes.js';
 import { shownKey } from './core/store.js';
 import { notesOf, sentenceOfFailure } from './core/jobs.js';
 import { size } from './core/units.js';
-import { wordsOfDrawing } from './checks.js';
+import { wordsOfDrawing, wordsOfPart } from './checks.js';
 import { download } from './files.js';
 
 const bytesOfUrl = url => Uint8Array.from(atob(url.split(',')[1]), it => it.charCodeAt(0));
@@ -24,6 +24,7 @@ const outputs = state => {
     drawing: [`.${DRAWINGS[state.drawing]}.svg`, wordsOfDrawing(state), 2],
     drawing_bodies: [`.${DRAWINGS[state.drawing]}.bodies.svg`, [...wordsOfDrawing(state), '--bodies'], 4],
     drawing_whole: [`.${DRAWINGS[state.drawing]}.whole.svg`, [...wordsOfDrawing(state), '--whole'], 2],
+    part: ['.part.png', wordsOfPart(state)],
     list: ['.list.txt', ['list', ...off], 5],
     certificate: ['.cert', ['certify', '--format=2'], 4],
     certificate_1: ['.1.cert', ['certify', '--format=1'], 8],

@@ -3,8 +3,13 @@
 import { contactOf } from './contact.js';
 import { OWN, dialectOf, looksForeign } from './controls.js';
 import { groupAt, groupsOf, keptOf } from './facts.js';
+import { sentenceOfFailure } from './jobs.js';
 import { scaledTimes } from './motion.js';
-import { current } from './store.js';
+import { current, failureOf, isRunning } from './store.js';
+
+// Faults of `ngc draw --map` that aren't the program's.
+const NO_MEMORY = 'there is not enough memory for it.';
+const NO_PART = { 730: 'the block, or the end of a motion, is more than 2 m from the zero of the machine.', 900: NO_MEMORY, 902: NO_MEMORY };
 
 function remembered(make) {
   let before = null, value = null;
@@ -25,6 +30,18 @@ export const stockIn = scene => {
   const { low, high, system } = scene.stock, origin = system ? scene.origins[system] ?? [0, 0, 0] : [0, 0, 0], placed = corner => corner.map((it, axis) => it + origin[axis]);
   return { low: placed(low), high: placed(high) };
 };
+// Whether the finished part is wanted, and there is a block of material of which it is left.
+export const wantsPart = state => state.hasPart && Boolean(sceneNow(state)?.stock);
+// What the program leaves of the block at the setting of block delete, if it is wanted, or null.
+export const partNow = state => (wantsPart(state) ? current(state, 'part') : null);
+// Why there is no finished part, as a sentence, or that it is being made, or an empty text.
+export function partSentence(state) {
+  if (!wantsPart(state)) return '';
+  if (isRunning(state, 'part')) return 'The finished part is being made.';
+  const failure = failureOf(state, 'part'), part = current(state, 'part');
+  if (failure) return `There is no finished part. ${sentenceOfFailure(failure)}`;
+  return part && !part.image ? `There is no finished part: ${NO_PART[part.fault] ?? (part.fault === null ? part.text.trim() : 'the program is refused.')}` : '';
+}
 export const pathNow = state => current(state, 'path')?.path ?? null;
 // The report's groups, one for each setting of block delete that it covers.
 export const groupsNow = state => groupsOfReport(current(state, 'report'));

@@ -31,7 +31,7 @@ export function makeStore(reduce, first) {
   };
 }
 
-const SLOTS = ['report', 'every', 'remarks', 'scene', 'path', 'index', 'place', 'certificate', 'search', 'drawing'];
+const SLOTS = ['report', 'every', 'remarks', 'scene', 'path', 'part', 'index', 'place', 'certificate', 'search', 'drawing'];
 const EMPTY = { key: '', status: 'none', value: null, failure: null, begun: 0, took: 0 };
 
 export const firstState = {
@@ -51,7 +51,7 @@ export const firstState = {
   time: null,                   // the player's time in seconds, or null at the end
   isPlaying: false,
   speed: 5,
-  unit: 'mm', theme: 'auto', colour: 'tool', hasRapids: true, drawing: 3,
+  unit: 'mm', theme: 'auto', colour: 'tool', hasRapids: true, hasPart: false, drawing: 3,
   tab: 'program',
   query: '',
   notices: [],
@@ -62,7 +62,7 @@ export const inputsKey = state =>
   `${[state.files.program, state.files.machine, state.files.tools, state.files.job].map(it => it?.version ?? 0).join('.')} ${JSON.stringify(changesOf(state))}`;
 export const shownKey = state => `${inputsKey(state)} ${state.blockDelete}`;
 export const keyOf = {
-  report: inputsKey, every: inputsKey, remarks: inputsKey, place: inputsKey, path: shownKey,
+  report: inputsKey, every: inputsKey, remarks: inputsKey, place: inputsKey, path: shownKey, part: shownKey,
   drawing: state => `${shownKey(state)} ${state.drawing}`,
   // What a job file adds depends on all that replaces it.
   scene: state => `${state.files.machine?.version}.${state.files.tools?.version}.${state.files.job?.version} ${JSON.stringify(state.files.job ? changesOf(state) : state.origins)}`,

@@ -57,11 +57,11 @@ function quads() {
   return geometry;
 }
 
-// A few lines, or the whole path.
+// A few lines, or the whole path. Lines with an order are drawn in it among what is see-through, after all that isn't.
 export class Lines {
   constructor(how) {
     this.uniforms = uniformsOf(how);
-    this.material = new THREE.ShaderMaterial({ vertexShader: WIDE, fragmentShader: FRAGMENT, uniforms: this.uniforms, side: THREE.DoubleSide });
+    this.material = new THREE.ShaderMaterial({ vertexShader: WIDE, fragmentShader: FRAGMENT, uniforms: this.uniforms, side: THREE.DoubleSide, transparent: 'order' in how });
     this.mesh = new THREE.Mesh(quads(), this.material);
     this.mesh.frustumCulled = false;
     this.mesh.renderOrder = how.order ?? 0;

@@ -41,13 +41,34 @@ export function fixtureOf({ low, high }, isMet, isDark) {
   return group;
 }
 
-// The block of material: pale, since the path is inside it.
-export function stockOf({ low, high }, isDark) {
+// A map from above as the colours of a face. It is laid out from the top left, where Y is highest.
+export function textureOf(image) {
+  const texture = new THREE.Texture(image);
+  return Object.assign(texture, { flipY: false, generateMipmaps: false, minFilter: THREE.LinearFilter, magFilter: THREE.NearestFilter, needsUpdate: true });
+}
+// The top of the block with a map. What is in the material is hidden below it, but for what is marked: it is drawn after the path, the floor and
+// the block's sides, before the marks, and leaves no depth. `share` is how much of the map is on the block, along X and Y.
+function topOf({ low, high }, map, [u, v]) {
+  const geometry = new THREE.BufferGeometry();
+  geometry.setAttribute('position', new THREE.BufferAttribute(new Float32Array([low[0], low[1], high[2], high[0], low[1], high[2], low[0], high[1], high[2], high[0], high[1], high[2]]), 3));
+  geometry.setAttribute('uv', new THREE.BufferAttribute(new Float32Array([0, 1, u, 1, 0, 1 - v, u, 1 - v]), 2));
+  geometry.setIndex([0, 1, 2, 2, 1, 3]);
+  const top = new THREE.Mesh(geometry, new THREE.MeshBasicMaterial({ map, transparent: true, depthWrite: false }));
+  top.renderOrder = 0.5;
+  return top;
+}
+
+// The block of material: pale, since the path is inside it. With the map of the finished part that is its top.
+export function stockOf({ low, high }, isDark, part = null) {
   const geometry = new THREE.BoxGeometry(...low.map((it, axis) => Math.max(high[axis] - it, 0.01))), group = new THREE.Group(), colour = isDark ? 0xd9b36b : 0xc79a45;
-  group.add(new THREE.Mesh(geometry, new THREE.MeshLambertMaterial({ color: colour, transparent: true, opacity: 0.16, depthWrite: false })));
   group.add(new THREE.LineSegments(new THREE.EdgesGeometry(geometry), new THREE.LineBasicMaterial({ color: colour, transparent: true, opacity: 0.75 })));
+  if (part) geometry.faces = geometry.faces.filter(it => it.normal.z < 0.5);
+  group.add(new THREE.Mesh(geometry, new THREE.MeshLambertMaterial({ color: colour, transparent: true, opacity: 0.16, depthWrite: false })));
   group.position.set(...middle(low, high));
-  return group;
+  if (!part) return group;
+  const whole = new THREE.Group();
+  whole.add(topOf({ low, high }, part.texture, part.share), group);
+  return whole;
 }
 
 // The tool from its tip up, with the boxes that are checked around it.
@@ -59,7 +80,7 @@ export function toolOf(tool, colour, isRefused, isDark) {
     solid.rotation.x = Math.PI / 2;
     const edges = new THREE.LineSegments(new THREE.EdgesGeometry(box), new THREE.LineBasicMaterial({ color: edge, transparent: true, opacity: isRefused ? 0.95 : 0.45 }));
     box.dispose();
-    for (const it of [solid, edges]) { it.position.z = (low + high) / 2 - tool.bottom; it.renderOrder = 2; group.add(it); }
+    for (const it of [solid, edges]) { it.position.z = (low + high) / 2 - tool.bottom; it.renderOrder = 6; group.add(it); }
   });
   return group;
 }

@@ -4,15 +4,17 @@ import { dialectNow } from '../core/controls.js';
 import { AXES } from '../core/systems.js';
 import { isMotion, KIND_NAMES, momentAt, passesOf, tipAt } from '../core/motion.js';
 import { current, failureOf, isRunning } from '../core/store.js';
-import { contactNow, entryNow, groupNow, pathNow, sceneNow, stockIn, timesNow } from '../core/shown.js';
+import { shareOf } from '../core/part.js';
+import { contactNow, entryNow, groupNow, partNow, partSentence, pathNow, sceneNow, stockIn, timesNow } from '../core/shown.js';
+import { isHolder, isRapid } from '../core/sentences.js';
 import { sentenceOfFailure } from '../core/jobs.js';
 import { inUnit, rate, short } from '../core/units.js';
-import { RAMP, TOOL_COLOURS, partsOf, toolColour } from './colours.js';
+import { PART_COLOURS, RAMP, TOOL_COLOURS, partsOf, toolColour } from './colours.js';
 import { fill, h, id } from './dom.js';
 import { Orbit } from './camera.js';
 import { Lines, PathLines } from './lines.js';
 import { makeLabels } from './labels.js';
-import { edgesOf, emptyGroup, fixtureOf, floorOf, stockOf, toolOf } from './models.js';
+import { edgesOf, emptyGroup, fixtureOf, floorOf, stockOf, textureOf, toolOf } from './models.js';
 import { pick } from './picking.js';
 
 const HOVER_MOST = 400_000;     // segments that a pointer that only moves is compared with
@@ -64,6 +66,9 @@ function pointsToFit({ path, scene, contact, entry }) {
   return points;
 }
 
+// What the colours of the finished part mean.
+const coloursOfPart = () => PART_COLOURS.map(([colour, words]) => h('span', {}, h('i', { class: 'swatch area', style: { background: colour } }), words));
+
 export function makePicture(store) {
   const holder = id('view'), canvas = id('canvas'), started = startRenderer(canvas);
   if (!started) return null;
@@ -78,7 +83,7 @@ export function makePicture(store) {
   world.add(new THREE.HemisphereLight(0xffffff, 0x8899aa, 0.75), sun, fixed, toolModel, hitModel, paths.group, ...Object.values(lines).map(it => it.mesh));
   const orbit = new Orbit(canvas, request);
   let isWanted = false, isSlow = isSoftware, lastFrame = 0, frames = 0, fitted = '', fittedTo = 0, drawnBase = 0, moment = null, shownTool = '';
-  let data = { scene: null, path: null, group: null, times: null, entry: null, contact: null };
+  let data = { scene: null, path: null, group: null, times: null, entry: null, contact: null }, part = null;
 
   // ---- drawing
 
@@ -110,6 +115,18 @@ export function makePicture(store) {
     return scene.tools.find(it => it.number === path.tools[command])?.bottom ?? 0;
   }
   const travelOf = (scene, tip) => [[scene.low[0], scene.low[1], scene.low[2] + tip], [scene.high[0], scene.high[1], scene.high[2] + tip]];
+  // The lines of the motions that may touch material, at their places on the finished part.
+  function touchesOf(group, scene, stock) {
+    const origin = scene.origins[scene.stock.system] ?? [0, 0, 0];
+    return (group?.material ?? []).filter(it => isRapid(it) || isHolder(it)).map(({ line, at }) => ({ kind: 'touch', text: `line ${line}`, at: [at[0] / 1e6 + origin[0], at[1] / 1e6 + origin[1], stock.high[2]] }));
+  }
+  // Puts another map on the block, or none.
+  function showPart(made) {
+    part?.texture.dispose();
+    part = made?.image ? { image: made.image, texture: textureOf(made.image) } : null;
+    drawFixed();
+    showLegend();
+  }
   function drawFixed() {
     const { scene, group, entry, contact } = data, dark = isDark();
     emptyGroup(fixed);
@@ -130,7 +147,8 @@ export function makePicture(store) {
     }
     const stock = stockIn(scene);
     if (stock) {
-      fixed.add(stockOf(stock, dark));
+      fixed.add(stockOf(stock, dark, part && { texture: part.texture, share: shareOf(stock, part.image) }));
+      if (part) made.push(...touchesOf(group, scene, stock));
       made.push({ kind: 'stock', text: 'material', at: [stock.high[0], (stock.low[1] + stock.high[1]) / 2, stock.high[2]] });
     }
     const used = new Set((group?.lowest ?? []).map(it => it.system)), systems = used.size ? [...used] : ['G54'], a = [], b = [], marks = [];
@@ -206,12 +224,13 @@ export function makePicture(store) {
   }
   function showLegend() {
     const { path, scene } = data, { colour, unit } = store.state, out = id('legend'), failure = failureOf(store.state, 'path');
-    if (failure) return fill(out, h('span', {}, `There is no path. ${sentenceOfFailure(failure)}`));
-    if (!path?.owner.length) return fill(out);
+    const about = partSentence(store.state), parts = part ? coloursOfPart() : about ? h('span', {}, about) : null;
+    if (failure) return fill(out, h('span', {}, `There is no path. ${sentenceOfFailure(failure)}`), parts);
+    if (!path?.owner.length) return fill(out, parts);
     const nameOf = number => { const name = scene?.tools.find(it => it.number === number)?.name; return number ? `T${number}${name ? ` ${name}` : ''}` : 'no tool'; };
     const items = colour === 'feed' ? [h('span', {}, h('i', { class: 'swatch wide' }), `feed 0 to ${rate(path.fastest, unit)}`)]
       : path.order.slice(0, 8).map(number => h('span', {}, h('i', { class: 'swatch', style: { background: toolColour(path, number) } }), nameOf(number)));
-    fill(out, items, h('span', {}, h('i', { class: 'dashes' }), 'rapid'), path.isCut ? h('span', {}, 'the picture stops after 4,000,000 segments') : null);
+    fill(out, items, h('span', {}, h('i', { class: 'dashes' }), 'rapid'), parts, path.isCut ? h('span', {}, 'the picture stops after 4,000,000 segments') : null);
   }
   function themeChanged() {
     const dark = isDark();
@@ -281,6 +300,8 @@ export function makePicture(store) {
     showLegend();
   });
   store.watch(state => [isRunning(state, 'path') || isRunning(state, 'report'), failureOf(state, 'path')], isWaiting => { holder.dataset.waiting = String(isWaiting); showLegend(); });
+  store.watch(state => [partNow(state)], showPart);
+  store.watch(state => [partSentence(state)], showLegend);
   store.watch(state => [state.line, pathNow(state)], showLine);
   store.watch(state => [state.hovered], command => { showCommands(lines.hover, command, command < 0 ? command : command + 1); showPosition(); });
   store.watch(state => [state.colour, state.hasRapids], (colour, hasRapids) => {
@@ -296,6 +317,7 @@ export function makePicture(store) {
   return {
     fit, orbit, draw, isSoftware, themeChanged,
     get data() { return data; },
+    get part() { return part; },
     get frames() { return frames; },
     get markedSegments() { return lines.marked.count; },
     // The picture as PNG. One for paper has the light colours.
@@ -312,16 +334,23 @@ export function makePicture(store) {
   };
 }
 
-// Without WebGL or three.js the picture is the drawing of `ngc draw`.
+// Without WebGL or three.js the picture is the drawing of `ngc draw`, or its map of the finished part.
 export function makeDrawing(store) {
   const holder = id('view');
   holder.dataset.plain = 'true';
   let url = '';
-  store.watch(state => [current(state, 'drawing')], drawing => {
+  function show(output, type, kind, alt) {
+    url = URL.createObjectURL(new Blob([output], { type }));
+    fill(id('labels'), h('img', { class: kind, alt, src: url }));
+  }
+  store.watch(state => [current(state, 'drawing'), partNow(state)], (drawing, part) => {
     URL.revokeObjectURL(url);
-    if (!drawing?.output.length) return fill(id('labels'));
-    const { output } = drawing;
-    url = URL.createObjectURL(new Blob([output], { type: 'image/svg+xml' }));
-    fill(id('labels'), h('img', { class: 'drawing', alt: 'The program on the machine, from the side that the buttons choose', src: url }));
+    if (part?.image) show(part.output, 'image/png', 'drawing map', 'What the program leaves of the block of material, from above');
+    else if (drawing?.output.length) show(drawing.output, 'image/svg+xml', 'drawing', 'The program on the machine, from the side that the buttons choose');
+    else fill(id('labels'));
+  });
+  store.watch(state => [partSentence(state), Boolean(partNow(state)?.image)], (about, hasMap) => {
+    id('no-webgl').hidden = hasMap || Boolean(about);
+    fill(id('part-note'), hasMap ? ['The finished part from above.', coloursOfPart()] : about);
   });
 }

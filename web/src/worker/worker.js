@@ -136,6 +136,13 @@ const JOBS = {
     const path = readListing(got.output, scene);
     return [{ status: 0, path }, buffersOf(path)];
   },
+  // The map of what the program leaves of the block of material: the file, and what a browser makes of it. Without a map there is no image.
+  async part({ words, changes }) {
+    const [value, buffers] = saved(command(words, changes)), fault = faultNumber(value.text);
+    if (!value.output.length) return [{ ...value, fault, image: null }, buffers];
+    const image = await createImageBitmap(new Blob([value.output], { type: 'image/png' }));
+    return [{ ...value, fault, image }, [...buffers, image]];
+  },
   index() {
     const starts = lineStarts(files.program);
     return [{ starts }, [starts.buffer]];
